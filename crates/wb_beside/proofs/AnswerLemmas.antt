@@ -18,7 +18,7 @@ use Rattle.wb_flow.specs.Refusals.{FlowsOk, IsTrueFlowRefusal}
 use Rattle.wb_flow.specs.declared.refusal.AttributeRefusal.{AttributeRefusal}
 use Rattle.wb_flow.specs.declared.refusal.AttributeRefusal.TheVariants as a
 use Rattle.wb_flow.proofs.CheckLemmas.{flows_one_answer}
-use Rattle.wb_forwards.specs.Refusals.{HasForwardRead, IsTrueForwardRefusal}
+use Rattle.wb_complete.specs.ForwardRefusals.{HasForwardRead, IsTrueForwardRefusal}
 use Rattle.wb_marking.specs.Holes.{with_holes_of}
 use Rattle.wb_operations.specs.Operations.{OperationSignature}
 use Rattle.wb_resolved.specs.declared.attribution.AttributionParts.{AttributionParts}

@@ -13,7 +13,7 @@ use Rattle.wb_determinism.specs.declared.refusal.DeterminismRefusal.TheVariants 
 use Rattle.wb_extensions.specs.Refusals.{IsExtensionRefusal}
 use Rattle.wb_flow.specs.Refusals.{FlowsOk, IsTrueFlowRefusal}
 use Rattle.wb_flow.specs.declared.refusal.AttributeRefusal.{AttributeRefusal}
-use Rattle.wb_forwards.specs.Refusals.{IsTrueForwardRefusal}
+use Rattle.wb_complete.specs.ForwardRefusals.{IsTrueForwardRefusal}
 use Rattle.wb_graph.specs.Orders.{IsSimpleCycle}
 use Rattle.wb_marking.specs.Holes.{with_holes_of}
 use Rattle.wb_marks.specs.Bridges.{AreBridges}

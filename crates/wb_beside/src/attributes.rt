@@ -7,9 +7,8 @@ ghost use Rattle.wb_beside.specs.Refusals.{IsAttributeRefusal};
 
 use std::alloc::Global;
 use wb_certify::start;
-use wb_complete::check_complete;
+use wb_complete::{check_complete, check_forward};
 use wb_flow::{AttributeRefusal, check_flow};
-use wb_forwards::check_forward;
 use wb_resolved::Resolved;
 
 // Whether attributes are complete and keep to their flow types, and the extension's equations for forwarded trees do.

@@ -8,8 +8,7 @@ ghost use Rattle.wb_builder.specs.Builder.{empty, written_of, with_name, with_st
 
 use std::alloc::{AllocError, Global};
 use std::mem::replace;
-use wb_base::{Bytes, Sequence};
-use wb_lists::{List, Stack};
+use wb_base::{Bytes, List, Sequence, Stack};
 use wb_syntax::{
     Child, Equation, Header, Item, NamedKind, Node, Production, Target, WrittenPattern, WrittenSpec,
 };

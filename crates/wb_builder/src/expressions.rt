@@ -10,7 +10,7 @@ ghost use Rattle.wb_builder.specs.Expressions.{expression_act, with_node, with_n
 use crate::builder::SpecBuilder;
 use crate::stacks::{append, append_at, take_two};
 use std::alloc::{AllocError, Global};
-use wb_lists::List;
+use wb_base::List;
 use wb_syntax::Node;
 
 /// What is done where a part of an expression is whole.

@@ -10,8 +10,7 @@ ghost use Rattle.wb_builder.specs.Items.{word_shift, item_act, format_of, with_b
 use crate::builder::SpecBuilder;
 use crate::stacks::take_two;
 use std::alloc::{AllocError, Global};
-use wb_base::Bytes;
-use wb_lists::List;
+use wb_base::{Bytes, List};
 use wb_syntax::{
     Header, Item, ItemForm, PlainForm, Production, ProductionRole, Role, WrittenPattern,
 };

@@ -9,7 +9,7 @@ ghost use Rattle.wb_builder.specs.Parts.{part_act, with_kind, with_named_kind, w
 use crate::builder::{PlacedTarget, SpecBuilder};
 use crate::stacks::{append, take_two};
 use std::alloc::{AllocError, Global};
-use wb_lists::List;
+use wb_base::List;
 use wb_syntax::{Child, Equation, NamedKind, Target};
 
 /// What is done where a part of a kind, a flow type, a child or an equation is whole.

@@ -7,7 +7,7 @@ ghost use Rattle.std.specs.Prelude.{◌≡◌, ◌∷◌, [], IfOk, MatchOption,
 ghost use Rattle.wb_builder.specs.Inner.Stacks.{HasFew, with_last, last_place};
 
 use std::alloc::AllocError;
-use wb_lists::{List, Stack};
+use wb_base::{List, Stack};
 
 // The last two values, in order, which are no longer there. Where there are fewer, nothing is left.
 pub(crate) fn take_two<T: Drop>(values: &mut Stack<T>) -> Option<(T, T)>

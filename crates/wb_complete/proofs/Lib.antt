@@ -1,2 +1,3 @@
 mod TestLemmas
 pub mod AnswerLemmas
+mod ForwardLemmas

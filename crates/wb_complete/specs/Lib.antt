@@ -2,5 +2,7 @@
 pub mod Refusals
 -- that they have at most one answer
 pub mod OneAnswer
+-- when a refusal is true
+pub mod ForwardRefusals
 -- what loops keep, and words of private functions
 pub mod Inner

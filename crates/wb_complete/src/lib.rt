@@ -1,4 +1,5 @@
-//! Whether attributes are complete: each that is needed in a production is defined there, a start inherits nothing, and extensions forward.
+//! Whether attributes are complete: each that is needed in a production is defined there, a start inherits nothing, extensions forward, and
+//! what they give to a forwarded tree keeps to the flow type of the forward.
 //!
 //! Each production is tested by itself. The rules are defined in `wb_attributes`; whether attributes keep to their flow types and nothing
 //! needs itself is tested in `wb_flow`.
@@ -6,8 +7,11 @@
 
 mod below;
 mod check;
+mod equations;
+mod forward;
 mod laws;
 mod top;
 
 pub use check::check_complete;
-pub use laws::one_answer_law;
+pub use forward::check_forward;
+pub use laws::{one_answer_law, one_forward_answer_law};

@@ -6,12 +6,12 @@ use Rattle.std.proofs.lemmas.List.{length-map}
 use Rattle.std.proofs.lemmas.List.FromFn.{length-range_with_len, get_or-range_with_len}
 use Rattle.std.proofs.lemmas.Option.{slice_get_within, slice_get-map}
 use Rattle.wb_lemmas.proofs.Places.{at_within, default_at}
-use Rattle.wb_bare.specs.Bare.{AreWrittenFor, language_with}
-use Rattle.wb_bare.specs.Refusals.{IsFree, IsLanguageRefusal}
-use Rattle.wb_bare.specs.Refusals as bare
-use Rattle.wb_bare.specs.declared.refusal.LanguageRefusal.{LanguageRefusal}
-use Rattle.wb_bare.proofs.RefusalLemmas.{excluded}
-use Rattle.wb_bare.proofs.FormLemmas.{bare_below, bare_is, bare_len}
+use Rattle.wb_scan.specs.Bare.{AreWrittenFor, language_with}
+use Rattle.wb_scan.specs.Refusals.{IsFree, IsLanguageRefusal}
+use Rattle.wb_scan.specs.Refusals as bare
+use Rattle.wb_scan.specs.declared.refusal.LanguageRefusal.{LanguageRefusal}
+use Rattle.wb_scan.proofs.RefusalLemmas.{excluded}
+use Rattle.wb_scan.proofs.FormLemmas.{bare_below, bare_is, bare_len}
 use Rattle.wb_base.specs.declared.symbol.Symbol.{Symbol}
 use Rattle.wb_base.specs.Grammar.{GrammarView, IsGrammar}
 use Rattle.wb_contexts.specs.Considered.{IsConsideredAt}

@@ -1,7 +1,7 @@
 -- The language of a host by itself.
 use Rattle.std.specs.Prelude.{◌-◌, ℕ, List, length, map}
 use Rattle.std.specs.List.{range_with_len}
-use Rattle.wb_bare.specs.Bare.{language_with}
+use Rattle.wb_scan.specs.Bare.{language_with}
 use Rattle.wb_base.specs.Grammar.{GrammarView}
 use Rattle.wb_determinism.specs.Lexicons.{preference_pairs}
 use Rattle.wb_languages.specs.Languages.{LanguageView}

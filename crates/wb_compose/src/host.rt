@@ -4,7 +4,7 @@
 
 ghost use Rattle.std.specs.List.{range_with_len};
 ghost use Rattle.std.specs.Prelude.{◌≡◌, ◌≤◌, ◌-◌, IfOk, IfSome, IsSome, length, map};
-ghost use Rattle.wb_bare.specs.Refusals.{IsFree};
+ghost use Rattle.wb_scan.specs.Refusals.{IsFree};
 ghost use Rattle.wb_determinism.specs.Hosts.{IsDeterministicHost};
 ghost use Rattle.wb_determinism.specs.HostGrammar.{HasGrammar};
 ghost use Rattle.wb_grammar.specs.Facts.{AreFacts};
@@ -12,13 +12,12 @@ ghost use Rattle.wb_resolved.specs.declared.terminal.Terminal.{Terminal};
 ghost use Rattle.wb_compose.specs.HostLanguage.{host_language as view, layout_numbers};
 
 use std::alloc::{AllocError, Global};
-use wb_bare::{LanguageRefusal, language_of};
+use wb_scan::{Language, LanguageRefusal, language_of};
 use wb_base::{Grammar, push};
 use wb_determinism::{expressions_of, pairs_of};
 use wb_grammar::{Facts, GrammarRefusal, analyse};
 use wb_regex::Regex;
 use wb_resolved::Resolved;
-use wb_scan::Language;
 
 /// The language of a deterministic host by itself, whose terminals are written as they are.
 pub fn host_language(alloc: Global, resolved: &Resolved) -> Result<Language, AllocError>

@@ -5,14 +5,14 @@ use Rattle.std.specs.Prelude.{slice_index_or}
 use Rattle.std.proofs.lemmas.Bool.{cases_lt}
 use Rattle.std.proofs.lemmas.List.{take-append-drop}
 use Rattle.std.proofs.lemmas.Option.{slice_get_within}
-use Rattle.wb_additions.proofs.AddedLemmas.{is_addition}
-use Rattle.wb_additions.proofs.AdditionRows as base
-use Rattle.wb_additions.proofs.AdditionRows.{own_equations, own_locals}
-use Rattle.wb_additions.proofs.ContextLemmas.{attribute_parts, m, n, nonterminal_groups, nonterminals_leading, occurrence_parts}
-use Rattle.wb_additions.proofs.ContextLemmas.{production_groups, productions_leading, terminal_groups, terminals_leading}
-use Rattle.wb_additions.proofs.ExtendedLemmas.{attributes_with}
-use Rattle.wb_additions.specs.Extended.{IsExtendedBy}
-use Rattle.wb_additions.specs.Hosts.{rows_of}
+use Rattle.wb_numbered_unions.proofs.AddedLemmas.{is_addition}
+use Rattle.wb_numbered_unions.proofs.AdditionRows as base
+use Rattle.wb_numbered_unions.proofs.AdditionRows.{own_equations, own_locals}
+use Rattle.wb_numbered_unions.proofs.ContextLemmas.{attribute_parts, m, n, nonterminal_groups, nonterminals_leading, occurrence_parts}
+use Rattle.wb_numbered_unions.proofs.ContextLemmas.{production_groups, productions_leading, terminal_groups, terminals_leading}
+use Rattle.wb_numbered_unions.proofs.ExtendedLemmas.{attributes_with}
+use Rattle.wb_numbered_unions.specs.Extended.{IsExtendedBy}
+use Rattle.wb_numbered_unions.specs.Hosts.{rows_of}
 use Rattle.wb_base.specs.Grammar.{GrammarView}
 use Rattle.wb_composition.proofs.CutLemmas.{follow_cut, lead_cut, lead_long, length-drop_within, length-take_within, part_cut}
 use Rattle.wb_composition.proofs.KeepLemmas.{extended_by, names, spec}

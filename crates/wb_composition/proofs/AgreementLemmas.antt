@@ -4,7 +4,7 @@ use Rattle.std.proofs.Common.{length, map, slice_get, ap, refl, sym, arith}
 use Rattle.std.specs.List.{AllZip}
 use Rattle.std.proofs.lemmas.List.{length-drop, length-take-le}
 use Rattle.std.proofs.lemmas.List.Elements.{All-head, All-tail}
-use Rattle.wb_additions.specs.Hosts.{rows_of}
+use Rattle.wb_numbered_unions.specs.Hosts.{rows_of}
 use Rattle.wb_base.specs.declared.symbol.Symbol.{Symbol}
 use Rattle.wb_base.specs.declared.symbol.Symbol.TheVariants as symbol
 use Rattle.wb_base.specs.Grammar.{GrammarView}

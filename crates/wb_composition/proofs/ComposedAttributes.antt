@@ -22,9 +22,9 @@ use Rattle.wb_resolved.specs.Attribution.{IsAttribution}
 use Rattle.wb_resolved.specs.declared.attribution.AttributionParts.{AttributionParts}
 use Rattle.wb_resolved.specs.declared.resolved.ResolvedParts.{ResolvedParts}
 use Rattle.wb_resolved.specs.Resolved.{IsResolved}
-use Rattle.wb_united_attribution.specs.declared.addition.Addition.{Addition}
-use Rattle.wb_united_attribution.specs.declared.addition.Rows.{Rows}
-use Rattle.wb_united_attribution.specs.Lent.{all_in, rows_in}
+use Rattle.wb_renumbered.specs.declared.addition.Addition.{Addition}
+use Rattle.wb_renumbered.specs.declared.addition.Rows.{Rows}
+use Rattle.wb_renumbered.specs.Lent.{all_in, rows_in}
 use Rattle.wb_composition.specs.Inner.Cuts.{IsCut, rows_by}
 use Rattle.wb_composition.proofs.CutRows.{addition_is, extended_by}
 

@@ -24,7 +24,7 @@ use Rattle.wb_uniting.specs.declared.addition.Addition.{Addition}
 use Rattle.wb_uniting.specs.declared.addition.Lent.{Lent}
 use Rattle.wb_uniting.specs.Lents.{HasBridges, IsUnitable, all_in, is_marker_in, own_in}
 use Rattle.wb_uniting.specs.Lents as lents
-use Rattle.wb_united_language.specs.United.{HasWithdrawn, IsUnion}
+use Rattle.wb_uniting.specs.United.{HasWithdrawn, IsUnion}
 use Rattle.wb_composition.specs.Composed.{IsComposed, IsExtended, IsWith, name_of}
 use Rattle.wb_composition.specs.Inner.Lending.{IsLent, IsLentHost}
 use Rattle.wb_composition.proofs.LendingLemmas.{lexicon_is, marker_flags, written_is}

@@ -2,7 +2,7 @@
 use Rattle.std.proofs.Common.{◌≡◌, ◌∙◌, ◌≤◌, ◌+◌, ◌-◌, ◌++◌, [], ◌∷◌, ℕ, zero, suc, List, length, take, drop, refl, ap, arith}
 use Rattle.std.proofs.lemmas.List.{length-append, take-append-drop}
 use Rattle.std.proofs.lemmas.Slice.Zip.{AllZip-long}
-use Rattle.wb_additions.proofs.SplitLemmas.{Groups, Parts}
+use Rattle.wb_numbered_unions.proofs.SplitLemmas.{Groups, Parts}
 use Rattle.wb_lemmas.proofs.Parts.{drop_append, take_append}
 
 -- so many are taken where there are so many, and the others are left

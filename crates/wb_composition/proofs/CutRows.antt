@@ -11,9 +11,9 @@ use Rattle.wb_resolved.specs.declared.resolved.ResolvedParts.{ResolvedParts}
 use Rattle.wb_resolved.specs.Grammar.{IsGrammarOf}
 use Rattle.wb_resolved.specs.Resolved.{IsResolved}
 use Rattle.wb_unions.specs.Blocks.{lift}
-use Rattle.wb_united_attribution.specs.declared.addition.Addition.{Addition}
-use Rattle.wb_united_attribution.specs.declared.addition.Rows.{Rows}
-use Rattle.wb_united_attribution.specs.Lent.{addition_in, equations_after, host_row, locals_after, rows_in, written_in}
+use Rattle.wb_renumbered.specs.declared.addition.Addition.{Addition}
+use Rattle.wb_renumbered.specs.declared.addition.Rows.{Rows}
+use Rattle.wb_renumbered.specs.Lent.{addition_in, equations_after, host_row, locals_after, rows_in, written_in}
 use Rattle.wb_composition.specs.Inner.Cuts.{IsCut, rows_by}
 
 -- the grammar of a resolved specification

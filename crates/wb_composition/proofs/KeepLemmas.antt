@@ -3,7 +3,7 @@ use Rattle.std.proofs.Common.{◌≡◌, ◌<◌, ◌≤◌, ◌++◌, ◌⊎◌
 use Rattle.std.proofs.Common.{sym, ap, subst, arith}
 use Rattle.std.proofs.lemmas.Bool.{cases_lt}
 use Rattle.std.proofs.lemmas.Option.{same_Some, slice_get_within}
-use Rattle.wb_additions.specs.Extended.{IsExtendedBy, file_on}
+use Rattle.wb_numbered_unions.specs.Extended.{IsExtendedBy, file_on}
 use Rattle.wb_base.specs.Grammar.{GrammarView}
 use Rattle.wb_composition.proofs.JoinedLemmas.{numbers_kept}
 use Rattle.wb_composition.proofs.KeptLemmas.{grammar_row}

@@ -3,8 +3,8 @@ use Rattle.std.proofs.Common.{◌≡◌, ◌∙◌, ◌<◌, ◌+◌, ◌∷◌,
 use Rattle.std.specs.Prelude.{All}
 use Rattle.std.proofs.lemmas.List.Elements.{All-head, All-map, All-tail}
 use Rattle.std.proofs.lemmas.Simd.{map-map}
-use Rattle.wb_additions.proofs.LawLemmas.{is_of_rows}
-use Rattle.wb_additions.specs.Hosts.{IsOfRows, rows_of}
+use Rattle.wb_numbered_unions.proofs.LawLemmas.{is_of_rows}
+use Rattle.wb_numbered_unions.specs.Hosts.{IsOfRows, rows_of}
 use Rattle.wb_base.specs.Different.{Differ}
 use Rattle.wb_base.specs.Grammar.{GrammarView}
 use Rattle.wb_composition.proofs.AdditionLemmas.{attributes_are, is_addition_of}

@@ -1,6 +1,6 @@
 -- The attributes of a host with extensions, each given by the host with it alone: what an extension adds is cut out of what both are.
 use Rattle.std.specs.Prelude.{◌+◌, ◌-◌, ℕ, Option, Some, None, List, [], drop, length, map, slice_get, take}
-use Rattle.wb_additions.specs.Hosts.{rows_of}
+use Rattle.wb_numbered_unions.specs.Hosts.{rows_of}
 use Rattle.wb_base.specs.Grammar.{GrammarView}
 use Rattle.wb_composition.specs.Joined.{Extended}
 use Rattle.wb_composition.specs.Written.{name_in}

@@ -1,7 +1,7 @@
 //! Do the attributes of a certified host with certified extensions agree with their grammar? The body of the law is empty.
 
 ghost use Rattle.std.specs.Prelude.{List};
-ghost use Rattle.wb_additions.specs.Hosts.{rows_of};
+ghost use Rattle.wb_numbered_unions.specs.Hosts.{rows_of};
 ghost use Rattle.wb_base.specs.Grammar.{GrammarView};
 ghost use Rattle.wb_composition.specs.Agreement.{united_grammar};
 ghost use Rattle.wb_composition.specs.Attributes.{additions_of, attributes_of};

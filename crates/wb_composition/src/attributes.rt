@@ -12,7 +12,7 @@ use std::alloc::{AllocError, Global};
 use wb_beside::CertifiedExtension;
 use wb_certify::CertifiedHost;
 use wb_resolved::Attribution;
-use wb_united_attribution::united_attribution;
+use wb_renumbered::united_attribution;
 
 /// The attributes of a host and of extensions, each certified with this host over the same operations.
 ///

@@ -12,8 +12,7 @@ use wb_beside::CertifiedExtension;
 use wb_certify::CertifiedHost;
 use wb_resolved::Resolved;
 use wb_scan::Language;
-use wb_united_language::united_language;
-use wb_uniting::{Addition, Lent};
+use wb_uniting::{Addition, Lent, united_language};
 
 /// What is composed of a host and extensions.
 #[derive(Drop)]

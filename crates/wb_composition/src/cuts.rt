@@ -8,7 +8,7 @@ use crate::rows::{Lent, added_rows, lent_of};
 use std::alloc::{AllocError, Global};
 use wb_base::push;
 use wb_beside::{CertifiedExtension, certified_both};
-use wb_united_attribution::Addition;
+use wb_renumbered::Addition;
 
 // What each adds, in order.
 pub(crate) fn cuts_of<'a>(

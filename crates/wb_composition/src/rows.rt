@@ -4,13 +4,13 @@
 
 ghost use Rattle.std.specs.Prelude.{◌≡◌, ◌+◌, ◌-◌, Some, IsSome, drop, length};
 ghost use Rattle.wb_resolved.specs.Resolved.{IsResolved};
-ghost use Rattle.wb_united_attribution.specs.Lent.{rows_in};
+ghost use Rattle.wb_renumbered.specs.Lent.{rows_in};
 ghost use Rattle.wb_composition.specs.Inner.Cuts.{added_by, rows_by};
 
 use wb_base::Grammar;
 use wb_resolved::{AttributionParts, Resolved};
-use wb_united_attribution::Rows;
-use wb_united_attribution::slices::{behind, leading};
+use wb_renumbered::Rows;
+use wb_renumbered::slices::{behind, leading};
 
 // Attributes and their grammar.
 #[derive(Clone, Copy)]

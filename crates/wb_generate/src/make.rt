@@ -14,8 +14,7 @@ ghost use Rattle.wb_generate.specs.Inner.States.{state_of, before, IsFit};
 use crate::choices::Choices;
 use crate::draw::{drawn, upper};
 use std::alloc::{AllocError, Global};
-use wb_base::{Grammar, Symbol, push};
-use wb_lists::Stack;
+use wb_base::{Grammar, Stack, Symbol, push};
 
 // The leaves that the start becomes.
 pub(crate) fn make(

@@ -1,4 +1,7 @@
-pub mod OneAnswer
-mod Shown
+pub mod OneHostAnswer
+mod ShownHosts
 mod UnresolvedLemmas
-mod ValueLemmas
+mod HostLemmas
+pub mod OneExtensionAnswer
+mod ShownExtensions
+mod ExtensionLemmas

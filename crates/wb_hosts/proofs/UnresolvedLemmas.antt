@@ -1,10 +1,10 @@
 -- Contents that stand for no value are no host.
 use Rattle.std.proofs.Common.{inl, inr, List, ℕ}
 use Rattle.wb_operations.specs.Operations.{OperationSignature}
-use Rattle.wb_hosts.specs.Contents.{IsHostRefusal}
+use Rattle.wb_hosts.specs.HostContents.{IsHostRefusal}
 use Rattle.wb_hosts.specs.WellDefined.{IsWellDefinedTextRefusal}
-use Rattle.wb_hosts.specs.declared.refusal.HostRefusal.{HostRefusal}
-use Rattle.wb_hosts.specs.declared.refusal.HostRefusal.TheVariants as h
+use Rattle.wb_hosts.specs.declared.host_refusal.HostRefusal.{HostRefusal}
+use Rattle.wb_hosts.specs.declared.host_refusal.HostRefusal.TheVariants as h
 use Rattle.wb_hosts.specs.Inner.Unresolved.{IsUnresolved}
 
 -- no certified one

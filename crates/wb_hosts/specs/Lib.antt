@@ -1,8 +1,14 @@
 -- when contents are a certified host, and what a report shows where they aren't
-pub mod Contents
+pub mod HostContents
 -- when they are a host whose attributes are well defined, and what a report shows where they aren't
 pub mod WellDefined
 -- that contents have one answer
-pub mod OneAnswer
+pub mod OneHostAnswer
+-- when contents are a certified extension of a host, and what a report shows where they aren't
+pub mod ExtensionContents
+-- a file by its first line, and a specification as an extension
+pub mod Specifications
+-- that contents have one answer
+pub mod OneExtensionAnswer
 -- words of private functions
 pub mod Inner

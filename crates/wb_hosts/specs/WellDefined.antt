@@ -6,9 +6,9 @@ use Rattle.wb_operations.specs.Operations.{OperationSignature}
 use Rattle.wb_report.specs.declared.refusal.Refusal.{Refusal}
 use Rattle.wb_resolved.specs.declared.resolved.ResolvedParts.{ResolvedParts}
 use Rattle.wb_shown.specs.Shows.{refusal_shown}
-use Rattle.wb_hosts.specs.Contents.{StandsFor, IsBadText, HasBadNames, IsOfKinds}
-use Rattle.wb_hosts.specs.declared.refusal.HostRefusal.{HostRefusal}
-use Rattle.wb_hosts.specs.declared.refusal.HostRefusal.TheVariants as h
+use Rattle.wb_hosts.specs.HostContents.{StandsFor, IsBadText, HasBadNames, IsOfKinds}
+use Rattle.wb_hosts.specs.declared.host_refusal.HostRefusal.{HostRefusal}
+use Rattle.wb_hosts.specs.declared.host_refusal.HostRefusal.TheVariants as h
 
 -- the contents are a host whose attributes are well defined over operations of these signatures, and stand for this value
 pub record IsWellDefinedText (operations : List OperationSignature) (contents : List ℕ) (r : ResolvedParts) : Type 0 where

@@ -2,11 +2,11 @@
 
 ghost use Rattle.std.specs.Prelude.{◌≡◌, [], IfErr, IfOk, List, ℕ};
 ghost use Rattle.wb_certify.specs.WellDefined.{HasWellDefinedAttributes};
-ghost use Rattle.wb_hosts.specs.Contents.{StandsFor};
+ghost use Rattle.wb_hosts.specs.HostContents.{StandsFor};
 ghost use Rattle.wb_hosts.specs.WellDefined.{IsWellDefinedText, IsWellDefinedTextRefusal};
 
 use crate::HostRefusal;
-use crate::contents::{bad_value, value_of};
+use crate::host_contents::{bad_value, value_of};
 use std::alloc::{AllocError, Global};
 use wb_certify::{CertifyRefusal, check_well_defined};
 use wb_operations::{Meaning, OperationTable};

@@ -3,7 +3,7 @@ use Rattle.std.proofs.Common.{◌≡◌, ◌≤◌, inl, inr, ℕ, List, [], ◌
 use Rattle.std.proofs.Common.{arith, refl, subst, ◌∙◌}
 use Rattle.wb_world.specs.Cause.{Rose}
 use Rattle.wb_world.specs.Shelf.{Files}
-use Rattle.wb_hosts.specs.Contents.{IsHostText}
+use Rattle.wb_hosts.specs.HostContents.{IsHostText}
 use Rattle.wb_hosts.specs.WellDefined.{IsWellDefinedText}
 use Rattle.wb_operations.specs.Operations.{OperationSignature}
 use Rattle.wb_resolved.specs.declared.resolved.ResolvedParts.{ResolvedParts}

@@ -1,6 +1,6 @@
 -- What the laws below say of the contents of files, and that few extensions aren't many.
 use Rattle.std.proofs.Common.{◌<◌, ◌≤◌, ℕ, List, length, arith}
-use Rattle.wb_extension_files.specs.OneAnswer.{HaveOneHeader, HaveOneAnswer}
+use Rattle.wb_hosts.specs.OneExtensionAnswer.{HaveOneHeader, HaveOneAnswer}
 use Rattle.wb_operations.specs.Operations.{OperationSignature}
 use Rattle.wb_resolved.specs.declared.resolved.ResolvedParts.{ResolvedParts}
 

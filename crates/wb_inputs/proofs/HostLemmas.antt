@@ -1,10 +1,10 @@
 -- What is made of the file of a host, and of a text, is the report of their checks.
 use Rattle.std.proofs.Common.{◌≡◌, ◌<◌, inl, inr, ℕ, List, Option, Some, None, Result, Ok, Err, IfOk, IfErr, length, subst, sym, refl}
 use Rattle.std.specs.Result.{IsErrAnd}
-use Rattle.wb_hosts.specs.Contents.{IsHostRefusal}
+use Rattle.wb_hosts.specs.HostContents.{IsHostRefusal}
 use Rattle.wb_hosts.specs.WellDefined.{IsWellDefinedTextRefusal}
-use Rattle.wb_hosts.specs.declared.refusal.HostRefusal.{HostRefusal}
-use Rattle.wb_hosts.specs.declared.refusal.HostRefusal.TheVariants as h
+use Rattle.wb_hosts.specs.declared.host_refusal.HostRefusal.{HostRefusal}
+use Rattle.wb_hosts.specs.declared.host_refusal.HostRefusal.TheVariants as h
 use Rattle.wb_operations.specs.Operations.{OperationSignature}
 use Rattle.wb_reader.specs.declared.refusal.SpecRefusal.TheVariants as s
 use Rattle.wb_report.specs.declared.refusal.Refusal.TheVariants as r

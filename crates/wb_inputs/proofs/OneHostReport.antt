@@ -1,10 +1,10 @@
 -- Two reports that begin with the checks of a host, or of a text, have one status, and one text where the host passes them.
 use Rattle.std.proofs.Common.{◌≡◌, ◌≢◌, ◌<◌, ◌≤◌, inl, inr, ℕ, List, Some, length, arith, ap, sym, ◌∙◌, subst}
-use Rattle.wb_hosts.proofs.OneAnswer.{one_answer as one_host, one_well_defined as one_defined}
-use Rattle.wb_hosts.specs.Contents.{IsHostText, IsHostRefusal}
+use Rattle.wb_hosts.proofs.OneHostAnswer.{one_answer as one_host, one_well_defined as one_defined}
+use Rattle.wb_hosts.specs.HostContents.{IsHostText, IsHostRefusal}
 use Rattle.wb_hosts.specs.WellDefined.{IsWellDefinedText, IsWellDefinedTextRefusal}
-use Rattle.wb_hosts.specs.declared.refusal.HostRefusal.{HostRefusal}
-use Rattle.wb_hosts.specs.declared.refusal.HostRefusal.TheVariants as h
+use Rattle.wb_hosts.specs.declared.host_refusal.HostRefusal.{HostRefusal}
+use Rattle.wb_hosts.specs.declared.host_refusal.HostRefusal.TheVariants as h
 use Rattle.wb_operations.specs.Operations.{OperationSignature}
 use Rattle.wb_report.specs.declared.refusal.Refusal.{Refusal}
 use Rattle.wb_resolved.specs.declared.resolved.ResolvedParts.{ResolvedParts}

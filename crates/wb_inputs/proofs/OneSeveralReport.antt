@@ -1,11 +1,11 @@
 -- Two reports of several extensions have one status, and one text where none is refused.
 use Rattle.std.proofs.Common.{◌≡◌, ◌++◌, inl, inr, ℕ, List, [], ◌∷◌, Some, Contains, ap, sym, ◌∙◌, subst}
 use Rattle.wb_base.specs.Different.{Differ}
-use Rattle.wb_extension_files.specs.Contents.{IsExtensionText, IsExtensionRefusal, NamesOtherHost}
-use Rattle.wb_extension_files.specs.OneAnswer.{IsFileMemory}
-use Rattle.wb_extension_files.specs.Specifications.{IsHeaderRefusal}
-use Rattle.wb_extension_files.specs.declared.refusal.FileRefusal.{FileRefusal}
-use Rattle.wb_extension_files.specs.declared.refusal.FileRefusal.TheVariants as f
+use Rattle.wb_hosts.specs.ExtensionContents.{IsExtensionText, IsExtensionRefusal, NamesOtherHost}
+use Rattle.wb_hosts.specs.OneExtensionAnswer.{IsFileMemory}
+use Rattle.wb_hosts.specs.Specifications.{IsHeaderRefusal}
+use Rattle.wb_hosts.specs.declared.extension_refusal.FileRefusal.{FileRefusal}
+use Rattle.wb_hosts.specs.declared.extension_refusal.FileRefusal.TheVariants as f
 use Rattle.wb_operations.specs.Operations.{OperationSignature}
 use Rattle.wb_report.specs.Lines.{report_of}
 use Rattle.wb_report.specs.declared.outcome.Outcome.TheVariants as o

@@ -14,9 +14,9 @@ use Rattle.wb_beside.specs.Kept.{ExtensionView}
 use Rattle.wb_certify.specs.Hosts.{CertifiedView}
 use Rattle.wb_composition.specs.Composed.{IsWith, name_of}
 use Rattle.wb_composition.specs.Written.{name_in}
-use Rattle.wb_extension_files.specs.Contents.{IsExtensionText}
-use Rattle.wb_extension_files.specs.Specifications.{IsHeaderRefusal, IsSpecFor}
-use Rattle.wb_extension_files.specs.declared.refusal.FileRefusal.TheVariants as f
+use Rattle.wb_hosts.specs.ExtensionContents.{IsExtensionText}
+use Rattle.wb_hosts.specs.Specifications.{IsHeaderRefusal, IsSpecFor}
+use Rattle.wb_hosts.specs.declared.extension_refusal.FileRefusal.TheVariants as f
 use Rattle.wb_operations.specs.Operations.{OperationSignature}
 use Rattle.wb_reader.proofs.OneText.{one_text as one_read}
 use Rattle.wb_reader.specs.declared.refusal.SpecRefusal.TheVariants as s

@@ -1,7 +1,7 @@
 -- A report that begins with checks has a status with which it is written whole, where the rest has one.
 use Rattle.std.proofs.Common.{◌≢◌, inl, inr, ℕ, Option, List, [], ◌∷◌, ◌++◌, subst, sym}
-use Rattle.wb_hosts.specs.Contents.{IsHostText, IsHostRefusal}
-use Rattle.wb_hosts.specs.declared.refusal.HostRefusal.{HostRefusal}
+use Rattle.wb_hosts.specs.HostContents.{IsHostText, IsHostRefusal}
+use Rattle.wb_hosts.specs.declared.host_refusal.HostRefusal.{HostRefusal}
 use Rattle.wb_operations.specs.Operations.{OperationSignature}
 use Rattle.wb_resolved.specs.declared.resolved.ResolvedParts.{ResolvedParts}
 use Rattle.wb_world.specs.Shelf.{Files}

@@ -1,6 +1,6 @@
 -- A host and extensions that are read of their files, and how a run ends where they aren't.
 use Rattle.std.specs.Prelude.{◌≡◌, ◌≤◌, ℕ, Option, List, [], length}
-use Rattle.wb_hosts.specs.Contents.{IsHostText}
+use Rattle.wb_hosts.specs.HostContents.{IsHostText}
 use Rattle.wb_operations.specs.Operations.{OperationSignature}
 use Rattle.wb_united_texts.specs.Unions.{all_resolved}
 use Rattle.wb_world.specs.Shelf.{Files}

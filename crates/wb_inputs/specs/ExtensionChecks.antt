@@ -1,8 +1,8 @@
 -- How extensions are refused that are named with a host, and when those that were read may be composed.
 use Rattle.std.specs.Prelude.{◌≡◌, ◌<◌, ℕ, Option, List, length, map, All}
-use Rattle.wb_extension_files.specs.Contents.{NamesOtherHost}
-use Rattle.wb_extension_files.specs.declared.refusal.FileRefusal.{FileRefusal}
-use Rattle.wb_extension_files.specs.declared.refusal.FileRefusal.TheVariants as f
+use Rattle.wb_hosts.specs.ExtensionContents.{NamesOtherHost}
+use Rattle.wb_hosts.specs.declared.extension_refusal.FileRefusal.{FileRefusal}
+use Rattle.wb_hosts.specs.declared.extension_refusal.FileRefusal.TheVariants as f
 use Rattle.wb_operations.specs.Operations.{OperationSignature}
 use Rattle.wb_report.specs.Lines.{report_of}
 use Rattle.wb_report.specs.declared.outcome.Outcome.TheVariants as o

@@ -1,8 +1,8 @@
 -- The checks of a host with which commands begin, and what is made of its file.
 use Rattle.std.specs.Prelude.{◌≡◌, ◌⊎◌, ℕ, Option, List}
-use Rattle.wb_hosts.specs.Contents.{IsHostText, IsHostRefusal}
-use Rattle.wb_hosts.specs.declared.refusal.HostRefusal.{HostRefusal}
-use Rattle.wb_hosts.specs.declared.refusal.HostRefusal.TheVariants as h
+use Rattle.wb_hosts.specs.HostContents.{IsHostText, IsHostRefusal}
+use Rattle.wb_hosts.specs.declared.host_refusal.HostRefusal.{HostRefusal}
+use Rattle.wb_hosts.specs.declared.host_refusal.HostRefusal.TheVariants as h
 use Rattle.wb_operations.specs.Operations.{OperationSignature}
 use Rattle.wb_report.specs.Lines.{report_of}
 use Rattle.wb_report.specs.declared.outcome.Outcome.TheVariants as o

@@ -2,8 +2,8 @@
 use Rattle.std.specs.Prelude.{ℕ, List, [], ◌∷◌, ◌≤◌, length, ◌⊎◌, ◌++◌, Option}
 use Rattle.wb_world.specs.Cause.{Rose}
 use Rattle.wb_world.specs.Shelf.{Files}
-use Rattle.wb_extension_files.specs.Contents.{IsExtensionText}
-use Rattle.wb_hosts.specs.Contents.{IsHostText}
+use Rattle.wb_hosts.specs.ExtensionContents.{IsExtensionText}
+use Rattle.wb_hosts.specs.HostContents.{IsHostText}
 use Rattle.wb_hosts.specs.WellDefined.{IsWellDefinedText}
 use Rattle.wb_operations.specs.Operations.{OperationSignature}
 use Rattle.wb_resolved.specs.declared.resolved.ResolvedParts.{ResolvedParts}

@@ -1,10 +1,10 @@
 -- The checks of several extensions of a host, of which no two have one name, with which commands go on that compose them.
 use Rattle.std.specs.Prelude.{◌≡◌, ◌≤◌, ◌⊎◌, ◌++◌, ℕ, Option, List, [], ◌∷◌, Contains, length, map}
 use Rattle.wb_composition.specs.Written.{name_in}
-use Rattle.wb_extension_files.specs.Contents.{IsExtensionText, IsExtensionRefusal}
-use Rattle.wb_extension_files.specs.Specifications.{IsHeaderRefusal, IsSpecFor}
-use Rattle.wb_extension_files.specs.declared.refusal.FileRefusal.{FileRefusal}
-use Rattle.wb_extension_files.specs.declared.refusal.FileRefusal.TheVariants as f
+use Rattle.wb_hosts.specs.ExtensionContents.{IsExtensionText, IsExtensionRefusal}
+use Rattle.wb_hosts.specs.Specifications.{IsHeaderRefusal, IsSpecFor}
+use Rattle.wb_hosts.specs.declared.extension_refusal.FileRefusal.{FileRefusal}
+use Rattle.wb_hosts.specs.declared.extension_refusal.FileRefusal.TheVariants as f
 use Rattle.wb_operations.specs.Operations.{OperationSignature}
 use Rattle.wb_report.specs.Lines.{report_of}
 use Rattle.wb_report.specs.declared.outcome.Outcome.TheVariants as o

@@ -6,7 +6,7 @@ ghost use Rattle.std.specs.Prelude.{◌≡◌, IfOk, IfErr, Ok};
 ghost use Rattle.std.specs.Result.{IsErrAnd};
 ghost use Rattle.wb_certify.specs.Hosts.{IsCertifiedValue};
 ghost use Rattle.wb_certify.specs.WellDefined.{HasWellDefinedAttributes};
-ghost use Rattle.wb_hosts.specs.Contents.{IsHostText, IsHostRefusal};
+ghost use Rattle.wb_hosts.specs.HostContents.{IsHostText, IsHostRefusal};
 ghost use Rattle.wb_hosts.specs.WellDefined.{IsWellDefinedText, IsWellDefinedTextRefusal};
 ghost use Rattle.wb_inputs.specs.Contents.{ReadIs};
 ghost use Rattle.wb_inputs.specs.HostChecks.{IsHostFile, IsWellDefinedFile, RefusesHost};

@@ -3,7 +3,7 @@
 //! A file is read by what is written and by its first line, then its name is compared with those before it, and then it is certified.
 
 ghost use Rattle.std.specs.Prelude.{◌≡◌, ◌↔◌, ◌++◌, ◌∷◌, IfOk, IfErr, OnOk, IsTrue, Contains, ℕ, List, []};
-ghost use Rattle.wb_extension_files.specs.Specifications.{IsSpecFor};
+ghost use Rattle.wb_hosts.specs.Specifications.{IsSpecFor};
 ghost use Rattle.wb_united_texts.specs.Unions.{all_resolved};
 ghost use Rattle.wb_words.specs.Words.{texts};
 ghost use Rattle.wb_inputs.specs.Reads.{StopsEach};
@@ -20,7 +20,7 @@ use std::alloc::{AllocError, Global};
 use wb_base::Bytes;
 use wb_beside::CertifiedExtension;
 use wb_certify::CertifiedHost;
-use wb_extension_files::{FileRefusal, extension_of_spec, extension_spec};
+use wb_hosts::{FileRefusal, extension_of_spec, extension_spec};
 use wb_operations::{Meaning, OperationTable};
 use wb_report::{Outcome, Refusal, SpecReason};
 use wb_syntax::Spec;

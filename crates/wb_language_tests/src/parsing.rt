@@ -5,9 +5,8 @@ ghost use Rattle.std.specs.Prelude.{◌<◌, length};
 use crate::sample::{Sample, add_signatures, language};
 use crate::samples::{AMBIGUOUS, CONTEXTS, KEYWORDS, LAYOUTS, LISTS, POINTERS, RING, UNDECIDED};
 use std::alloc::Global;
-use wb_bare::LanguageRefusal;
+use wb_scan::{Language, LanguageRefusal};
 use wb_parser::{Parsed, StopKind, parse};
-use wb_scan::Language;
 use wb_terms::print_value;
 use wb_values::{Signatures, TreeId, TreeStore, Value};
 

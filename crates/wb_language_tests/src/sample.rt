@@ -3,17 +3,16 @@
 //! For a sample whose numbers are out of range the answer is out of memory, so that its test fails.
 
 ghost use Rattle.std.specs.Prelude.{◌≡◌, ◌<◌, ◌≤◌, ◌+◌, ℕ, All, IsTrue, IfOk, Some, length, slice_get};
-ghost use Rattle.wb_bare.specs.Bare.{AreWrittenFor};
+ghost use Rattle.wb_scan.specs.Bare.{AreWrittenFor};
 ghost use Rattle.wb_base.specs.Grammar.{IsSymbolBelow};
 ghost use Rattle.wb_grammar.specs.Facts.{AreFacts};
 ghost use Rattle.wb_graph.specs.Graphs.{IsEdgeBelow};
 
 use std::alloc::{AllocError, Global};
-use wb_bare::{LanguageRefusal, language_of};
+use wb_scan::{Language, LanguageRefusal, language_of};
 use wb_base::{Grammar, Kind, Symbol, push};
 use wb_grammar::{Facts, analyse};
 use wb_regex::{Regex, read_regex};
-use wb_scan::Language;
 use wb_values::Signatures;
 
 // A production with its name.

@@ -2,7 +2,7 @@
 
 use crate::holds;
 use std::alloc::{AllocError, Global};
-use wb_lists::{List, Stack};
+use wb_base::{List, Stack};
 
 // Whether a list has the values that were pushed, in order.
 fn is_list_of(alloc: Global, values: &[usize]) -> Result<bool, AllocError> {

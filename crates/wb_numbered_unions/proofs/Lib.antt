@@ -14,3 +14,14 @@ pub mod WithinLemmas
 pub mod GroupedLemmas
 pub mod UnionLemmas
 pub mod GrammarLemmas
+pub mod SplitLemmas
+pub mod PositionLemmas
+pub mod MoveLemmas
+pub mod StayLemmas
+pub mod ContextLemmas
+pub mod AdditionRows
+pub mod HostProductions
+pub mod ExtendedLemmas
+pub mod AddedLemmas
+pub mod HostLemmas
+pub mod LawLemmas

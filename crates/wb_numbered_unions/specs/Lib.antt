@@ -10,3 +10,7 @@ pub mod United
 pub mod Grammars
 -- what the laws say
 pub mod Laws
+-- the rows of a resolved host
+pub mod Hosts
+-- what an extension adds to them
+pub mod Extended

@@ -5,14 +5,14 @@ use Rattle.std.proofs.lemmas.List.{append_assoc, append-nil, length-map, map-app
 use Rattle.std.proofs.lemmas.Option.{same_Some, slice_get_within}
 use Rattle.wb_base.specs.Different.{Differ}
 use Rattle.wb_evaluator.proofs.MachineLemmas.{no_more}
-use Rattle.wb_extension_files.specs.Contents.{IsExtensionText}
+use Rattle.wb_hosts.specs.ExtensionContents.{IsExtensionText}
 use Rattle.wb_composition.specs.Written.{name_in}
 use Rattle.wb_lemmas.proofs.Members.{contains_at, place_of}
 use Rattle.wb_lemmas.proofs.Places.{append_keeps, append_seam, at_once, at_push, nothing_at}
 use Rattle.wb_operations.specs.Operations.{OperationSignature}
 use Rattle.wb_reader.proofs.OneText.{one_text as one_read}
-use Rattle.wb_reordered_unions.specs.Orders.{IsReordering}
-use Rattle.wb_reordered_unions.proofs.NumberLemmas.{reordering_map}
+use Rattle.wb_renamed_languages.specs.Orders.{IsReordering}
+use Rattle.wb_renamed_languages.proofs.NumberLemmas.{reordering_map}
 use Rattle.wb_resolved.specs.declared.resolved.ResolvedParts.{ResolvedParts}
 use Rattle.wb_syntax.specs.SpecText.{SpecView}
 use Rattle.wb_world.specs.Shelf.{Files}

@@ -13,12 +13,12 @@ use Rattle.wb_lemmas.proofs.Members.{contains_at, place_of}
 use Rattle.wb_lemmas.proofs.Places.{append_after, append_keeps, at_append}
 use Rattle.wb_renamed_languages.specs.Grammars.{IsUndoneBy}
 use Rattle.wb_renamed_languages.specs.Languages.{renamed_form}
-use Rattle.wb_reordered_attributes.proofs.TotalLemmas.{no_more_below}
-use Rattle.wb_reordered_unions.specs.Orders.{IsReordering}
-use Rattle.wb_reordered_unions.specs.Unions.{names_to}
-use Rattle.wb_reordered_unions.proofs.FormLemmas.{form_there, pieces_reordered, pieces_there, prefers_there, text_there}
-use Rattle.wb_reordered_unions.proofs.NumberLemmas.{reordering_back, to_past}
-use Rattle.wb_reordered_unions.proofs.UnionLemmas.{reordered_back, sizes_reordered, union_leads}
+use Rattle.wb_renamed_attributes.proofs.TotalLemmas.{no_more_below}
+use Rattle.wb_renamed_languages.specs.Orders.{IsReordering}
+use Rattle.wb_renamed_languages.specs.Unions.{names_to}
+use Rattle.wb_renamed_languages.proofs.UnionFormLemmas.{form_there, pieces_reordered, pieces_there, prefers_there, text_there}
+use Rattle.wb_renamed_languages.proofs.NumberLemmas.{reordering_back, to_past}
+use Rattle.wb_renamed_languages.proofs.UnionLemmas.{reordered_back, sizes_reordered, union_leads}
 use Rattle.wb_unions.specs.Renamings.{Renaming}
 use Rattle.wb_united.specs.Pieces.{ArePieces}
 use Rattle.wb_united.specs.Unions.{added_terminals}

@@ -3,8 +3,8 @@ use Rattle.std.proofs.Common.{◌≡◌, ◌∙◌, ◌<◌, ◌+◌, ◌∷◌,
 use Rattle.std.proofs.lemmas.List.{length-take-le}
 use Rattle.std.proofs.lemmas.List.Elements.{All-map}
 use Rattle.std.proofs.lemmas.Simd.{map-map}
-use Rattle.wb_additions.proofs.LawLemmas.{is_of_rows}
-use Rattle.wb_additions.specs.Hosts.{rows_of}
+use Rattle.wb_numbered_unions.proofs.LawLemmas.{is_of_rows}
+use Rattle.wb_numbered_unions.specs.Hosts.{rows_of}
 use Rattle.wb_base.specs.Different.{Differ}
 use Rattle.wb_base.specs.Grammar.{GrammarView}
 use Rattle.wb_composition.proofs.AdditionLemmas.{is_addition_of}
@@ -26,10 +26,10 @@ use Rattle.wb_renamed_attributes.specs.Attributions.{IsSameAttribution}
 use Rattle.wb_renamed_attributes.specs.Values.{renamed_tree}
 use Rattle.wb_renamed_attributes.proofs.RowLemmas.{same_back}
 use Rattle.wb_renamed_languages.specs.Answers.{renamed_forest, renamed_kind}
-use Rattle.wb_reordered_attributes.specs.Orders.{moved, reordered_numbers, reordered_rows}
-use Rattle.wb_reordered_attributes.proofs.OrderLemmas.{differ_there, same_union}
-use Rattle.wb_reordered_unions.specs.Orders.{IsReordering}
-use Rattle.wb_reordered_unions.proofs.NumberLemmas.{reordering_back, reordering_map, to_host}
+use Rattle.wb_renamed_attributes.specs.Orders.{moved, reordered_numbers, reordered_rows}
+use Rattle.wb_renamed_attributes.proofs.OrderLemmas.{differ_there, same_union}
+use Rattle.wb_renamed_languages.specs.Orders.{IsReordering}
+use Rattle.wb_renamed_languages.proofs.NumberLemmas.{reordering_back, reordering_map, to_host}
 use Rattle.wb_report.specs.declared.shown.ShownStop.{ShownStop}
 use Rattle.wb_resolved.specs.declared.resolved.ResolvedParts.{ResolvedParts}
 use Rattle.wb_root_values.specs.Asked.{IsAskedOn}

@@ -2,7 +2,7 @@
 use Rattle.std.proofs.Common.{◌≡◌, ◌∙◌, ◌<◌, ◌+◌, ◌∷◌, [], ℕ, List, Some, All, length, map, take, refl, sym, ap, arith}
 use Rattle.std.proofs.lemmas.List.{length-drop, length-take-le}
 use Rattle.std.proofs.lemmas.List.Elements.{All-head, All-tail}
-use Rattle.wb_additions.specs.Hosts.{rows_of}
+use Rattle.wb_numbered_unions.specs.Hosts.{rows_of}
 use Rattle.wb_base.specs.Grammar.{GrammarView}
 use Rattle.wb_composition.specs.Attributes.{addition_of, additions_of}
 use Rattle.wb_grammars.specs.Trees.{Forest, IsDerived, leaf, node, nothing, symbols}
@@ -16,12 +16,12 @@ use Rattle.wb_numbered_unions.specs.Additions.{Rows}
 use Rattle.wb_operations.specs.Operations.{OperationSignature}
 use Rattle.wb_renamed_attributes.specs.Values.{renamed_tree, renamed_values}
 use Rattle.wb_renamed_languages.specs.Answers.{renamed_forest}
-use Rattle.wb_reordered_attributes.specs.Orders.{moved, reordered_numbers}
-use Rattle.wb_reordered_attributes.proofs.HostNumberLemmas.{follows_in, leads_in}
-use Rattle.wb_reordered_attributes.proofs.TotalLemmas.{total_same}
-use Rattle.wb_reordered_unions.specs.Orders.{IsReordering, number_to}
-use Rattle.wb_reordered_unions.specs.Unions.{names_to}
-use Rattle.wb_reordered_unions.proofs.NumberLemmas.{reordering_map, to_below, to_host}
+use Rattle.wb_renamed_attributes.specs.Orders.{moved, reordered_numbers}
+use Rattle.wb_renamed_attributes.proofs.HostNumberLemmas.{follows_in, leads_in}
+use Rattle.wb_renamed_attributes.proofs.TotalLemmas.{total_same}
+use Rattle.wb_renamed_languages.specs.Orders.{IsReordering, number_to}
+use Rattle.wb_renamed_languages.specs.Unions.{names_to}
+use Rattle.wb_renamed_languages.proofs.NumberLemmas.{reordering_map, to_below, to_host}
 use Rattle.wb_resolved.specs.declared.resolved.ResolvedParts.{ResolvedParts}
 use Rattle.wb_resolved.specs.Resolved.{IsResolved}
 use Rattle.wb_unions.specs.Renamings.{Renaming}

@@ -7,7 +7,7 @@ use Rattle.wb_languages.specs.Shown.{Shows, values_of}
 use Rattle.wb_operations.specs.Operations.{OperationSignature}
 use Rattle.wb_renamed_languages.specs.Answers.{renamed_forest, renamed_kind}
 use Rattle.wb_renamed_languages.specs.Laws.{HasSameAnswers}
-use Rattle.wb_reordered_unions.specs.Orders.{IsReordering}
+use Rattle.wb_renamed_languages.specs.Orders.{IsReordering}
 use Rattle.wb_resolved.specs.declared.resolved.ResolvedParts.{ResolvedParts}
 use Rattle.wb_terms.specs.Printed.{printed_tree}
 use Rattle.wb_trees.specs.declared.answer.TextAnswer.{TextAnswer}

@@ -2,7 +2,7 @@
 use Rattle.std.proofs.Common.{◌∷◌, ◌++◌, [], ℕ, List, Some, inl, inr, subst, arith}
 use Rattle.wb_base.specs.Different.{Differ}
 use Rattle.wb_operations.specs.Operations.{OperationSignature}
-use Rattle.wb_reordered_unions.specs.Orders.{IsReordering}
+use Rattle.wb_renamed_languages.specs.Orders.{IsReordering}
 use Rattle.wb_resolved.specs.declared.resolved.ResolvedParts.{ResolvedParts}
 use Rattle.wb_world.specs.Shelf.{Files}
 use Rattle.wb_inputs.specs.Checks.{Report}

@@ -11,10 +11,10 @@ use Rattle.wb_languages.specs.Languages.{LanguageView}
 use Rattle.wb_lemmas.proofs.Elements.{all_at, all_from_places}
 use Rattle.wb_operations.specs.Operations.{OperationSignature}
 use Rattle.wb_renamed_languages.specs.Laws.{HasSameAnswers}
-use Rattle.wb_reordered_unions.specs.Orders.{IsReordering}
-use Rattle.wb_reordered_unions.specs.Unions.{names_to}
-use Rattle.wb_reordered_unions.proofs.LanguageLemmas.{same_language, same_union_answers}
-use Rattle.wb_reordered_unions.proofs.NumberLemmas.{reordering_map}
+use Rattle.wb_renamed_languages.specs.Orders.{IsReordering}
+use Rattle.wb_renamed_languages.specs.Unions.{names_to}
+use Rattle.wb_renamed_languages.proofs.LanguageLemmas.{same_language, same_union_answers}
+use Rattle.wb_renamed_languages.proofs.NumberLemmas.{reordering_map}
 use Rattle.wb_resolved.specs.declared.resolved.ResolvedParts.{ResolvedParts}
 use Rattle.wb_unions.specs.Renamings.{Renaming}
 use Rattle.wb_united.specs.Pieces.{ArePieces}

@@ -1,7 +1,7 @@
 -- What `run` reports of a text doesn't depend on the order of the extensions.
 use Rattle.std.specs.Prelude.{ℕ, List, Some}
 use Rattle.wb_operations.specs.Operations.{Operations}
-use Rattle.wb_reordered_unions.specs.Orders.{IsReordering}
+use Rattle.wb_renamed_languages.specs.Orders.{IsReordering}
 use Rattle.wb_world.specs.Shelf.{Files}
 use Rattle.wb_inputs.specs.declared.status.Status.{Status}
 use Rattle.wb_inputs.specs.declared.status.Status.TheVariants.{Done, MoreSteps, OperationFault, TextStopped, TextTooLong, TooLongToPrint}

@@ -3,7 +3,7 @@ use Rattle.std.specs.Prelude.{ℕ, List, map}
 use Rattle.wb_base.specs.Different.{Differ}
 use Rattle.wb_composition.specs.Written.{name_in}
 use Rattle.wb_operations.specs.Operations.{OperationSignature, Operations}
-use Rattle.wb_reordered_unions.specs.Orders.{IsReordering}
+use Rattle.wb_renamed_languages.specs.Orders.{IsReordering}
 use Rattle.wb_resolved.specs.declared.resolved.ResolvedParts.{ResolvedParts}
 use Rattle.wb_united_texts.specs.Roots.{HasNoRootAttribute, IsRootAttribute}
 use Rattle.wb_united_texts.specs.Values.{IsTextValue}

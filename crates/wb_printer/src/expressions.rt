@@ -17,7 +17,7 @@ ghost use Rattle.wb_tokens.specs.declared.punctuation.Punctuation.TheVariants as
 
 use crate::line::Line;
 use std::alloc::{AllocError, Global};
-use wb_lists::Stack;
+use wb_base::Stack;
 use wb_syntax::Node;
 use wb_tokens::{Punctuation, Word};
 

@@ -2,10 +2,10 @@
 use Rattle.std.proofs.Common.{String, Global, string_bytes}
 use Rattle.std.proofs.Common.{◌≡◌, ◌<◌, ◌≤◌, ◌+◌, ◌++◌, inl, inr, ℕ, List, [], ◌∷◌, Option, length, map, drop, subst, sym, refl}
 use Rattle.std.proofs.lemmas.List.{length-map}
-use Rattle.wb_extension_files.specs.Contents.{IsExtensionText, IsExtensionRefusal}
-use Rattle.wb_extension_files.specs.declared.refusal.FileRefusal.{FileRefusal}
-use Rattle.wb_extension_files.specs.declared.refusal.FileRefusal.TheVariants as f
-use Rattle.wb_hosts.specs.Contents.{IsHostText, IsHostRefusal}
+use Rattle.wb_hosts.specs.ExtensionContents.{IsExtensionText, IsExtensionRefusal}
+use Rattle.wb_hosts.specs.declared.extension_refusal.FileRefusal.{FileRefusal}
+use Rattle.wb_hosts.specs.declared.extension_refusal.FileRefusal.TheVariants as f
+use Rattle.wb_hosts.specs.HostContents.{IsHostText, IsHostRefusal}
 use Rattle.wb_beside.specs.Extensions.{IsOneExtension}
 use Rattle.wb_operations.specs.Operations.{OperationSignature}
 use Rattle.wb_reader.specs.declared.refusal.SpecRefusal.TheVariants as s

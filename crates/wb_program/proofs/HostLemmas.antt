@@ -1,7 +1,7 @@
 -- What is made of the file of a host, and of a text or term of it, is their report.
 use Rattle.std.proofs.Common.{◌≡◌, inl, inr, ℕ, List, [], Option, Some}
 use Rattle.wb_base.specs.Grammar.{GrammarView}
-use Rattle.wb_hosts.specs.Contents.{IsHostText, IsHostRefusal}
+use Rattle.wb_hosts.specs.HostContents.{IsHostText, IsHostRefusal}
 use Rattle.wb_hosts.specs.WellDefined.{IsWellDefinedText, IsWellDefinedTextRefusal}
 use Rattle.wb_operations.specs.Operations.{OperationSignature, Operations}
 use Rattle.wb_report.specs.Lines.{report_of}

@@ -1,9 +1,9 @@
 -- Two reports of extensions in their order have one status, and one text where no extension is refused.
 use Rattle.std.proofs.Common.{◌≡◌, ◌++◌, inl, inr, ℕ, List, [], ◌∷◌, Some, ap, sym, ◌∙◌, subst}
 use Rattle.wb_beside.specs.Extensions.{IsOneExtension}
-use Rattle.wb_extension_files.specs.Contents.{IsExtensionText, IsExtensionRefusal}
-use Rattle.wb_extension_files.specs.declared.refusal.FileRefusal.{FileRefusal}
-use Rattle.wb_extension_files.specs.declared.refusal.FileRefusal.TheVariants as f
+use Rattle.wb_hosts.specs.ExtensionContents.{IsExtensionText, IsExtensionRefusal}
+use Rattle.wb_hosts.specs.declared.extension_refusal.FileRefusal.{FileRefusal}
+use Rattle.wb_hosts.specs.declared.extension_refusal.FileRefusal.TheVariants as f
 use Rattle.wb_operations.specs.Operations.{OperationSignature}
 use Rattle.wb_report.specs.Lines.{report_of}
 use Rattle.wb_report.specs.declared.outcome.Outcome.TheVariants as o

@@ -2,7 +2,7 @@
 use Rattle.std.proofs.Common.{◌≡◌, ◌≢◌, ◌⊎◌, inl, inr, ℕ, List, [], ◌∷◌, Option, Some, ap, sym, ◌∙◌, subst}
 use Rattle.wb_world.specs.Shelf.{Files}
 use Rattle.wb_syntax.specs.Canonical.{IsCanonical}
-use Rattle.wb_hosts.specs.Contents.{IsBadText}
+use Rattle.wb_hosts.specs.HostContents.{IsBadText}
 use Rattle.wb_reader.specs.Refusals.{IsAcceptedText}
 use Rattle.wb_reader.proofs.OneText.{one_text as one_read}
 use Rattle.wb_printer.proofs.CallerLemmas.{one_canonical}

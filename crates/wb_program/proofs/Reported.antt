@@ -1,6 +1,6 @@
 -- A report has a status with which it is written whole, and which isn't that of words that ask for nothing.
 use Rattle.std.proofs.Common.{◌≡◌, inl, inr, ℕ, Option, List, [], ◌∷◌, ◌++◌, subst, sym}
-use Rattle.wb_hosts.specs.Contents.{IsHostText, IsHostRefusal}
+use Rattle.wb_hosts.specs.HostContents.{IsHostText, IsHostRefusal}
 use Rattle.wb_hosts.specs.WellDefined.{IsWellDefinedText, IsWellDefinedTextRefusal}
 use Rattle.wb_operations.specs.Operations.{OperationSignature, Operations}
 use Rattle.wb_reader.specs.Refusals.{IsAcceptedText}

@@ -1,7 +1,7 @@
 -- What `show` makes of a file is its report, and a file is refused in one way.
 use Rattle.std.proofs.Common.{◌≡◌, inl, inr, ℕ, List, Option, Some, sym, ◌∙◌, ap}
 use Rattle.std.proofs.lemmas.Option.{same_Some}
-use Rattle.wb_hosts.specs.Contents.{IsBadText}
+use Rattle.wb_hosts.specs.HostContents.{IsBadText}
 use Rattle.wb_reader.proofs.Excluding.{none_refused, one_refusal}
 use Rattle.wb_reader.specs.OneAnswer.{IsNoMemory}
 use Rattle.wb_reader.specs.Refusals.{HasCause, IsAcceptedText}

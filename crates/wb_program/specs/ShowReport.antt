@@ -1,6 +1,6 @@
 -- What `show SPEC` reports.
 use Rattle.std.specs.Prelude.{◌≡◌, ℕ, Option, List}
-use Rattle.wb_hosts.specs.Contents.{IsBadText}
+use Rattle.wb_hosts.specs.HostContents.{IsBadText}
 use Rattle.wb_reader.specs.Refusals.{IsAcceptedText}
 use Rattle.wb_report.specs.Lines.{report_of}
 use Rattle.wb_report.specs.declared.outcome.Outcome.TheVariants as o

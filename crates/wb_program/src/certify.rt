@@ -1,12 +1,12 @@
 //! What does `certify HOST EXT..` answer, and which certified extension of a host is in a file?
 //!
 //! The host comes first, by the checks in `check`, and then each extension in order. What a certified extension is, and why contents aren't
-//! one, is found by `wb_extension_files`.
+//! one, is found by `wb_hosts`.
 
 ghost use Rattle.std.specs.Prelude.{◌≡◌, ◌++◌, IfOk, IfErr, OnOk, List, ℕ, [], ◌∷◌, map};
 ghost use Rattle.wb_beside.specs.Extensions.{IsOneExtension};
-ghost use Rattle.wb_extension_files.specs.Contents.{IsExtensionText, IsExtensionRefusal};
-ghost use Rattle.wb_hosts.specs.Contents.{IsHostText};
+ghost use Rattle.wb_hosts.specs.ExtensionContents.{IsExtensionText, IsExtensionRefusal};
+ghost use Rattle.wb_hosts.specs.HostContents.{IsHostText};
 ghost use Rattle.wb_report.specs.Lines.{report_of};
 ghost use Rattle.wb_words.specs.Words.{texts};
 ghost use Rattle.wb_inputs.specs.Contents.{ReadIs};
@@ -21,7 +21,7 @@ use std::alloc::{AllocError, Global};
 use wb_base::{Bytes, Sequence};
 use wb_beside::CertifiedExtension;
 use wb_certify::CertifiedHost;
-use wb_extension_files::{FileRefusal, extension_of};
+use wb_hosts::{FileRefusal, extension_of};
 use wb_inputs::{
     Answer, Contents, MOST_EXTENSIONS, ReadFailure, Status, named_contents, read_host,
     refused_extension, reported,

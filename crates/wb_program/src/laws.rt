@@ -12,8 +12,8 @@ use wb_united_texts::value_laws::{one_root_law, one_value_law};
 pub fn one_status_law()
     ensures { HaveOneStatus }
 {
-    wb_extension_files::one_answer_law();
-    wb_extension_files::header_law();
+    wb_hosts::one_answer_law();
+    wb_hosts::header_law();
     withdrawn_law();
     one_answer_law();
     one_root_law();
@@ -25,8 +25,8 @@ pub fn one_status_law()
 pub fn one_text_law()
     ensures { HaveOneText }
 {
-    wb_extension_files::one_answer_law();
-    wb_extension_files::header_law();
+    wb_hosts::one_answer_law();
+    wb_hosts::header_law();
     withdrawn_law();
     one_answer_law();
     one_root_law();
@@ -39,8 +39,8 @@ pub fn one_text_law()
 pub fn complete_law()
     ensures { EndAsReported }
 {
-    wb_extension_files::one_answer_law();
-    wb_extension_files::header_law();
+    wb_hosts::one_answer_law();
+    wb_hosts::header_law();
     withdrawn_law();
     one_answer_law();
     one_root_law();

@@ -4,3 +4,10 @@ pub mod FormLemmas
 pub mod TextLemmas
 pub mod FactLemmas
 pub mod PrintedLemmas
+pub mod NumberLemmas
+pub mod UnionLemmas
+pub mod PlaceLemmas
+pub mod UnionFormLemmas
+pub mod LanguageLemmas
+pub mod OrderLemmas
+pub mod NameLemmas

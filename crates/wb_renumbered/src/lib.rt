@@ -1,14 +1,25 @@
-//! Rows of an attribution in new numbers: those of a host, or of a host with one extension, in the numbers of a union.
+//! The attributes of a host and its extensions, from rows that are lent: each row in the numbers of the union, and all of them put together.
 //!
-//! What is put together of them is in `wb_united_attribution`.
+//! What holds of them is in `wb_united_attributes` and `wb_numbered_unions`.
 #![tactic(auto)]
 
+mod addition;
+mod children;
 mod expression;
+mod lists;
 mod numbers;
+mod placed;
 mod production;
+mod productions;
 mod row;
+mod rows;
+pub mod slices;
+mod union;
+mod written;
 
+pub use addition::{Addition, Rows};
+pub use children::new_children;
 pub use expression::{new_equation, new_forward, new_local};
 pub use numbers::{Block, Grouped, Numbers};
-pub use production::new_children;
 pub use row::{new_attribute, new_left, new_nonterminal, new_occurrence, new_owner};
+pub use union::united_attribution;

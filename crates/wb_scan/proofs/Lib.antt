@@ -3,3 +3,8 @@ pub mod FoundLemmas
 pub mod LongestLemmas
 pub mod RangeLemmas
 pub mod ScanLemmas
+pub mod FormLemmas
+mod SetLemmas
+mod ClashLemmas
+mod LanguageLemmas
+pub mod RefusalLemmas

@@ -2,3 +2,6 @@
 pub mod Longest
 -- forms that were found
 pub mod Found
+-- Words of private functions.
+pub mod Lexicons
+pub mod Written

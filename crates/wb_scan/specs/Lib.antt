@@ -2,5 +2,9 @@
 pub mod Views
 -- what a scan answers
 pub mod Scans
+-- the language of a grammar whose terminals are all written as they are
+pub mod Bare
+-- why there is none, each reason with a true example where no earlier one holds
+pub mod Refusals
 -- what loops keep, and words of private functions
 pub mod Inner

@@ -1,16 +1,25 @@
 //! Languages, and the next token of a text at a state of the parser.
 //!
 //! A scanner considers what its state allows and nothing else, so that one text is a keyword here and a name there. A language is made
-//! once; a scan takes no memory and tests nothing. What a token is lies in `wb_languages`.
+//! once, and a scan tests nothing: `language_of` refuses a grammar by itself whose texts could be read in two ways. What a token is lies in
+//! `wb_languages`; languages with prefixed forms are made where extensions are composed.
 #![tactic(auto)]
 
+mod bare_language;
+mod forms;
 mod language;
+mod laws;
+mod layout;
 mod longest;
 mod next_token;
+mod refusal;
 mod scanned;
 mod winner;
 
+pub use bare_language::language_of;
 pub use language::Language;
+pub use laws::bare_refusals_law;
 pub use next_token::scan;
+pub use refusal::LanguageRefusal;
 pub use scanned::Scanned;
 pub use wb_languages::Form;

@@ -6,7 +6,7 @@ use crate::markers::append_production;
 use crate::written::{Asked, Row, Tested, append, extensions_get};
 use std::alloc::{AllocError, Global};
 use wb_flow::AttributeRefusal;
-use wb_forwards::check_forward;
+use wb_complete::check_forward;
 use wb_resolved::{Resolved, ResolvedParts};
 
 // A host: the forward on E may need i, and the one on F may need nothing.

@@ -8,7 +8,7 @@ use Rattle.wb_beside.specs.Kept.{ExtensionView}
 use Rattle.wb_lemmas.proofs.Parts.{append_assoc}
 use Rattle.wb_lemmas.proofs.Places.{at_take, at_within}
 use Rattle.wb_regex.specs.Tree.{Tree}
-use Rattle.wb_reordered_unions.specs.Names.{all_of}
+use Rattle.wb_renamed_languages.specs.Names.{all_of}
 use Rattle.wb_resolved.specs.declared.resolved.ResolvedParts.{ResolvedParts}
 use Rattle.wb_resolved.specs.declared.terminal.Terminal.{Terminal}
 use Rattle.wb_shown.specs.Names.{terminals_in}

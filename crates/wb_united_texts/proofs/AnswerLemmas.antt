@@ -18,11 +18,11 @@ use Rattle.wb_operations.specs.Operations.{OperationSignature}
 use Rattle.wb_renamed_languages.specs.Answers.{renamed_forest, renamed_kind}
 use Rattle.wb_renamed_languages.specs.Laws.{HasSameAnswers}
 use Rattle.wb_renamed_languages.proofs.PrintedLemmas.{printed_alike}
-use Rattle.wb_reordered_unions.specs.Orders.{IsReordering, number_to}
-use Rattle.wb_reordered_unions.specs.Unions.{names_to}
-use Rattle.wb_reordered_unions.proofs.LanguageLemmas.{same_union_answers}
-use Rattle.wb_reordered_unions.proofs.NameLemmas.{in_turn_there, names_there}
-use Rattle.wb_reordered_unions.proofs.NumberLemmas.{reordering_map}
+use Rattle.wb_renamed_languages.specs.Orders.{IsReordering, number_to}
+use Rattle.wb_renamed_languages.specs.Unions.{names_to}
+use Rattle.wb_renamed_languages.proofs.LanguageLemmas.{same_union_answers}
+use Rattle.wb_renamed_languages.proofs.NameLemmas.{in_turn_there, names_there}
+use Rattle.wb_renamed_languages.proofs.NumberLemmas.{reordering_map}
 use Rattle.wb_report.specs.declared.shown.ShownStop.{ShownStop}
 use Rattle.wb_report.specs.declared.shown.ShownStop.TheVariants as stop
 use Rattle.wb_resolved.specs.declared.resolved.ResolvedParts.{ResolvedParts}

@@ -17,7 +17,7 @@ use Rattle.wb_operations.specs.Operations.{OperationSignature}
 use Rattle.wb_regex.specs.Tree.{Tree}
 use Rattle.wb_resolved.specs.declared.resolved.ResolvedParts.{ResolvedParts}
 use Rattle.wb_resolved.specs.declared.terminal.Terminal.{Terminal}
-use Rattle.wb_reordered_unions.specs.Names.{all_of}
+use Rattle.wb_renamed_languages.specs.Names.{all_of}
 use Rattle.wb_shown.specs.Names.{terminals_in}
 use Rattle.wb_shown.proofs.HoleLemmas.{few_terminals}
 use Rattle.wb_united.specs.Places.{total_of}

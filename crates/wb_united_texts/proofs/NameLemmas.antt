@@ -9,7 +9,7 @@ use Rattle.wb_composition.specs.Joined.{AreCertifiedApart, Extended}
 use Rattle.wb_composition.specs.Written.{written_in}
 use Rattle.wb_operations.specs.Operations.{OperationSignature}
 use Rattle.wb_resolved.specs.declared.resolved.ResolvedParts.{ResolvedParts}
-use Rattle.wb_reordered_unions.specs.Names.{HasNamesInTurn, all_of}
+use Rattle.wb_renamed_languages.specs.Names.{HasNamesInTurn, all_of}
 use Rattle.wb_shown.specs.Names.{grammar_terminals, productions_in, terminals_in}
 use Rattle.wb_unions.specs.Blocks.{lift}
 use Rattle.wb_united.specs.UnitedWorlds.{production_sizes, terminal_sizes}

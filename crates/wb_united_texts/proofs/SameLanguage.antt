@@ -9,10 +9,10 @@ use Rattle.wb_languages.specs.declared.stop_kind.StopKind.{StopKind}
 use Rattle.wb_languages.specs.declared.stop_kind.StopKind.TheVariants as kind
 use Rattle.wb_renamed_languages.specs.Answers.{renamed_forest, renamed_kind}
 use Rattle.wb_renamed_languages.specs.Laws.{HasSameAnswers}
-use Rattle.wb_reordered_unions.specs.Orders.{IsReordering, number_to}
-use Rattle.wb_reordered_unions.specs.Unions.{names_to}
-use Rattle.wb_reordered_unions.proofs.LanguageLemmas.{same_union_answers}
-use Rattle.wb_reordered_unions.proofs.NumberLemmas.{to_extension, to_host, to_past}
+use Rattle.wb_renamed_languages.specs.Orders.{IsReordering, number_to}
+use Rattle.wb_renamed_languages.specs.Unions.{names_to}
+use Rattle.wb_renamed_languages.proofs.LanguageLemmas.{same_union_answers}
+use Rattle.wb_renamed_languages.proofs.NumberLemmas.{to_extension, to_host, to_past}
 use Rattle.wb_united.specs.Pieces.{ArePieces}
 use Rattle.wb_united.proofs.PlaceLemmas.{Located, in_host, in_extension, after_all, located}
 use Rattle.wb_united_forms.specs.Languages.{IsUnitedLanguage}

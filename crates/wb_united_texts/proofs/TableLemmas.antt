@@ -17,7 +17,7 @@ use Rattle.wb_shown.proofs.HoleLemmas.{few_productions, few_terminals}
 use Rattle.wb_united.proofs.ProductionLemmas.{drop_at}
 use Rattle.wb_united.specs.Places.{total_of}
 use Rattle.wb_unions.specs.Blocks.{lift}
-use Rattle.wb_reordered_unions.specs.Names.{all_of}
+use Rattle.wb_renamed_languages.specs.Names.{all_of}
 use Rattle.wb_values.specs.Signature.{Signature}
 use Rattle.wb_united_texts.specs.Inner.Tables.{AreAdded, names_from, signatures_from}
 use Rattle.wb_united_texts.specs.Names.{added_names}

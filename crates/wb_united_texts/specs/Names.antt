@@ -3,7 +3,7 @@
 use Rattle.std.specs.Prelude.{ℕ, List, drop, map, slice_get}
 use Rattle.wb_languages.specs.declared.stop_kind.StopKind.{StopKind}
 use Rattle.wb_languages.specs.declared.stop_kind.StopKind.TheVariants as kind
-use Rattle.wb_reordered_unions.specs.Names.{in_turn}
+use Rattle.wb_renamed_languages.specs.Names.{in_turn}
 use Rattle.wb_report.specs.declared.shown.ShownStop.{ShownStop}
 use Rattle.wb_report.specs.declared.shown.ShownStop.TheVariants as stop
 use Rattle.wb_resolved.specs.declared.resolved.ResolvedParts.{ResolvedParts}

@@ -1,7 +1,7 @@
 //! Lists the expressions by which all terminals and layouts of a union are written.
 
 ghost use Rattle.std.specs.Prelude.{None, IfOk, OnOk, length, map};
-ghost use Rattle.wb_reordered_unions.specs.Names.{all_of};
+ghost use Rattle.wb_renamed_languages.specs.Names.{all_of};
 ghost use Rattle.wb_shown.specs.Names as shown;
 ghost use Rattle.wb_united_texts.specs.Expressions.{AreUnitedExpressions, added_rows, rows_of};
 ghost use Rattle.wb_united_texts.specs.Inner.Added.{AreAdded};

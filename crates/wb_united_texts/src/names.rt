@@ -1,7 +1,7 @@
 //! Which names do reports show for the terminals of a union?
 
 ghost use Rattle.std.specs.Prelude.{◌≡◌, ◌++◌, IfOk, OnOk, map};
-ghost use Rattle.wb_reordered_unions.specs.Names.{all_of};
+ghost use Rattle.wb_renamed_languages.specs.Names.{all_of};
 ghost use Rattle.wb_united_texts.specs.Names.{added_names, name_at, terminals_of};
 ghost use Rattle.wb_united_texts.specs.Unions.{all_resolved};
 ghost use Rattle.wb_united_texts.specs.Inner.Tables.{names_from};

@@ -3,7 +3,7 @@
 ghost use Rattle.std.specs.Prelude.{ℕ, List};
 ghost use Rattle.wb_languages.specs.Shown.{AgreesWith};
 ghost use Rattle.wb_operations.specs.Operations.{OperationSignature};
-ghost use Rattle.wb_reordered_unions.specs.Orders.{IsReordering};
+ghost use Rattle.wb_renamed_languages.specs.Orders.{IsReordering};
 ghost use Rattle.wb_resolved.specs.declared.resolved.ResolvedParts.{ResolvedParts};
 ghost use Rattle.wb_united_texts.specs.Answers.{HasSameAnswer};
 ghost use Rattle.wb_united_texts.specs.Signatures.{signatures_of};

@@ -7,3 +7,9 @@ pub mod MadeLemmas
 pub mod WholeLemmas
 pub mod SharingLemmas
 pub mod OpenedLemmas
+mod TableLemmas
+mod RowLemmas
+mod PreferenceLemmas
+mod SetLemmas
+mod UnionLemmas
+mod PartLemmas

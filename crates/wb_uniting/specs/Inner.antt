@@ -8,3 +8,9 @@ pub mod Opened
 pub mod Sharing
 -- forms of the union as they are made
 pub mod FormsMade
+-- numbers of the union, and preferences as they are gathered
+pub mod Rows
+-- which forms are considered at each state
+pub mod Sets
+-- a language's parts as they are made
+pub mod Made

@@ -4,5 +4,7 @@ pub mod Additions
 pub mod Lents
 -- the expressions of forms and of layout
 pub mod Expressions
+-- the language of what is lent
+pub mod United
 -- what only proofs need
 pub mod Inner

@@ -5,8 +5,8 @@ use Rattle.wb_beside.specs.Kept.{AreCertifiedBoth, ExtensionView}
 use Rattle.wb_composition.specs.Written.{name_in}
 use Rattle.wb_numbered_unions.specs.Additions.{Rows}
 use Rattle.wb_resolved.specs.declared.attribution.AttributionParts.{AttributionParts}
-use Rattle.wb_united_attribution.specs.declared.addition.Addition.{Addition}
-use Rattle.wb_united_attribution.specs.Lent.{rows_in}
+use Rattle.wb_renumbered.specs.declared.addition.Addition.{Addition}
+use Rattle.wb_renumbered.specs.Lent.{rows_in}
 
 -- the rows of the host, whose attributes and grammar these are
 abbrev pub rows_by : AttributionParts → GrammarView → Rows

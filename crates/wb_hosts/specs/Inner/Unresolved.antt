@@ -1,8 +1,8 @@
 -- Contents that stand for no value.
 use Rattle.std.specs.Prelude.{◌⊎◌, List, ℕ}
-use Rattle.wb_hosts.specs.Contents.{IsBadText, HasBadNames}
-use Rattle.wb_hosts.specs.declared.refusal.HostRefusal.{HostRefusal}
-use Rattle.wb_hosts.specs.declared.refusal.HostRefusal.TheVariants as h
+use Rattle.wb_hosts.specs.HostContents.{IsBadText, HasBadNames}
+use Rattle.wb_hosts.specs.declared.host_refusal.HostRefusal.{HostRefusal}
+use Rattle.wb_hosts.specs.declared.host_refusal.HostRefusal.TheVariants as h
 
 -- the contents aren't a specification, or their names aren't right, and that is shown so
 abbrev pub IsUnresolved : List ℕ → HostRefusal → Type 0

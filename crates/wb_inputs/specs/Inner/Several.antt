@@ -3,8 +3,8 @@ use Rattle.std.specs.Prelude.{◌≡◌, ℕ, List, Option, [], Contains, drop}
 use Rattle.wb_beside.specs.Kept.{ExtensionView}
 use Rattle.wb_certify.specs.Hosts.{CertifiedView}
 use Rattle.wb_composition.specs.Composed.{IsWith, name_of}
-use Rattle.wb_extension_files.specs.Specifications.{IsHeaderRefusal, IsSpecFor}
-use Rattle.wb_extension_files.specs.declared.refusal.FileRefusal.TheVariants as f
+use Rattle.wb_hosts.specs.Specifications.{IsHeaderRefusal, IsSpecFor}
+use Rattle.wb_hosts.specs.declared.extension_refusal.FileRefusal.TheVariants as f
 use Rattle.wb_operations.specs.Operations.{OperationSignature}
 use Rattle.wb_report.specs.Lines.{report_of}
 use Rattle.wb_report.specs.declared.outcome.Outcome.TheVariants as o

@@ -1,6 +1,6 @@
 -- What is made of the file of an extension, and of several in their order.
 use Rattle.std.specs.Prelude.{◌≤◌, ℕ, Option, List, Result, Ok, Err, [], ◌∷◌, drop, length, map}
-use Rattle.wb_hosts.specs.Contents.{IsHostText}
+use Rattle.wb_hosts.specs.HostContents.{IsHostText}
 use Rattle.wb_operations.specs.Operations.{OperationSignature}
 use Rattle.wb_resolved.specs.declared.resolved.ResolvedParts.{ResolvedParts}
 use Rattle.wb_world.specs.Shelf.{Files}

@@ -1,6 +1,6 @@
 -- What `show` reports of what was read of a file.
 use Rattle.std.specs.Prelude.{◌≡◌, ℕ, List, Some}
-use Rattle.wb_hosts.specs.Contents.{IsBadText}
+use Rattle.wb_hosts.specs.HostContents.{IsBadText}
 use Rattle.wb_reader.specs.Refusals.{IsAcceptedText}
 use Rattle.wb_reader.specs.declared.refusal.SpecRefusal.{SpecRefusal}
 use Rattle.wb_report.specs.Lines.{report_of}

@@ -7,7 +7,7 @@ use Rattle.wb_operations.specs.Operations.{IsPlainSignature}
 use Rattle.wb_resolved.specs.declared.attribution.AttributionParts.{AttributionParts}
 use Rattle.wb_resolved.specs.declared.resolved.ResolvedParts.{ResolvedParts}
 use Rattle.wb_resolved.specs.Resolved.{IsResolved}
-use Rattle.wb_united_attribution.specs.Lent.{all_in, rows_in}
+use Rattle.wb_renumbered.specs.Lent.{all_in, rows_in}
 use Rattle.wb_composition.proofs.ComposedAttributes.{lent_attribution, lent_union}
 use Rattle.wb_composition.proofs.attributes.composed_attributes.Goals as goal
 

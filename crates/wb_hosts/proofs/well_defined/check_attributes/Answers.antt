@@ -1,7 +1,7 @@
 use Rattle.std.proofs.Common.{rules}
-use Rattle.wb_hosts.specs.Inner.Refused.{IsCertifyMemory}
-use Rattle.wb_hosts.proofs.Shown.{ill_defined_shown}
-use Rattle.wb_hosts.proofs.ValueLemmas.{shown_ill_defined}
+use Rattle.wb_hosts.specs.Inner.RefusedHosts.{IsCertifyMemory}
+use Rattle.wb_hosts.proofs.ShownHosts.{ill_defined_shown}
+use Rattle.wb_hosts.proofs.HostLemmas.{shown_ill_defined}
 use Rattle.wb_hosts.proofs.well_defined.check_attributes.Goals as goal
 
 pub bad_value-shown-requires : goal.bad_value-shown-requires

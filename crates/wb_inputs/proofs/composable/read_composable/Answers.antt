@@ -1,6 +1,6 @@
 -- Extensions are read after their host, and how a run ends at one of them comes after that host's checks.
 use Rattle.std.proofs.Common.{rules, ◌≡◌, ◌≤◌, inl, inr, [], Option, Result, IfOk, IfErr, length, subst, arith}
-use Rattle.wb_hosts.specs.Contents.{IsHostRefusal}
+use Rattle.wb_hosts.specs.HostContents.{IsHostRefusal}
 use Rattle.wb_words.specs.Words.{texts}
 use Rattle.wb_world.specs.Shelf.{Files}
 use Rattle.wb_inputs.specs.Composable.{AreRead, RefusesAny}

@@ -1,7 +1,7 @@
 -- What was read is such a host, and so the file is; or the file is refused.
 use Rattle.std.proofs.Common.{◌≡◌}
 use Rattle.wb_certify.specs.Hosts.{IsCertifiedValue}
-use Rattle.wb_hosts.specs.Contents.{IsHostText, IsHostRefusal}
+use Rattle.wb_hosts.specs.HostContents.{IsHostText, IsHostRefusal}
 use Rattle.wb_lemmas.proofs.Refusals.{handed_on}
 use Rattle.wb_inputs.specs.Contents.{ReadIs}
 use Rattle.wb_inputs.specs.Files.{KnownFile}

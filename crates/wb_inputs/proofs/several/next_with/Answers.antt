@@ -1,7 +1,7 @@
 -- An extension with another name than those before it is apart from them; one that is refused has another name too.
 use Rattle.std.proofs.Common.{ℕ, List, Contains, refl, subst}
 use Rattle.wb_composition.specs.Composed.{IsWith}
-use Rattle.wb_extension_files.specs.Contents.{IsExtensionText, IsExtensionRefusal}
+use Rattle.wb_hosts.specs.ExtensionContents.{IsExtensionText, IsExtensionRefusal}
 use Rattle.wb_operations.specs.Operations.{OperationSignature}
 use Rattle.wb_united_texts.specs.Unions.{all_resolved}
 use Rattle.wb_inputs.specs.SeveralChecks.{names_of}

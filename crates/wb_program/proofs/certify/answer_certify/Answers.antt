@@ -1,6 +1,6 @@
 -- Extensions are read after their host, and their report comes after that host's checks.
 use Rattle.std.proofs.Common.{rules, ◌≤◌, sym, [], Option, inr, length, map, subst, arith}
-use Rattle.wb_hosts.specs.Contents.{IsHostText, IsHostRefusal}
+use Rattle.wb_hosts.specs.HostContents.{IsHostText, IsHostRefusal}
 use Rattle.wb_world.specs.Shelf.{Files}
 use Rattle.wb_words.specs.Words.{texts}
 use Rattle.wb_inputs.specs.Reads.{certified_extension}

@@ -1,6 +1,6 @@
 -- What was read is a certified extension of this name, and so the file is; or the run ends with its refusal.
 use Rattle.std.proofs.Common.{◌≡◌, Ok, Err, subst, List, ℕ}
-use Rattle.wb_extension_files.specs.Contents.{IsExtensionText, IsExtensionRefusal}
+use Rattle.wb_hosts.specs.ExtensionContents.{IsExtensionText, IsExtensionRefusal}
 use Rattle.wb_inputs.specs.ExtensionChecks.{RefusedExtension}
 use Rattle.wb_inputs.specs.Files.{KnownFile}
 use Rattle.wb_inputs.proofs.HostLemmas.{read_is}

@@ -1,6 +1,6 @@
 -- A certified host has its report.
 use Rattle.std.proofs.Common.{rules, []}
-use Rattle.wb_hosts.specs.Contents.{IsHostRefusal}
+use Rattle.wb_hosts.specs.HostContents.{IsHostRefusal}
 use Rattle.wb_inputs.specs.HostChecks.{IsHostFile, RefusesHost}
 use Rattle.wb_inputs.specs.Reads.{certified_host}
 use Rattle.wb_inputs.proofs.CauseLemmas.{err_of}

@@ -10,7 +10,7 @@ use Rattle.wb_inputs.proofs.CauseLemmas.{err_of, some_certified}
 use Rattle.wb_program.specs.TreeReport.{TextReport}
 use Rattle.wb_inputs.proofs.MakesLemmas.{answered, handed_first, made_since}
 use Rattle.wb_program.proofs.HostLemmas.{tree_certified, tree_refused}
-use Rattle.wb_hosts.specs.Contents.{IsHostRefusal}
+use Rattle.wb_hosts.specs.HostContents.{IsHostRefusal}
 use Rattle.wb_program.proofs.tree.answer_tree.Goals as goal
 
 pub returns-in-Ok : goal.returns-in-Ok

@@ -1,7 +1,7 @@
 use Rattle.std.proofs.Common.{List, map, subst}
 use Rattle.std.proofs.lemmas.List.{take_all}
 use Rattle.wb_beside.specs.Kept.{ExtensionView}
-use Rattle.wb_reordered_unions.specs.Names.{all_of}
+use Rattle.wb_renamed_languages.specs.Names.{all_of}
 use Rattle.wb_united_texts.specs.Expressions.{added_rows}
 use Rattle.wb_united_texts.specs.Inner.Added.{AreAdded}
 use Rattle.wb_united_texts.specs.Unions.{all_resolved}

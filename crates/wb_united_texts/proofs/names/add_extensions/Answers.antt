@@ -1,7 +1,7 @@
 use Rattle.std.proofs.Common.{rules, ◌≡◌, ◌∙◌, ◌++◌, List, ap, map, sym}
 use Rattle.std.proofs.lemmas.List.{append-nil, take_all}
 use Rattle.wb_beside.specs.Kept.{ExtensionView}
-use Rattle.wb_reordered_unions.specs.Names.{all_of}
+use Rattle.wb_renamed_languages.specs.Names.{all_of}
 use Rattle.wb_shown.specs.Names.{terminals_in}
 use Rattle.wb_united_texts.specs.Names.{added_names}
 use Rattle.wb_united_texts.specs.Unions.{all_resolved}

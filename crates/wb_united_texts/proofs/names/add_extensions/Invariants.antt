@@ -1,5 +1,5 @@
 use Rattle.std.proofs.Common.{◌≡◌, ◌++◌, map, take}
-use Rattle.wb_reordered_unions.specs.Names.{all_of}
+use Rattle.wb_renamed_languages.specs.Names.{all_of}
 use Rattle.wb_united_texts.specs.Names.{added_names}
 use Rattle.wb_united_texts.specs.Unions.{all_resolved}
 use Rattle.wb_united_texts.proofs.names.add_extensions.Given as goal

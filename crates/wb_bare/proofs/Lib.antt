@@ -1,5 +1,0 @@
-pub mod FormLemmas
-mod SetLemmas
-mod ClashLemmas
-mod LanguageLemmas
-pub mod RefusalLemmas

@@ -1,0 +1,108 @@
+//! Do an extension's equations for forwarded trees keep to the flow types of the forwards?
+//!
+//! A flow graph is made only for a production that has such an equation.
+
+ghost use Rattle.std.specs.Prelude.{◌≡◌, ◌<◌, ◌↔◌, ℕ, Some, IfOk, IfErr, IsTrue, length, slice_get};
+ghost use Rattle.wb_attributes.specs.Modular.{ForwardEquationsReach, IsBridging, IsProduction};
+ghost use Rattle.wb_complete.specs.Inner.ForwardTests.{IsChecked, KeepsWhereBridging};
+ghost use Rattle.wb_complete.specs.ForwardRefusals.{IsTrueForwardRefusal};
+ghost use Rattle.wb_resolved.specs.declared.production.Production.{Production};
+
+use crate::equations::{Tested, check_vertices, gives_forward};
+use std::alloc::Global;
+use wb_flow::{AttributeRefusal, OccurrenceIndex, Scope, production_graph};
+use wb_resolved::{Attribution, Production};
+
+/// Whether in each production of the extension on a nonterminal of the host each equation for an inherited attribute of the forwarded tree
+/// reaches, of the inherited attributes of the top, only those in the flow type of the forward and that attribute itself.
+///
+/// The extension is given by its owner's number. The time is about linear in the productions and, for each production that has such an
+/// equation, in the attribution and in its flow graph times these equations; no clause bounds it.
+pub fn check_forward(
+    alloc: Global,
+    attributes: &Attribution,
+    extension: usize,
+) -> Result<(), AttributeRefusal>
+    ensures ok { IfOk result (λ done. ForwardEquationsReach attributes.now extension) }
+    ensures refused { IfErr result (IsTrueForwardRefusal attributes.now extension) }
+{
+    let parts = attributes.parts();
+    let index = OccurrenceIndex::new(alloc, parts)?;
+    let scope = Scope {
+        attributes: parts,
+        index: &index,
+    };
+    let answer = check_in(
+        alloc,
+        &Checked {
+            attributes,
+            scope: &scope,
+            extension,
+        },
+    );
+    drop(index);
+    answer
+}
+
+// An attribution with its parts, and an extension.
+#[derive(Clone, Copy)]
+pub(crate) struct Checked<'a> {
+    attributes: &'a Attribution,
+    scope: &'a Scope<'a>,
+    extension: usize,
+}
+
+// Like `check_forward`, where occurrences are by nonterminal.
+fn check_in(alloc: Global, checked: &Checked) -> Result<(), AttributeRefusal>
+    requires { IsChecked checked.now }
+    ensures ok { IfOk result (λ done. ForwardEquationsReach checked.now.scope.now.attributes.now checked.now.extension) }
+    ensures refused { IfErr result (IsTrueForwardRefusal checked.now.scope.now.attributes.now checked.now.extension) }
+{
+    let productions = checked.scope.attributes.productions.as_slice();
+    'productions: for number in 0..productions.len() {
+        check_production(alloc, checked, number, &productions[number])?;
+    }
+    Ok(())
+}
+
+// Whether a production does, where it is the extension's on a nonterminal of the host.
+fn check_production(
+    alloc: Global,
+    checked: &Checked,
+    number: usize,
+    production: &Production,
+) -> Result<(), AttributeRefusal>
+    requires checked { IsChecked checked.now }
+    requires there { IsProduction checked.now.scope.now.attributes.now number production.now }
+    ensures ok { IfOk result (λ done. KeepsWhereBridging checked.now.scope.now.attributes.now checked.now.extension production.now) }
+    ensures refused { IfErr result (IsTrueForwardRefusal checked.now.scope.now.attributes.now checked.now.extension) }
+{
+    if !is_bridging(checked.scope, checked.extension, production) {
+        return Ok(());
+    }
+    if !gives_forward(production) {
+        return Ok(());
+    }
+    let graph = production_graph(alloc, checked.attributes, number)?;
+    let answer = check_vertices(
+        alloc,
+        &Tested {
+            scope: checked.scope,
+            number,
+            production,
+            graph: &graph,
+        },
+    );
+    drop(graph);
+    answer
+}
+
+// Whether a production is an extension's, on a nonterminal of the host.
+fn is_bridging(scope: &Scope, extension: usize, production: &Production) -> bool
+    ensures { IsTrue result ↔ IsBridging scope.now.attributes.now extension production.now }
+{
+    let nonterminals = scope.attributes.nonterminals.as_slice();
+    production.owner == extension
+        && production.left < nonterminals.len()
+        && nonterminals[production.left].owner == 0
+}

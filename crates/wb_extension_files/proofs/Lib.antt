@@ -1,3 +1,0 @@
-pub mod OneAnswer
-mod Shown
-mod ValueLemmas

@@ -1,6 +1,0 @@
-use Rattle.wb_flow.proofs.EachLemmas.{EachBefore}
-use Rattle.wb_forwards.specs.Inner.Tests.{KeepsWhereBridging}
-use Rattle.wb_forwards.proofs.check.check_in.Given as goal
-
-abbrev pub invariant-productions : goal.invariant-productions
-invariant-productions l = EachBefore l.productions l.number (KeepsWhereBridging l.checked.scope.now.attributes.now l.checked.extension)

@@ -1,2 +1,0 @@
--- what each test of a production asks and tells
-pub mod Tests

@@ -1,9 +1,0 @@
-pub mod TotalLemmas
-pub mod MovedLemmas
-pub mod GroupedLemmas
-pub mod HostNumberLemmas
-pub mod SharedLemmas
-pub mod BackLemmas
-pub mod RowLemmas
-pub mod ProductionLemmas
-pub mod OrderLemmas

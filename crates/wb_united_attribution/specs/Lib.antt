@@ -1,4 +1,0 @@
--- what is lent, as rows of a host and of extensions
-pub mod Lent
--- what only proofs need
-pub mod Inner

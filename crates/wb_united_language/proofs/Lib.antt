@@ -1,6 +1,0 @@
-mod TableLemmas
-mod RowLemmas
-mod PreferenceLemmas
-mod SetLemmas
-mod UnionLemmas
-mod PartLemmas

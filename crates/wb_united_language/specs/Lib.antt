@@ -1,4 +1,0 @@
--- the language of what is lent
-pub mod United
--- what only proofs need
-pub mod Inner
