@@ -4,11 +4,11 @@ use Rattle.std.specs.Prelude.{slice_get, Contains, ◌↔◌, IfOk, Result, Ok, 
 use Rattle.std.proofs.lemmas.Bool.{cases_lt, cases_eq}
 use Rattle.std.proofs.lemmas.List.{get_or_append_left, get_or_push, get_or_past}
 use Rattle.std.proofs.lemmas.Option.{same_Some}
-use Rattle.wb_positions.specs.Rows.{row}
-use Rattle.wb_positions.specs.Rising.{AreRising}
-use Rattle.wb_positions.specs.Transitions.{Ahead}
+use Rattle.wb_automata_positions.specs.Rows.{row}
+use Rattle.wb_automata_positions.specs.Rising.{AreRising}
+use Rattle.wb_automata_positions.specs.Transitions.{Ahead}
 use Rattle.wb_automata.specs.Inner.Accepted.{AreAccepted, IsAccepted}
-use Rattle.wb_positions.proofs.StartLemmas.{rising_none}
+use Rattle.wb_automata_positions.proofs.StartLemmas.{rising_none}
 
 -- rows rise where each that is added does
 pub rising_more : (rows : List (List ℕ)) (all : List ℕ) → AreRising all → ((j : ℕ) → AreRising (row rows j)) → (j : ℕ) → AreRising

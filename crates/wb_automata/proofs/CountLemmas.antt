@@ -15,9 +15,9 @@ use Rattle.std.proofs.lemmas.Map.Views.{list_any-from_Contains, Contains-from_an
 use Rattle.std.proofs.lemmas.Option.{slice_get-get_or}
 use Rattle.std.proofs.lemmas.Slice.Eq.{slice_eq-Decides}
 use Rattle.wb_base.specs.Different.{Differ}
-use Rattle.wb_positions.specs.declared.tables.Tables.{Tables}
-use Rattle.wb_positions.specs.Rising.{AreRising}
-use Rattle.wb_positions.specs.Transitions.{IsPlaceList}
+use Rattle.wb_automata_positions.specs.declared.tables.Tables.{Tables}
+use Rattle.wb_automata_positions.specs.Rising.{AreRising}
+use Rattle.wb_automata_positions.specs.Transitions.{IsPlaceList}
 use Rattle.wb_automata.specs.Inner.Found.{Found, AreFound}
 
 -- all rising lists of numbers below m

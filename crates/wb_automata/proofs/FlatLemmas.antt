@@ -2,7 +2,7 @@
 use Rattle.std.proofs.Common.{◌≡◌, ℕ, zero, suc, ◌+◌, ◌-◌, ◌≤◌, ◌<◌, List, [], ◌∷◌, ◌++◌, refl, sym, ◌∙◌, ap, arith, length, get_or, take}
 use Rattle.std.proofs.Common.{drop}
 use Rattle.std.proofs.lemmas.List.{length-drop, take_all, get_or_default}
-use Rattle.wb_positions.specs.Rows.{row}
+use Rattle.wb_automata_positions.specs.Rows.{row}
 use Rattle.wb_automata.specs.Rows.{rows_between}
 use Rattle.wb_automata.specs.Inner.FlatRows.{start_at, AreEnds}
 

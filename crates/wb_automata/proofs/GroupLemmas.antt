@@ -12,10 +12,10 @@ use Rattle.wb_regex.specs.declared.node.RegexNode.TheVariants as n
 use Rattle.wb_lemmas.proofs.Elements.{all_from_contained}
 use Rattle.wb_automata.specs.declared.pairs.Groups.{Groups}
 use Rattle.wb_automata.specs.declared.predecessor.Predecessor.{Predecessor}
-use Rattle.wb_positions.specs.declared.tables.Tables.{Tables}
+use Rattle.wb_automata_positions.specs.declared.tables.Tables.{Tables}
 use Rattle.wb_automata.specs.Automata.{Path, IsEarlier}
 use Rattle.wb_automata.specs.Paths.{path_by, path_on, paths_of}
-use Rattle.wb_positions.specs.Rows.{row}
+use Rattle.wb_automata_positions.specs.Rows.{row}
 use Rattle.wb_automata.specs.Inner.Found.{on}
 use Rattle.wb_automata.specs.Inner.Pairs.{Adds, Any, AreApart, AreEarlier, AreFirsts, AreMet, AreTwo, CompletesBoth, HasEnd, IsAfter}
 use Rattle.wb_automata.specs.Inner.Pairs.{IsBegun, IsClosed, IsLeastCompletion, IsLed, IsMetBy, IsMetUpTo, IsNoCompletion, IsPassed}

@@ -16,24 +16,24 @@ use Rattle.wb_regex.specs.declared.node.RegexNode.{RegexNode}
 use Rattle.wb_regex.specs.declared.node.RegexNode.TheVariants as n
 use Rattle.wb_automata.specs.declared.shared.Overlap.{Overlap}
 use Rattle.wb_automata.specs.declared.shared.Overlap.TheVariants as o
-use Rattle.wb_positions.specs.declared.tables.Tables.{Tables}
+use Rattle.wb_automata_positions.specs.declared.tables.Tables.{Tables}
 use Rattle.wb_automata.specs.Overlaps.{IsOverlap}
-use Rattle.wb_positions.specs.Rows.{row}
-use Rattle.wb_positions.specs.Classes.{AreClasses}
-use Rattle.wb_positions.specs.Sizes.{bound_of}
+use Rattle.wb_automata_positions.specs.Rows.{row}
+use Rattle.wb_automata_positions.specs.Classes.{AreClasses}
+use Rattle.wb_automata_positions.specs.Sizes.{bound_of}
 use Rattle.wb_automata.specs.Inner.Pairs.{Adds, Any, AreApart, AreFirsts, AreTwo, Completes, CompletesBoth, HasFlags, IsAfter, IsCompletion}
 use Rattle.wb_automata.specs.Inner.Pairs.{start_pair}
-use Rattle.wb_positions.specs.PositionTrees.{PositionTree, Matches}
-use Rattle.wb_positions.specs.Inner.Stands.{After}
-use Rattle.wb_positions.specs.Positions.{Last}
-use Rattle.wb_positions.specs.Tables.{AreTables}
-use Rattle.wb_positions.specs.Leaves.{holds_of, node_holds}
-use Rattle.wb_positions.specs.Transitions.{IsTable}
-use Rattle.wb_positions.proofs.ErasingLemmas.{erased, placed, has_byte_holds}
-use Rattle.wb_positions.proofs.MachineLemmas.{taken, none_taken}
-use Rattle.wb_positions.proofs.Paths.{last_after, after_last}
-use Rattle.wb_positions.proofs.Ranges.{after_within}
-use Rattle.wb_positions.proofs.StandsLemmas.{forth_from, back_from}
+use Rattle.wb_automata_positions.specs.PositionTrees.{PositionTree, Matches}
+use Rattle.wb_automata_positions.specs.Inner.Stands.{After}
+use Rattle.wb_automata_positions.specs.Positions.{Last}
+use Rattle.wb_automata_positions.specs.Tables.{AreTables}
+use Rattle.wb_automata_positions.specs.Leaves.{holds_of, node_holds}
+use Rattle.wb_automata_positions.specs.Transitions.{IsTable}
+use Rattle.wb_automata_positions.proofs.ErasingLemmas.{erased, placed, has_byte_holds}
+use Rattle.wb_automata_positions.proofs.MachineLemmas.{taken, none_taken}
+use Rattle.wb_automata_positions.proofs.Paths.{last_after, after_last}
+use Rattle.wb_automata_positions.proofs.Ranges.{after_within}
+use Rattle.wb_automata_positions.proofs.StandsLemmas.{forth_from, back_from}
 use Rattle.wb_automata.proofs.WholeLemmas.{blank, forest_ranges, outside}
 
 pub none_in : (c : ℕ) → Contains [] c → ⊥

@@ -6,10 +6,10 @@ use Rattle.std.proofs.lemmas.Option.{slice_get-get_or, slice_get_within}
 use Rattle.std.proofs.lemmas.Bool.{cases_lt}
 use Rattle.wb_lemmas.proofs.Places.{append_keeps, at_push, push_last}
 use Rattle.wb_automata.specs.declared.predecessor.Predecessor.{Predecessor}
-use Rattle.wb_positions.specs.declared.tables.Tables.{Tables}
+use Rattle.wb_automata_positions.specs.declared.tables.Tables.{Tables}
 use Rattle.wb_automata.specs.Automata.{Path, IsEarlier}
-use Rattle.wb_positions.specs.Rows.{row}
-use Rattle.wb_positions.specs.Transitions.{IsPlaceList}
+use Rattle.wb_automata_positions.specs.Rows.{row}
+use Rattle.wb_automata_positions.specs.Transitions.{IsPlaceList}
 use Rattle.wb_automata.specs.Inner.Found.{Found, on, pushed, IsPlaced, AllBefore, IsSetStart, IsChild, AreFound, Extends}
 use Rattle.wb_automata.specs.Paths.{path_by, grown, paths_of}
 use Rattle.wb_automata.proofs.OrderLemmas.{IsLatest}

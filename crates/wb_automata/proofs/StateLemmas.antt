@@ -7,12 +7,12 @@ use Rattle.std.proofs.lemmas.Option.{slice_get-get_or, slice_get_within, same_So
 use Rattle.std.proofs.lemmas.Bool.{cases_lt}
 use Rattle.wb_lemmas.proofs.Numbers.{place_below}
 use Rattle.wb_lemmas.proofs.Places.{append_keeps, at_push, push_last, nothing_at}
-use Rattle.wb_positions.specs.declared.tables.Tables.{Tables}
+use Rattle.wb_automata_positions.specs.declared.tables.Tables.{Tables}
 use Rattle.wb_automata.specs.Automata.{Path, IsEarlier}
-use Rattle.wb_positions.specs.Rows.{row}
-use Rattle.wb_positions.specs.Transitions.{IsTable, IsPlaceList, Ahead}
+use Rattle.wb_automata_positions.specs.Rows.{row}
+use Rattle.wb_automata_positions.specs.Transitions.{IsTable, IsPlaceList, Ahead}
 use Rattle.wb_automata.specs.Inner.Found.{Reads, Found, on, IsPlaced, IsMoved, AllBefore, AreFound, Extends}
-use Rattle.wb_positions.specs.Rising.{AreRising}
+use Rattle.wb_automata_positions.specs.Rising.{AreRising}
 use Rattle.wb_automata.specs.Inner.Exploring.{IsMove, AreMoves, SetsBelow, RowPass, RowsPass, RowsFrom, StartsAt, AreExplored}
 use Rattle.wb_automata.proofs.OrderLemmas.{earlier_more, earlier_last, earlier_next}
 use Rattle.wb_automata.proofs.PlaceLemmas.{extends_same, extends_more, place_extends, place_found, place_target, place_before, pushed_at}

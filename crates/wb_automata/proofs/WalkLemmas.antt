@@ -9,18 +9,18 @@ use Rattle.wb_lemmas.proofs.Numbers.{place_below}
 use Rattle.wb_regex.specs.Tree.{Tree}
 use Rattle.wb_regex.specs.declared.node.RegexNode.{RegexNode}
 use Rattle.wb_regex.specs.declared.node.RegexNode.TheVariants as n
-use Rattle.wb_positions.specs.declared.tables.Tables.{Tables}
-use Rattle.wb_positions.specs.Rows.{row}
-use Rattle.wb_positions.specs.Leaves.{holds_of, node_holds}
+use Rattle.wb_automata_positions.specs.declared.tables.Tables.{Tables}
+use Rattle.wb_automata_positions.specs.Rows.{row}
+use Rattle.wb_automata_positions.specs.Leaves.{holds_of, node_holds}
 use Rattle.wb_automata.specs.Inner.Found.{Found, on}
 use Rattle.wb_automata.specs.Inner.Exploring.{IsMove, AreExplored, StartsAt}
-use Rattle.wb_positions.specs.Classes.{AreClasses}
+use Rattle.wb_automata_positions.specs.Classes.{AreClasses}
 use Rattle.wb_automata.specs.Inner.Accepted.{AreAccepted}
 use Rattle.wb_automata.specs.Automata.{AutomatonView, Path, MatchesIn, GoesOn, AreAlike, LeadsTo, IsFound, most_states}
-use Rattle.wb_positions.specs.Tables.{AreTables}
+use Rattle.wb_automata_positions.specs.Tables.{AreTables}
 use Rattle.wb_automata.specs.Kept.{IsStepOf, IsAutomaton}
-use Rattle.wb_positions.proofs.ErasingLemmas.{byte_within}
-use Rattle.wb_positions.proofs.TableLemmas.{nodes_many}
+use Rattle.wb_automata_positions.proofs.ErasingLemmas.{byte_within}
+use Rattle.wb_automata_positions.proofs.TableLemmas.{nodes_many}
 use Rattle.wb_automata.proofs.OrderLemmas.{IsLatest, latest_next, latest_more, latest_last}
 use Rattle.wb_automata.proofs.WholeLemmas.{blank, Represents, move_step, represents, start_represents, alike, accepts_exact, not_empty}
 use Rattle.wb_automata.proofs.WholeLemmas.{filled}

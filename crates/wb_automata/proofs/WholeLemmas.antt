@@ -10,24 +10,24 @@ use Rattle.wb_termset.specs.Sets.{IsMember}
 use Rattle.wb_regex.specs.Tree.{Tree, Set}
 use Rattle.wb_regex.specs.declared.node.RegexNode.{RegexNode}
 use Rattle.wb_regex.specs.declared.node.RegexNode.TheVariants as n
-use Rattle.wb_positions.specs.declared.tables.Tables.{Tables}
-use Rattle.wb_positions.specs.PositionTrees.{PositionTree, Matches}
-use Rattle.wb_positions.specs.Rows.{row}
-use Rattle.wb_positions.specs.Transitions.{Ahead}
+use Rattle.wb_automata_positions.specs.declared.tables.Tables.{Tables}
+use Rattle.wb_automata_positions.specs.PositionTrees.{PositionTree, Matches}
+use Rattle.wb_automata_positions.specs.Rows.{row}
+use Rattle.wb_automata_positions.specs.Transitions.{Ahead}
 use Rattle.wb_automata.specs.Inner.Found.{Reads, Found, AreFound, on}
-use Rattle.wb_positions.specs.Leaves.{holds_of, node_holds}
-use Rattle.wb_positions.specs.Inner.Stands.{Stands, IsNext}
-use Rattle.wb_positions.specs.Inner.Spans.{Ranges}
-use Rattle.wb_positions.specs.PositionSets.{Filled}
-use Rattle.wb_positions.specs.Forests.{IsForest}
+use Rattle.wb_automata_positions.specs.Leaves.{holds_of, node_holds}
+use Rattle.wb_automata_positions.specs.Inner.Stands.{Stands, IsNext}
+use Rattle.wb_automata_positions.specs.Inner.Spans.{Ranges}
+use Rattle.wb_automata_positions.specs.PositionSets.{Filled}
+use Rattle.wb_automata_positions.specs.Forests.{IsForest}
 use Rattle.wb_automata.specs.Inner.Exploring.{IsMove}
 use Rattle.wb_automata.specs.Automata.{Path, IsConsidered, IsMatch, MatchesIn, GoesOn, AreAlike}
-use Rattle.wb_positions.specs.Tables.{AreTables}
-use Rattle.wb_positions.specs.Sizes.{bound_of}
+use Rattle.wb_automata_positions.specs.Tables.{AreTables}
+use Rattle.wb_automata_positions.specs.Sizes.{bound_of}
 use Rattle.wb_automata.specs.Kept.{IsStepOf}
-use Rattle.wb_positions.proofs.ErasingLemmas.{erased, placed}
-use Rattle.wb_positions.proofs.NodeLemmas.{covers_spans}
-use Rattle.wb_positions.proofs.StandsLemmas.{stands_first, stands_next, accepts, alive, some_text}
+use Rattle.wb_automata_positions.proofs.ErasingLemmas.{erased, placed}
+use Rattle.wb_automata_positions.proofs.NodeLemmas.{covers_spans}
+use Rattle.wb_automata_positions.proofs.StandsLemmas.{stands_first, stands_next, accepts, alive, some_text}
 
 pub forest_ranges : (nodes : List RegexNode) (trees : List PositionTree) (bound : ℕ → ℕ) → IsForest nodes trees bound → Ranges trees bound
 forest_ranges nodes trees bound h = record { spans = λ k t at. covers_spans (h.covers k t at); rises = h.rises }

@@ -1,8 +1,8 @@
 -- What an automaton keeps: a start for each set, a table of moves by classes of bytes, and a list of terminals for each state.
 use Rattle.std.specs.Prelude.{◌≡◌, ◌+◌, ◌*◌, ◌<◌, ◌≤◌, ◌↔◌, ℕ, Option, Some, None, List, [], ◌∷◌, ◌++◌, Contains, length, slice_get}
 use Rattle.std.specs.Prelude.{slice_index, slice_index_or}
-use Rattle.wb_positions.specs.Rows.{row}
-use Rattle.wb_positions.specs.Rising.{AreRising}
+use Rattle.wb_automata_positions.specs.Rows.{row}
+use Rattle.wb_automata_positions.specs.Rising.{AreRising}
 use Rattle.wb_automata.specs.Automata.{AutomatonView, Path, MatchesIn, GoesOn, AreAlike, IsOrdered, IsMatch, LeadsTo, most_states}
 
 -- the byte leads from the path to this state, and some match goes on so

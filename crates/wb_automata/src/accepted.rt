@@ -1,15 +1,15 @@
 //! Which terminals does each state accept?
 
 ghost use Rattle.std.specs.Prelude.{◌≡◌, ◌<◌, ◌↔◌, ◌∷◌, ◌++◌, [], ℕ, Some, All, Contains, IfOk, List, length, slice_get};
-ghost use Rattle.wb_positions.specs.Rising.{AreRising};
-ghost use Rattle.wb_positions.specs.Rows.{AreBelow};
-ghost use Rattle.wb_positions.specs.Transitions.{Ahead};
+ghost use Rattle.wb_automata_positions.specs.Rising.{AreRising};
+ghost use Rattle.wb_automata_positions.specs.Rows.{AreBelow};
+ghost use Rattle.wb_automata_positions.specs.Transitions.{Ahead};
 ghost use Rattle.wb_automata.specs.Inner.Accepted.{AreAccepted, IsAccepted};
 
 use crate::flat_rows::FlatRows;
 use crate::states::States;
 use std::alloc::{AllocError, Global};
-use wb_positions::{Rows, successors};
+use wb_automata_positions::{Rows, successors};
 
 // The terminals with which some leaf of each state may end.
 pub(crate) fn accepted_of(

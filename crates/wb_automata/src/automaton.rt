@@ -4,12 +4,12 @@
 
 ghost use Rattle.std.specs.Prelude.{◌≡◌, ◌<◌, ◌≤◌, ◌↔◌, ◌++◌, ◌∷◌, ℕ, [], Contains, IfOk, IfSome, IsNone, IsTrue, List, Some, length, slice_get};
 ghost use Rattle.wb_automata.specs.Automata.{IsMatch, MatchesIn, GoesOn, LeadsTo, IsOrdered, Path, most_states};
-ghost use Rattle.wb_positions.specs.Rising.{AreRising};
+ghost use Rattle.wb_automata_positions.specs.Rising.{AreRising};
 ghost use Rattle.wb_automata.specs.Inner.Accepted.{AreAccepted};
 ghost use Rattle.wb_automata.specs.Inner.Exploring.{AreExplored};
-ghost use Rattle.wb_positions.specs.Rows.{AreBelow};
-ghost use Rattle.wb_positions.specs.Tables.{AreTables};
-ghost use Rattle.wb_positions.specs.Transitions.{IsTable};
+ghost use Rattle.wb_automata_positions.specs.Rows.{AreBelow};
+ghost use Rattle.wb_automata_positions.specs.Tables.{AreTables};
+ghost use Rattle.wb_automata_positions.specs.Transitions.{IsTable};
 
 use crate::accepted::accepted_of;
 use crate::explore::{Explored, explore};
@@ -19,8 +19,8 @@ use crate::predecessor::Predecessor;
 use crate::text::text_at;
 use std::alloc::{AllocError, Global};
 use std::marker::Model;
+use wb_automata_positions::{Tables, classes_of, tables_of};
 use wb_base::{Bytes, push};
-use wb_positions::{Tables, classes_of, tables_of};
 use wb_regex::Regex;
 use wb_termset::TermSet;
 

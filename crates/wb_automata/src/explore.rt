@@ -4,17 +4,17 @@
 
 ghost use Rattle.std.specs.Prelude.{◌≡◌, ◌+◌, ◌^◌, ◌<◌, ◌≤◌, IfOk, [], length};
 ghost use Rattle.wb_automata.specs.Inner.Found.{IsPlaced};
-ghost use Rattle.wb_positions.specs.Transitions.{IsTable};
-ghost use Rattle.wb_positions.specs.Rows.{row};
-ghost use Rattle.wb_positions.specs.Rising.{AreRising};
+ghost use Rattle.wb_automata_positions.specs.Transitions.{IsTable};
+ghost use Rattle.wb_automata_positions.specs.Rows.{row};
+ghost use Rattle.wb_automata_positions.specs.Rising.{AreRising};
 ghost use Rattle.wb_automata.specs.Inner.Exploring.{RowsPass, RowsFrom, AreExplored};
 
 use crate::moves::Moves;
 use crate::predecessor::Predecessor;
 use crate::states::States;
 use std::alloc::{AllocError, Global};
+use wb_automata_positions::Tables;
 use wb_base::push;
-use wb_positions::Tables;
 
 // The states, where the bytes lead from each, and the state at the start of each set.
 #[derive(Drop)]

@@ -1,7 +1,7 @@
 //! A list of numbers for each place, one after the other in one vector.
 
 ghost use Rattle.std.specs.Prelude.{◌≡◌, ◌<◌, ◌++◌, ◌∷◌, [], IfOk, length};
-ghost use Rattle.wb_positions.specs.Rows.{row};
+ghost use Rattle.wb_automata_positions.specs.Rows.{row};
 ghost use Rattle.wb_automata.specs.Inner.FlatRows.{start_at};
 
 use std::alloc::{AllocError, Global};

@@ -7,15 +7,15 @@ ghost use Rattle.std.specs.Prelude.{◌≡◌, ◌<◌, ◌∷◌, ℕ, [], fals
 ghost use Rattle.wb_regex.specs.Filled.{Filled};
 ghost use Rattle.wb_automata.specs.Automata.{LeadsTo, MatchesIn};
 ghost use Rattle.wb_automata.specs.Inner.LeastStates.{HasAll, IsLeastState};
-ghost use Rattle.wb_positions.specs.Tables.{AreTables};
+ghost use Rattle.wb_automata_positions.specs.Tables.{AreTables};
 ghost use Rattle.wb_automata.specs.Overlaps.{IsLeastMatch, IsOverlap};
 
 use crate::automaton::Automaton;
 use crate::pairs::least_shared;
 use crate::shared::Overlap;
 use std::alloc::{AllocError, Global};
+use wb_automata_positions::{Tables, tables_of};
 use wb_base::{Bytes, push};
-use wb_positions::{Tables, tables_of};
 use wb_regex::Regex;
 use wb_termset::TermSet;
 

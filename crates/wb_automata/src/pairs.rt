@@ -5,7 +5,7 @@
 
 ghost use Rattle.std.specs.Prelude.{◌≡◌, ◌+◌, ◌*◌, ◌/◌, ◌%◌, ◌^◌, ◌<◌, ◌↔◌, ◌++◌, ◌∷◌, [], ℕ, All, IfOk, IsTrue, false, length, replicate};
 ghost use Rattle.wb_automata.specs.Paths.{path_by, paths_of};
-ghost use Rattle.wb_positions.specs.Rows.{row};
+ghost use Rattle.wb_automata_positions.specs.Rows.{row};
 ghost use Rattle.wb_automata.specs.Inner.Pairs.{Adds, Any, AreApart, AreFirsts, AreMet, AreTwo, CompletesBoth, HasEnd, HasFlags, IsAfter, IsCompletion, IsEnding, IsPassed, IsRight, IsWalked, met_of};
 
 use crate::automaton::has;
@@ -13,8 +13,8 @@ use crate::predecessor::Predecessor;
 use crate::shared::Overlap;
 use crate::text::text_at;
 use std::alloc::{AllocError, Global};
+use wb_automata_positions::{Leaves, Rows, Tables, classes_of, holds};
 use wb_base::push;
-use wb_positions::{Leaves, Rows, Tables, classes_of, holds};
 use wb_termset::TermSet;
 
 // The pairs that were met, in groups, and from where each group was met. With m rows of the tables the pair of the places

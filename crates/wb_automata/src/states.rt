@@ -7,14 +7,14 @@ ghost use Rattle.wb_base.specs.Different.{Differ};
 ghost use Rattle.wb_automata.specs.Automata.{Path};
 ghost use Rattle.wb_automata.specs.Inner.Found.{IsPlaced, IsMoved};
 ghost use Rattle.wb_automata.specs.Paths.{path_by, paths_of};
-ghost use Rattle.wb_positions.specs.Transitions.{Ahead, IsPlaceList, IsTable};
+ghost use Rattle.wb_automata_positions.specs.Transitions.{Ahead, IsPlaceList, IsTable};
 
 use crate::predecessor::Predecessor;
 use indexmap::IndexSet;
 use std::alloc::{AllocError, Global};
 use std::marker::Model;
+use wb_automata_positions::{Leaves, Tables, reading, successors};
 use wb_base::push;
-use wb_positions::{Leaves, Tables, reading, successors};
 use wb_regex::RegexNode;
 
 // The states that were found, and from where.

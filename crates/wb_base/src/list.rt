@@ -4,10 +4,10 @@
 
 ghost use Rattle.std.specs.Prelude.{◌≡◌, ◌++◌, ◌∷◌, [], OnErr, OnOk, length};
 
+use crate::Sequence;
 use std::alloc::{AllocError, Global};
 use std::marker::Model;
 use std::mem::replace;
-use crate::Sequence;
 
 /// Values in order.
 pub struct List<T> {

@@ -1,3 +1,7 @@
+mod BesideLemmas
+mod MarkLemmas
+mod PreferenceLemmas
 mod ValueLemmas
-mod HostLemmas
-mod RefusalLemmas
+mod ExtensionLemmas
+mod AnswerLemmas
+mod NameLemmas

@@ -1,100 +1,154 @@
--- What is known of a resolved host after each test.
-use Rattle.std.proofs.Common.{◌≡◌, ◌∙◌, Result, Ok, Err, IfOk, IfErr, None, ℕ, List, [], All, length, map, sym, ap, subst, inr}
-use Rattle.std.specs.Prelude.{Option, option_map}
-use Rattle.wb_attributes.specs.Modular.{AreWellDefinedAttributes}
+-- What is known of a host with an extension after each test.
+use Rattle.std.proofs.Common.{◌≡◌, Some, None, List, sym, subst, refl}
+use Rattle.std.specs.Prelude.{IfSome, IsSome, Option, option_map}
 use Rattle.wb_base.specs.Grammar.{GrammarView}
+use Rattle.wb_certify_host.specs.Hosts.{CertifiedView, IsCertified}
+use Rattle.wb_certify_host.specs.Refusals.{start_of}
+use Rattle.wb_certify_host.specs.declared.refusal.CertifyRefusal.{CertifyRefusal}
+use Rattle.wb_certify_host.specs.declared.refusal.CertifyRefusal.TheVariants as c
 use Rattle.wb_complete.specs.Refusals.{CompleteOk}
-use Rattle.wb_determinism.specs.Lexicons.{preference_pairs}
-use Rattle.wb_determinism.proofs.HostLemmas.{edges_below}
-use Rattle.wb_flow.specs.Refusals.{FlowsOk, IsTrueFlowRefusal}
-use Rattle.wb_flow.specs.declared.refusal.AttributeRefusal.{AttributeRefusal}
-use Rattle.wb_graph.specs.Graphs.{IsEdgeBelow}
+use Rattle.wb_determinism_host.specs.Hosts.{AreHostParts}
+use Rattle.wb_determinism_host.specs.Refusals.{IsNoMemory}
+use Rattle.wb_determinism_host.specs.declared.parts.HostParts.{HostParts}
+use Rattle.wb_determinism_host.specs.declared.refusal.DeterminismRefusal.{DeterminismRefusal}
+use Rattle.wb_determinism.specs.Extensions.{IsDeterministicExtension, IsHostBeside}
+use Rattle.wb_determinism.specs.declared.parts.ExtensionParts.{ExtensionParts}
 use Rattle.wb_operations.specs.Operations.{OperationSignature}
-use Rattle.wb_resolved.specs.declared.resolved.ResolvedParts.{ResolvedParts}
-use Rattle.wb_resolved.specs.declared.terminal.Preference.{Preference}
-use Rattle.wb_resolved.specs.Resolved.{IsResolved}
+use Rattle.wb_syntax_resolved.specs.declared.resolved.ResolvedParts.{ResolvedParts}
 use Rattle.wb_types.specs.Rules.{KindsOk}
-use Rattle.wb_determinism.specs.declared.parts.HostParts.{HostParts}
-use Rattle.wb_certify.specs.Hosts.{IsCertified, IsCertifiedValue}
-use Rattle.wb_certify.specs.Refusals.{IsAttributeRefusal, IsDeterministic, start_of}
-use Rattle.wb_certify.specs.WellDefined.{HasWellDefinedAttributes}
-use Rattle.wb_certify.specs.Inner.Tests.{AreComplete}
+use Rattle.wb_certify.specs.Extensions.{IsCertifiedBeside}
+use Rattle.wb_certify.specs.Kept.{ArePartsBeside, Extends, IsKept}
+use Rattle.wb_certify.specs.Refusals.{IsAttributeRefusal, IsBesideRefusal, IsReason}
+use Rattle.wb_certify.specs.Inner.Tests.{ArePartsFound, AttributesOk, IsAttributesReason, IsFound, IsLaterRefusal, IsMade}
+use Rattle.wb_certify.specs.Inner.Tests.{IsMadeCertified, IsReasonBeside}
+use Rattle.wb_certify.proofs.BesideLemmas.{for_some, has_start, host_beside}
 
--- pairs that were listed are the preferences
-pub pairs_are : (r parts : ResolvedParts) (preferences : List Preference) (items edges : List (ℕ × ℕ)) → parts ≡ r
-    → preferences ≡ parts.preferences → items ≡ map (λ (p : Preference). (p.first, p.second)) preferences → edges ≡ items
-    → edges ≡ preference_pairs r
-pairs_are r parts preferences items edges same of are is =
-    is ∙ are ∙ ap (λ (ps : List Preference). map (λ (p : Preference). (p.first, p.second)) ps) of ∙ ap preference_pairs same
+-- what is there
+some_of : {X : Type 0} (o : Option X) → IsSome o → (x : X) × (o ≡ Some x)
+some_of (Some x) is = (x, refl)
+some_of None is = absurd (cc is)
 
--- they are between terminals
-pub pairs_below : (r parts : ResolvedParts) (count : ℕ) (edges : List (ℕ × ℕ)) → IsResolved r → parts ≡ r → count ≡ length parts.terminals
-    → edges ≡ preference_pairs r → All (IsEdgeBelow count) edges
-pairs_below r parts count edges is same counted are =
-    subst (λ (n : ℕ). All (IsEdgeBelow n) edges) (sym (counted ∙ ap (λ (q : ResolvedParts). length q.terminals) same))
-    (subst (λ (es : List (ℕ × ℕ)). All (IsEdgeBelow (length r.terminals)) es) (sym are) (edges_below r is.preferences))
+module _ (host : CertifiedView) (r : ResolvedParts) (parts : HostParts) (extends : Extends host.resolved r) (is_host : IsCertified host)
+    (are : parts ≡ host.parts) where
+  abbrev host_grammar : GrammarView
+  host_grammar = is_host.certified.grammar
 
--- attributes that are complete, where they are tested for flow too
-pub flows_also : (r parts : ResolvedParts) (start : Option ℕ) {X : Type 0} (result : Result X AttributeRefusal) → parts ≡ r
-    → start ≡ start_of r → CompleteOk parts.attributes start None → IfOk result (λ done. FlowsOk parts.attributes)
-    → IfOk result (λ done. AreComplete r × FlowsOk r.attributes)
-flows_also r parts start (Ok done) same is complete flows = (
-  subst (λ (s : Option ℕ). CompleteOk r.attributes s None) is
-      (subst (λ (q : ResolvedParts). CompleteOk q.attributes start None) same complete),
-  subst (λ (q : ResolvedParts). FlowsOk q.attributes) same flows,
-)
-flows_also r parts start (Err refusal) same is complete flows = tt
+  own : AreHostParts host.resolved host_grammar parts
+  own = subst (AreHostParts host.resolved host_grammar) (sym are) (is_host.parts host_grammar is_host.certified.start)
 
--- and the other way round
-pub flow_refused : (r parts : ResolvedParts) (start : Option ℕ) {X : Type 0} (result : Result X AttributeRefusal) → parts ≡ r
-    → start ≡ start_of r → CompleteOk parts.attributes start None → IfErr result (IsTrueFlowRefusal parts.attributes)
-    → IfErr result (λ refusal. IsAttributeRefusal r (start_of r) refusal)
-flow_refused r parts start (Ok done) same is complete refused = tt
-flow_refused r parts start (Err refusal) same is complete refused =
-    inr (
-      subst (λ (s : Option ℕ). CompleteOk r.attributes s None) is
-          (subst (λ (q : ResolvedParts). CompleteOk q.attributes start None) same complete),
-      subst (λ (q : ResolvedParts). IsTrueFlowRefusal q.attributes refusal) same refused,
-    )
+  -- there is a start
+  pub start_is : IsSome r.grammar
+  start_is = has_start host.resolved r extends.0 extends.1 host_grammar is_host.certified.start
 
--- what is complete and keeps to its flow types is well defined
-pub well_defined : (r : ResolvedParts) (operations : List OperationSignature) → r.attributes.extensions ≡ []
-    → KindsOk r.attributes operations → AreComplete r → FlowsOk r.attributes → HasWellDefinedAttributes r operations
-well_defined r operations alone kinds complete flows = record {
-  alone = alone;
-  kinds = kinds;
-  attributes = record {
-    productions = λ number production there. record {
-      top = complete.top number production there;
-      below = complete.below number production there;
-      flow_types = flows.flow_types.attributes number production there;
-      forward_flow_type = flows.flow_types.forwards number production there;
-      acyclic = flows.acyclic number production there;
-    };
-    forward_needs = flows.forward_needs;
-    start_inherits = complete.start_inherits;
-    forwards = tt;
-    forward_equations = tt;
-  };
-}
+  -- the host's parts are those beside which the extension is tested
+  pub parts_beside : IfSome r.grammar (λ g. IsHostBeside r g parts)
+  parts_beside =
+      for_some r.grammar (λ g. IsHostBeside r g parts) (λ g start.
+      host_beside host.resolved r extends.0 extends.1 host_grammar is_host.certified.start is_host.whole g start parts own)
+
+  -- where it is deterministic beside these parts, it is beside the host
+  found : (made : ExtensionParts) → ArePartsFound r parts made → IsFound host.resolved r
+  found made is =
+      let there = some_of r.grammar start_is in
+      let one = is there.0 there.1 in record {
+        host_grammar = host_grammar;
+        host_start = is_host.certified.start;
+        grammar = there.0;
+        start = there.1;
+        deterministic = record {
+          markers = one.markers;
+          deterministic = subst (IsDeterministicExtension r there.0) own.grammar one.deterministic;
+        };
+      }
+
+  -- and the parts that were made are those of the extended grammar
+  pub made_beside : (made : ExtensionParts) → ArePartsFound r parts made → IsMade host r made
+  made_beside made is = record {
+    host_certified = is_host;
+    found = found made is;
+    beside = subst (λ (p : HostParts). ArePartsBeside r p made) are (λ g start. (is g start).made);
+  }
+
+  -- where it isn't, it isn't beside the host for the same reason
+  pub not_found : (refusal : DeterminismRefusal) → IsReasonBeside r parts.grammar refusal → ¬ IsNoMemory refusal
+      → IsLaterRefusal host.resolved r (c.Determinism refusal)
+  not_found refusal reason other operations kinds =
+      let there = some_of r.grammar start_is in (
+        record {
+          kinds = kinds;
+          host_grammar = host_grammar;
+          host_start = is_host.certified.start;
+          grammar = there.0;
+          start = there.1;
+          reason = subst (λ (k : GrammarView). IsReason r there.0 k refusal) own.grammar (reason there.0 there.1);
+        },
+        other,
+      )
 
 -- all tests together
-pub certified : (r : ResolvedParts) (operations : List OperationSignature) → r.attributes.extensions ≡ []
-    → KindsOk r.attributes operations → IsDeterministic r → AreComplete r → FlowsOk r.attributes → IsCertifiedValue r operations
-certified r operations alone kinds is complete flows = record {
-  alone = alone;
+pub certified : (host r : ResolvedParts) (operations : List OperationSignature) → Extends host r → KindsOk r.attributes operations
+    → IsFound host r → AttributesOk r.attributes (start_of r) → IsCertifiedBeside host r operations
+certified host r operations extends kinds is ok = record {
+  name = extends.0.name;
+  one = extends.1.value.extensions;
   kinds = kinds;
+  host_grammar = is.host_grammar;
+  host_start = is.host_start;
   grammar = is.grammar;
   start = is.start;
   deterministic = is.deterministic;
-  attributes = subst (λ (o : Option GrammarView). AreWellDefinedAttributes r.attributes (option_map (λ (g : GrammarView). g.start) o) None)
-      is.start (well_defined r operations alone kinds complete flows).attributes;
+  attributes = record {
+    productions = λ number production there. record {
+      top = ok.complete.top number production there;
+      below = ok.complete.below number production there;
+      flow_types = ok.flows.flow_types.attributes number production there;
+      forward_flow_type = ok.flows.flow_types.forwards number production there;
+      acyclic = ok.flows.acyclic number production there;
+    };
+    forward_needs = ok.flows.forward_needs;
+    start_inherits = started.start_inherits;
+    forwards = ok.complete.forwards;
+    forward_equations = ok.forwards;
+  };
 }
+  where
+    started : CompleteOk r.attributes (Some is.grammar.start) (Some 1)
+    started = subst (λ (o : Option GrammarView). CompleteOk r.attributes (option_map (λ (g : GrammarView). g.start) o) (Some 1)) is.start
+        ok.complete
+
+-- where attributes aren't well defined, it isn't certified
+pub attributes_refused : (host r : ResolvedParts) (operations : List OperationSignature) → KindsOk r.attributes operations → IsFound host r
+    → (refusal : CertifyRefusal) → IsAttributesReason r refusal → IsBesideRefusal host r operations refusal
+attributes_refused host r operations kinds is (c.Names refusal) reason = absurd reason
+attributes_refused host r operations kinds is (c.Types refusal) reason = absurd reason
+attributes_refused host r operations kinds is c.NoStart reason = absurd reason
+attributes_refused host r operations kinds is (c.Determinism refusal) reason = absurd reason
+attributes_refused host r operations kinds is (c.Attributes refusal) (reason, other) = (
+  record {
+    kinds = kinds;
+    host_grammar = is.host_grammar;
+    host_start = is.host_start;
+    grammar = is.grammar;
+    start = is.start;
+    deterministic = is.deterministic;
+    reason = subst (λ (o : Option GrammarView). IsAttributeRefusal r.attributes (option_map (λ (g : GrammarView). g.start) o) refusal)
+        is.start reason;
+  },
+  other,
+)
+attributes_refused host r operations kinds is (c.NoMemory error) reason = tt
 
 -- what is kept of it, with copies
-pub kept_of : (r copied : ResolvedParts) (operations kept : List OperationSignature) (parts : HostParts) → copied ≡ r → kept ≡ operations
-    → IsCertified (record { resolved = r; parts = parts; operations = operations })
-    → IsCertified (record { resolved = copied; parts = parts; operations = kept })
-kept_of r copied operations kept parts same also is =
-    subst (λ (q : ResolvedParts). IsCertified (record { resolved = q; parts = parts; operations = kept })) (sym same)
-    (subst (λ (os : List OperationSignature). IsCertified (record { resolved = r; parts = parts; operations = os })) (sym also) is)
+pub kept_of : (host : CertifiedView) (base r copied : ResolvedParts) (operations kept : List OperationSignature) (parts : ExtensionParts)
+    → base ≡ host.resolved → copied ≡ r → kept ≡ host.operations → operations ≡ host.operations → Extends host.resolved r
+    → IsMadeCertified host r operations parts → IsKept (record { host = base; resolved = copied; parts = parts; operations = kept })
+kept_of host base r copied operations kept parts same also again alike extends made =
+    subst (λ (b : ResolvedParts). IsKept (record { host = b; resolved = copied; parts = parts; operations = kept })) (sym same)
+    (subst (λ (q : ResolvedParts). IsKept (record { host = host.resolved; resolved = q; parts = parts; operations = kept })) (sym also)
+    (subst (λ (os : List OperationSignature). IsKept (record { host = host.resolved; resolved = r; parts = parts; operations = os }))
+    (sym again) (record {
+      host_certified = made.host_certified.certified;
+      extends = extends;
+      certified = subst (IsCertifiedBeside host.resolved r) alike made.certified;
+      parts = record { host_parts = host.parts; of_host = made.host_certified.parts; beside = made.beside };
+    })))

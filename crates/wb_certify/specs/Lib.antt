@@ -1,8 +1,10 @@
--- when a resolved host is certified
-pub mod Hosts
+-- when an extension is certified with its host
+pub mod Extensions
 -- why it isn't, each reason with a true example where no earlier one holds
 pub mod Refusals
--- when the attributes of a resolved host are well defined, and why they aren't
-pub mod WellDefined
+-- what is kept of a certified extension
+pub mod Kept
+-- that there is one answer
+pub mod OneAnswer
 -- what only proofs need
 pub mod Inner

@@ -1,60 +1,75 @@
-//! What is kept of a certified host?
+//! What is kept of a certified extension?
 
-ghost use Rattle.std.specs.Prelude.{◌≡◌, Some};
-ghost use Rattle.wb_base.specs.Grammar.{GrammarView};
-ghost use Rattle.wb_determinism.specs.Hosts.{AreHostParts};
-ghost use Rattle.wb_certify.specs.Hosts.{IsCertified, IsCertifiedValue};
+ghost use Rattle.std.specs.Prelude.{◌≡◌};
+ghost use Rattle.wb_certify_host.specs.Hosts.{IsCertifiedValue};
+ghost use Rattle.wb_certify.specs.Extensions.{IsCertifiedBeside, IsOneExtension};
+ghost use Rattle.wb_certify.specs.Kept.{AreKeptParts, Extends};
 
 use std::marker::Model;
-use wb_determinism::HostParts;
+use wb_determinism::ExtensionParts;
 use wb_operations::OperationSignatures;
-use wb_resolved::Resolved;
+use wb_syntax_resolved::Resolved;
 
-/// A host that is certified over operations of these signatures.
+/// An extension that is certified with its host, over operations of these signatures.
 ///
-/// Each of its expressions is of its kind, it has a start, it is deterministic whatever certified extensions may come, and its attributes
-/// are well defined.
-pub struct CertifiedHost {
+/// The host is certified. With the extension each expression is of its kind, markers keep their rules, the extension is deterministic
+/// beside the host, and its attributes are well defined, whatever other extensions there are.
+pub struct CertifiedExtension {
+    pub(crate) host: Resolved,
     pub(crate) resolved: Resolved,
-    pub(crate) parts: HostParts,
+    pub(crate) parts: ExtensionParts,
     pub(crate) operations: OperationSignatures,
 }
 
-impl Model for CertifiedHost {
+impl Model for CertifiedExtension {
     ghost use Rattle.std.specs.Coded.{codes};
     ghost use Rattle.wb_regex.specs.contracts.regex.Regex as regex;
-    ghost use Rattle.wb_certify.specs.Hosts.{CertifiedView, IsCertified};
+    ghost use Rattle.wb_certify.specs.Kept.{ExtensionView, IsKept};
 
-    ghost Value = { CertifiedView };
+    ghost Value = { ExtensionView };
 
     ghost coded = { Prim.hlevel (codes, regex.the_row.coded) };
 
-    ghost view = { λ h. record { resolved = h.resolved; parts = h.parts; operations = h.operations } };
+    ghost view = { λ e. record { host = e.host; resolved = e.resolved; parts = e.parts; operations = e.operations } };
 
-    ghost invariant = { λ h. IsCertified (record { resolved = h.resolved; parts = h.parts; operations = h.operations }) };
+    ghost invariant = { λ e. IsKept (record { host = e.host; resolved = e.resolved; parts = e.parts; operations = e.operations }) };
 }
 
-impl CertifiedHost {
-    /// The name of the host.
+impl CertifiedExtension {
+    /// The name of the extension.
     pub fn name(&self) -> &[u8]
-        ensures { result.now ≡ self.now.resolved.host }
+        ensures { IsOneExtension self.now.resolved result.now }
     {
-        self.resolved.parts().host.as_slice()
+        self.resolved
+            .parts()
+            .attributes
+            .parts()
+            .extensions
+            .as_slice()[0]
+            .as_slice()
     }
 
-    /// The host by numbers.
+    /// The host by numbers, without the extension.
+    pub fn host(&self) -> &Resolved
+        ensures host { result.now ≡ self.now.host }
+        ensures certified { IsCertifiedValue self.now.host self.now.operations }
+    {
+        &self.host
+    }
+
+    /// The host with the extension by numbers, of which the extension is owner 1.
     pub fn resolved(&self) -> &Resolved
         ensures resolved { result.now ≡ self.now.resolved }
-        ensures certified { IsCertifiedValue self.now.resolved self.now.operations }
+        ensures extends { Extends self.now.host self.now.resolved }
+        ensures certified { IsCertifiedBeside self.now.host self.now.resolved self.now.operations }
     {
         &self.resolved
     }
 
-    /// What is made of its grammar with holes.
-    pub fn parts(&self) -> &HostParts
+    /// What is made of the grammar of host and extension, with holes.
+    pub fn parts(&self) -> &ExtensionParts
         ensures parts { result.now ≡ self.now.parts }
-        ensures of_grammar { (g : GrammarView) → self.now.resolved.grammar ≡ Some g → AreHostParts self.now.resolved g self.now.parts }
-        ensures certified { IsCertified self.now }
+        ensures of_grammar { AreKeptParts self.now.host self.now.resolved self.now.parts }
     {
         &self.parts
     }
@@ -66,21 +81,27 @@ impl CertifiedHost {
         &self.operations
     }
 
-    /// Lets go of the host. A crate that calls this proves no drop of what it holds.
+    /// Lets go of the extension. A crate that calls this proves no drop of what it holds.
     pub fn release(self) {
         drop(self);
     }
 }
 
-impl Drop for CertifiedHost {
+// By the calls that let go of its parts, so that no drop of what they hold is proved again.
+impl Drop for CertifiedExtension {
     fn drop(self) {
-        let CertifiedHost {
+        let CertifiedExtension {
+            host,
             resolved,
             parts,
             operations,
         } = self;
-        drop(resolved);
+        host.release();
+        resolved.release();
         parts.release();
-        drop(operations);
+        operations.release();
     }
 }
+
+/// Lets go of extensions, as [`CertifiedExtension::release`] does of one.
+pub fn release_extensions(_: Vec<CertifiedExtension>) {}

@@ -1,16 +1,21 @@
-//! Certified hosts: languages that are deterministic and whose attributes are well defined, whatever certified extensions may come.
+//! Certified extensions: what may be composed with a host and other such extensions, each certified with the host alone.
 //!
-//! The rules are tested in the order in which they are reported. What each says is in the crates below.
+//! The rules are tested in the order in which they are reported, and nothing of another extension is looked at. What each says is in the
+//! crates below.
 #![tactic(auto)]
 
+mod attributes;
+mod both;
 mod certified;
-mod host;
-mod refusal;
+mod determinism;
+mod extension;
+mod laws;
+mod marks;
 mod value;
-mod well_defined;
 
-pub use certified::CertifiedHost;
-pub use host::certify_host;
-pub use refusal::CertifyRefusal;
-pub use value::{certify_resolved, start};
-pub use well_defined::check_well_defined;
+pub use both::certified_both;
+pub use certified::{CertifiedExtension, release_extensions};
+pub use extension::certify_extension;
+pub use laws::{names_law, one_answer_law};
+pub use value::certify_beside;
+pub use wb_certify_host::{CertifiedHost, certify_host};

@@ -1,90 +1,120 @@
-//! Is a resolved host certified? Each test after names, in the order in which refusals are reported.
+//! Is a resolved host with an extension certified, beside the certified host? Each test after names, in the order in which refusals are
+//! reported.
 
-ghost use Rattle.std.specs.Prelude.{◌≡◌, [], IfErr, IfOk, None};
-ghost use Rattle.wb_flow.specs.Refusals.{FlowsOk};
+ghost use Rattle.std.specs.Prelude.{◌≡◌, IfErr, IfOk};
+ghost use Rattle.wb_syntax_resolved.specs.declared.resolved.ResolvedParts.{ResolvedParts as View};
 ghost use Rattle.wb_types.specs.Rules.{KindsOk};
-ghost use Rattle.wb_certify.specs.Hosts.{IsCertified, IsCertifiedValue};
-ghost use Rattle.wb_certify.specs.Refusals.{IsAttributeRefusal, IsValueRefusal, start_of};
-ghost use Rattle.wb_certify.specs.Inner.Tests.{AreComplete, IsAttributesRefusal, IsFound, IsGrammarRefusal, IsKindRefusal};
+ghost use Rattle.wb_certify_host.specs.Refusals.{start_of};
+ghost use Rattle.wb_certify.specs.Extensions.{IsCertifiedBeside};
+ghost use Rattle.wb_certify.specs.Kept.{ArePartsBeside, Extends};
+ghost use Rattle.wb_certify.specs.Refusals.{IsBesideRefusal};
+ghost use Rattle.wb_certify.specs.Inner.Tests.{AttributesOk, IsAttributesReason, IsLaterRefusal, IsMade, IsMadeCertified};
 
-use crate::{CertifiedHost, CertifyRefusal};
+use crate::CertifiedExtension;
+use crate::attributes::test_attributes;
+use crate::determinism::determinism_beside;
 use std::alloc::{AllocError, Global};
-use wb_base::Sequence;
-use wb_complete::check_complete;
-use wb_determinism::{DeterminismRefusal, HostParts, host_determinism, pairs_of};
-use wb_flow::{AttributeRefusal, check_flow};
-use wb_lexical::preference_cycle;
-use wb_operations::{Meaning, OperationTable};
-use wb_resolved::Resolved;
+use wb_certify_host::{CertifiedHost, CertifyRefusal};
+use wb_determinism::ExtensionParts;
+use wb_determinism_host::DeterminismRefusal;
+use wb_flow::AttributeRefusal;
+use wb_operations::{Meaning, OperationSignatures, OperationTable};
+use wb_syntax_resolved::Resolved;
 use wb_types::{TypeRefusal, check_types};
 
-/// A resolved host as a certified one over a table of operations, or the first rule that fails.
+/// A resolved host with an extension as an extension that is certified with the host over a table of operations, or the first rule that
+/// fails.
 ///
-/// It has no extension: an extension is certified with its host by other rules. Rules of names don't come, since they hold. Others go by
-/// rule, each on the whole host: kinds, then preferences, a start, the grammar and the scanner, and attributes at last. No clause bounds
-/// the time.
-pub fn certify_resolved<M: Meaning>(
+/// The table is one with which the host was certified. Rules of names don't come, since they hold, nor that there is no start, since the
+/// host has one. Others go by code: kinds, then bridges, preferences, markers, grammars and scanners, what the extension may add to the
+/// host, and attributes at last. No clause bounds the time.
+pub fn certify_beside<M: Meaning>(
     alloc: Global,
+    host: &CertifiedHost,
     resolved: &Resolved,
     operations: &OperationTable<M>,
-) -> Result<CertifiedHost, CertifyRefusal>
-    requires { resolved.now.attributes.extensions ≡ [] }
-    ensures resolved { IfOk result (λ host. host.resolved ≡ resolved.now) }
-    ensures operations { IfOk result (λ host. host.operations ≡ operations.now.signatures) }
-    ensures certified { IfOk result (λ host. IsCertifiedValue resolved.now operations.now.signatures) }
-    ensures refused { IfErr result (IsValueRefusal resolved.now operations.now.signatures) }
+) -> Result<CertifiedExtension, CertifyRefusal>
+    requires operations { operations.now.signatures ≡ host.now.operations }
+    requires extends { Extends host.now.resolved resolved.now }
+    ensures host { IfOk result (λ extension. extension.host ≡ host.now.resolved) }
+    ensures resolved { IfOk result (λ extension. extension.resolved ≡ resolved.now) }
+    ensures operations { IfOk result (λ extension. extension.operations ≡ host.now.operations) }
+    ensures parts { IfOk result (λ extension. ArePartsBeside resolved.now host.now.parts extension.parts) }
+    ensures certified { IfOk result (λ extension. IsCertifiedBeside host.now.resolved resolved.now host.now.operations) }
+    ensures refused { IfErr result (IsBesideRefusal host.now.resolved resolved.now host.now.operations) }
 {
-    let copied = resolved.copy()?;
-    let signatures = match operations.signatures().copy() {
-        Ok(signatures) => signatures,
-        Err(error) => {
-            copied.release();
-            return Err(CertifyRefusal::NoMemory(error));
-        }
-    };
-    match certified_parts(alloc, resolved, operations) {
-        Ok(parts) => Ok(CertifiedHost {
+    let parts = parts_beside(alloc, host, resolved, operations)?;
+    match copies_of(host, resolved) {
+        Ok((base, copied, signatures)) => Ok(CertifiedExtension {
+            host: base,
             resolved: copied,
             parts,
             operations: signatures,
         }),
-        Err(refusal) => {
-            copied.release();
-            signatures.release();
-            Err(refusal)
+        Err(error) => {
+            drop(parts);
+            Err(CertifyRefusal::NoMemory(error))
         }
     }
 }
 
-// What is made of a resolved host that is certified.
-fn certified_parts<M: Meaning>(
+// Copies of the host by numbers, of the host with the extension, and of the signatures of operations.
+fn copies_of(
+    host: &CertifiedHost,
+    resolved: &Resolved,
+) -> Result<(Resolved, Resolved, OperationSignatures), AllocError>
+    ensures host { IfOk result (λ made. made.0 ≡ host.now.resolved) }
+    ensures resolved { IfOk result (λ made. made.1 ≡ resolved.now) }
+    ensures operations { IfOk result (λ made. made.2 ≡ host.now.operations) }
+{
+    let base = host.resolved().copy()?;
+    let copied = match resolved.copy() {
+        Ok(copied) => copied,
+        Err(error) => {
+            drop(base);
+            return Err(error);
+        }
+    };
+    match host.operations().copy() {
+        Ok(signatures) => Ok((base, copied, signatures)),
+        Err(error) => {
+            drop(base);
+            drop(copied);
+            Err(error)
+        }
+    }
+}
+
+// What is made of a host with an extension that is certified.
+fn parts_beside<M: Meaning>(
     alloc: Global,
+    host: &CertifiedHost,
     resolved: &Resolved,
     operations: &OperationTable<M>,
-) -> Result<HostParts, CertifyRefusal>
-    requires { resolved.now.attributes.extensions ≡ [] }
-    ensures certified { IfOk result (λ parts. IsCertified (record { resolved = resolved.now; parts = parts; operations = operations.now.signatures })) }
-    ensures refused { IfErr result (IsValueRefusal resolved.now operations.now.signatures) }
+) -> Result<ExtensionParts, CertifyRefusal>
+    requires { Extends host.now.resolved resolved.now }
+    ensures ok { IfOk result (IsMadeCertified host.now resolved.now operations.now.signatures) }
+    ensures refused { IfErr result (IsBesideRefusal host.now.resolved resolved.now operations.now.signatures) }
 {
     check_kinds(alloc, resolved, operations)?;
-    let parts = determinism_of(alloc, resolved)?;
+    let parts = determinism_of(alloc, host, resolved)?;
     match check_attributes(alloc, resolved) {
         Ok(()) => Ok(parts),
         Err(refusal) => {
-            parts.release();
+            drop(parts);
             Err(refusal)
         }
     }
 }
 
 // Whether each expression is of its kind.
-pub(crate) fn check_kinds<M: Meaning>(
+fn check_kinds<M: Meaning>(
     alloc: Global,
     resolved: &Resolved,
     operations: &OperationTable<M>,
 ) -> Result<(), CertifyRefusal>
     ensures ok { IfOk result (λ done. KindsOk resolved.now.attributes operations.now.signatures) }
-    ensures refused { IfErr result (IsKindRefusal resolved.now operations.now.signatures) }
+    ensures refused { IfErr result (λ refusal. (host : View) → IsBesideRefusal host resolved.now operations.now.signatures refusal) }
 {
     match check_types(alloc, resolved, operations) {
         Ok(()) => Ok(()),
@@ -93,70 +123,31 @@ pub(crate) fn check_kinds<M: Meaning>(
     }
 }
 
-// What is made of a deterministic host.
-fn determinism_of(alloc: Global, resolved: &Resolved) -> Result<HostParts, CertifyRefusal>
-    ensures ok { IfOk result (IsFound resolved.now) }
-    ensures refused { IfErr result (IsGrammarRefusal resolved.now) }
+// What is made of host and extension, where the extension is deterministic beside the host.
+fn determinism_of(
+    alloc: Global,
+    host: &CertifiedHost,
+    resolved: &Resolved,
+) -> Result<ExtensionParts, CertifyRefusal>
+    requires { Extends host.now.resolved resolved.now }
+    ensures ok { IfOk result (IsMade host.now resolved.now) }
+    ensures refused { IfErr result (IsLaterRefusal host.now.resolved resolved.now) }
 {
-    if resolved.parts().grammar.is_none() {
-        return Err(without_start(alloc, resolved));
-    }
-    match host_determinism(alloc, resolved) {
-        Ok(parts) => Ok(parts),
+    match determinism_beside(alloc, host.parts(), resolved) {
+        Ok(made) => Ok(made),
         Err(DeterminismRefusal::NoMemory(..)) => Err(CertifyRefusal::NoMemory(AllocError)),
         Err(refusal) => Err(CertifyRefusal::Determinism(refusal)),
     }
 }
 
-// Why a host without a start isn't certified.
-fn without_start(alloc: Global, resolved: &Resolved) -> CertifyRefusal
-    requires { resolved.now.grammar ≡ None }
-    ensures { IsGrammarRefusal resolved.now result }
+// Whether attributes are well defined.
+fn check_attributes(alloc: Global, resolved: &Resolved) -> Result<(), CertifyRefusal>
+    ensures ok { IfOk result (λ done. AttributesOk resolved.now.attributes (start_of resolved.now)) }
+    ensures refused { IfErr result (IsAttributesReason resolved.now) }
 {
-    let parts = resolved.parts();
-    let pairs = match pairs_of(alloc, parts.preferences.as_slice()) {
-        Ok(pairs) => pairs,
-        Err(error) => return CertifyRefusal::NoMemory(error),
-    };
-    let found = preference_cycle(alloc, parts.terminals.len(), &pairs);
-    drop(pairs);
-    match found {
-        Ok(Some(cycle)) => CertifyRefusal::Determinism(DeterminismRefusal::PreferenceCycle(
-            Sequence::from_vec(cycle),
-        )),
-        Ok(None) => CertifyRefusal::NoStart,
-        Err(error) => CertifyRefusal::NoMemory(error),
-    }
-}
-
-// Whether attributes are complete and keep to their flow types.
-pub(crate) fn check_attributes(alloc: Global, resolved: &Resolved) -> Result<(), CertifyRefusal>
-    ensures ok { IfOk result (λ done. AreComplete resolved.now × FlowsOk resolved.now.attributes) }
-    ensures refused { IfErr result (IsAttributesRefusal resolved.now) }
-{
-    match attribute_refusal(alloc, resolved) {
+    match test_attributes(alloc, resolved) {
         Ok(()) => Ok(()),
         Err(AttributeRefusal::NoMemory(error)) => Err(CertifyRefusal::NoMemory(error)),
         Err(refusal) => Err(CertifyRefusal::Attributes(refusal)),
-    }
-}
-
-// The rule of attributes that fails first.
-fn attribute_refusal(alloc: Global, resolved: &Resolved) -> Result<(), AttributeRefusal>
-    ensures ok { IfOk result (λ done. AreComplete resolved.now × FlowsOk resolved.now.attributes) }
-    ensures refused { IfErr result (λ refusal. IsAttributeRefusal resolved.now (start_of resolved.now) refusal) }
-{
-    let parts = resolved.parts();
-    check_complete(alloc, &parts.attributes, start(resolved), None)?;
-    check_flow(alloc, &parts.attributes)
-}
-
-/// The start of a resolved specification, where it has one.
-pub fn start(resolved: &Resolved) -> Option<usize>
-    ensures { result ≡ start_of resolved.now }
-{
-    match &resolved.parts().grammar {
-        Some(grammar) => Some(grammar.start()),
-        None => None,
     }
 }

@@ -1,11 +1,11 @@
 -- The tests of completeness have at most one answer.
 use Rattle.std.proofs.Common.{◌≡◌, inl, inr, ℕ, Option, None, Some, IfSome, sym, subst}
-use Rattle.wb_attributes.specs.WellDefined.{DefinesTop, DefinesBelow}
-use Rattle.wb_attributes.specs.Modular.{EachProduction, InheritsNothing, ForwardsAsExtension}
+use Rattle.wb_flow_theory.specs.WellDefined.{DefinesTop, DefinesBelow}
+use Rattle.wb_flow_theory.specs.Modular.{EachProduction, InheritsNothing, ForwardsAsExtension}
 use Rattle.wb_flow.specs.declared.vertex.Vertex.{Vertex}
 use Rattle.wb_complete.specs.Refusals.{StartHas, LacksForward, LacksEquation, LacksInherited}
 use Rattle.wb_complete.specs.OneAnswer.{CompletenessHasOneAnswer}
-use Rattle.wb_resolved.specs.declared.attribution.AttributionParts.{AttributionParts}
+use Rattle.wb_syntax_resolved.specs.declared.attribution.AttributionParts.{AttributionParts}
 
 -- what holds of some value holds of the one that it is
 of_some : {X : Type 0} (P : X → Type 0) (o : Option X) (x : X) → o ≡ Some x → IfSome o P → P x

@@ -7,10 +7,10 @@ use Rattle.wb_lemmas.proofs.Elements.{all_contained}
 use Rattle.wb_lemmas.proofs.Members.{contains_first, contains_one}
 use Rattle.wb_lemmas.proofs.Places.{at_once}
 use Rattle.wb_graph.specs.Graphs.{AreReached, IsReached, Walk}
-use Rattle.wb_attributes.specs.Modular.{IsBridging, ForwardEquationsReach}
-use Rattle.wb_attributes.specs.Vertices as w
-use Rattle.wb_attributes.specs.Occurrences.{Goes, ForwardNeeds}
-use Rattle.wb_attributes.specs.Flow.{Reaches}
+use Rattle.wb_flow_theory.specs.Modular.{IsBridging, ForwardEquationsReach}
+use Rattle.wb_flow_theory.specs.Vertices as w
+use Rattle.wb_flow_theory.specs.Occurrences.{Goes, ForwardNeeds}
+use Rattle.wb_flow_theory.specs.Flow.{Reaches}
 use Rattle.wb_flow.specs.declared.refusal.AttributeRefusal.{AttributeRefusal}
 use Rattle.wb_flow.specs.declared.refusal.AttributeRefusal.TheVariants as r
 use Rattle.wb_flow.specs.declared.vertex.FlowGraph.{FlowGraph}
@@ -24,16 +24,16 @@ use Rattle.wb_flow.proofs.VertexLemmas.{name_of, name_of_vertex, top_is, directi
 use Rattle.wb_flow.proofs.WalkLemmas.{PlaceOf, place_of_vertex, reaches_walk, walk_leads, reaches_from, reaches_to}
 use Rattle.wb_complete.specs.Inner.ForwardTests.{is_forward, KeepsForward, KeepsFrom, IsOutside, RefusesProduction}
 use Rattle.wb_complete.specs.ForwardRefusals.{ReadsOutside, HasForwardRead, IsTrueForwardRefusal}
-use Rattle.wb_resolved.specs.declared.attributes.Attribute.{Attribute}
-use Rattle.wb_resolved.specs.declared.attributes.Direction.TheVariants.{Inherited}
-use Rattle.wb_resolved.specs.declared.attribution.AttributionParts.{AttributionParts}
-use Rattle.wb_resolved.specs.declared.equation.Equation.{Equation}
-use Rattle.wb_resolved.specs.declared.equation.Place.TheVariants as place
-use Rattle.wb_resolved.specs.declared.equation.Target.{Target}
-use Rattle.wb_resolved.specs.declared.equation.Target.TheVariants as target
-use Rattle.wb_resolved.specs.declared.production.Production.{Production}
-use Rattle.wb_resolved.specs.Attribution.{IsAttribution}
-use Rattle.wb_resolved.specs.Named.{IsNamedProduction, IsNamedEquation, IsNamedTarget}
+use Rattle.wb_syntax_resolved.specs.declared.attributes.Attribute.{Attribute}
+use Rattle.wb_syntax_resolved.specs.declared.attributes.Direction.TheVariants.{Inherited}
+use Rattle.wb_syntax_resolved.specs.declared.attribution.AttributionParts.{AttributionParts}
+use Rattle.wb_syntax_resolved.specs.declared.equation.Equation.{Equation}
+use Rattle.wb_syntax_resolved.specs.declared.equation.Place.TheVariants as place
+use Rattle.wb_syntax_resolved.specs.declared.equation.Target.{Target}
+use Rattle.wb_syntax_resolved.specs.declared.equation.Target.TheVariants as target
+use Rattle.wb_syntax_resolved.specs.declared.production.Production.{Production}
+use Rattle.wb_syntax_resolved.specs.Attribution.{IsAttribution}
+use Rattle.wb_syntax_resolved.specs.Named.{IsNamedProduction, IsNamedEquation, IsNamedTarget}
 
 -- what holds where there is no value, and nothing is asked where there is one
 pub where_none : {X P : Type 0} (o : Option X) → false ≡ is_some o → IfNone o P → P

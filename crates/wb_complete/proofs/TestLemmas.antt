@@ -4,17 +4,17 @@ use Rattle.std.proofs.Common.{Contains, slice_get, get_or, [], false, is_some}
 use Rattle.std.proofs.Common.{◌<◌, ◌≤◌, length, option_map}
 use Rattle.std.proofs.lemmas.Option.{same_Some, slice_get_past}
 use Rattle.wb_base.specs.declared.symbol.Kind.TheVariants as kind
-use Rattle.wb_expressions.specs.declared.node.Node.TheVariants as n
+use Rattle.wb_syntax_expressions.specs.declared.node.Node.TheVariants as n
 use Rattle.wb_lemmas.proofs.Members.{place_of, contains_at}
 use Rattle.wb_lemmas.proofs.Places.{at_once}
-use Rattle.wb_attributes.specs.Modular.{InheritsNothing}
-use Rattle.wb_attributes.specs.Vertices as w
-use Rattle.wb_attributes.specs.Occurrences.{Goes, Needs}
-use Rattle.wb_attributes.specs.Rules.{Forwards, IsTreeAt, IsBelow, IsRule, HasRule, node_read, place_read, Reads}
-use Rattle.wb_attributes.specs.Rules as rules
-use Rattle.wb_attributes.specs.WellDefined.{DefinesTop, DefinesBelow}
-use Rattle.wb_attributes.proofs.EdgeLemmas.{below_place}
-use Rattle.wb_attributes.proofs.OccurrenceLemmas.{flow_type_inherited}
+use Rattle.wb_flow_theory.specs.Modular.{InheritsNothing}
+use Rattle.wb_flow_theory.specs.Vertices as w
+use Rattle.wb_flow_theory.specs.Occurrences.{Goes, Needs}
+use Rattle.wb_flow_theory.specs.Rules.{Forwards, IsTreeAt, IsBelow, IsRule, HasRule, node_read, place_read, Reads}
+use Rattle.wb_flow_theory.specs.Rules as rules
+use Rattle.wb_flow_theory.specs.WellDefined.{DefinesTop, DefinesBelow}
+use Rattle.wb_flow_theory.proofs.EdgeLemmas.{below_place}
+use Rattle.wb_flow_theory.proofs.OccurrenceLemmas.{flow_type_inherited}
 use Rattle.wb_flow.specs.declared.vertex.Vertex.{Vertex}
 use Rattle.wb_flow.specs.declared.vertex.Vertex.TheVariants as code
 use Rattle.wb_flow.specs.Occurrences.{IsIndexOf}
@@ -24,20 +24,20 @@ use Rattle.wb_flow.proofs.AddingLemmas.{read_item}
 use Rattle.wb_flow.proofs.ArrowLemmas.{defined_rule, top_rule, below_rule, place_vertex}
 use Rattle.wb_complete.specs.Inner.Tests.{DefinesAttribute, DefinesRead, DefinesReads, LacksNeeds, LacksRead, LacksReads}
 use Rattle.wb_complete.specs.Refusals.{LacksTop, LacksBelow, StartHas}
-use Rattle.wb_resolved.specs.declared.attributes.Direction.TheVariants.{Synthesized, Inherited}
-use Rattle.wb_resolved.specs.declared.attributes.Occurrence.{Occurrence}
-use Rattle.wb_resolved.specs.declared.attribution.AttributionParts.{AttributionParts}
-use Rattle.wb_resolved.specs.declared.equation.Equation.{Equation}
-use Rattle.wb_resolved.specs.declared.equation.Place.{Place}
-use Rattle.wb_resolved.specs.declared.equation.Place.TheVariants as place
-use Rattle.wb_resolved.specs.declared.production.Child.{Child}
-use Rattle.wb_resolved.specs.declared.production.ChildKind.TheVariants as kinds
-use Rattle.wb_resolved.specs.declared.production.Forward.{Forward}
-use Rattle.wb_resolved.specs.declared.production.Local.{Local}
-use Rattle.wb_resolved.specs.declared.production.Production.{Production}
-use Rattle.wb_resolved.specs.Attribution.{IsAttribution}
-use Rattle.wb_resolved.specs.Expression.{Node}
-use Rattle.wb_resolved.specs.Visible.{kind_at}
+use Rattle.wb_syntax_resolved.specs.declared.attributes.Direction.TheVariants.{Synthesized, Inherited}
+use Rattle.wb_syntax_resolved.specs.declared.attributes.Occurrence.{Occurrence}
+use Rattle.wb_syntax_resolved.specs.declared.attribution.AttributionParts.{AttributionParts}
+use Rattle.wb_syntax_resolved.specs.declared.equation.Equation.{Equation}
+use Rattle.wb_syntax_resolved.specs.declared.equation.Place.{Place}
+use Rattle.wb_syntax_resolved.specs.declared.equation.Place.TheVariants as place
+use Rattle.wb_syntax_resolved.specs.declared.production.Child.{Child}
+use Rattle.wb_syntax_resolved.specs.declared.production.ChildKind.TheVariants as kinds
+use Rattle.wb_syntax_resolved.specs.declared.production.Forward.{Forward}
+use Rattle.wb_syntax_resolved.specs.declared.production.Local.{Local}
+use Rattle.wb_syntax_resolved.specs.declared.production.Production.{Production}
+use Rattle.wb_syntax_resolved.specs.Attribution.{IsAttribution}
+use Rattle.wb_syntax_resolved.specs.Expression.{Node}
+use Rattle.wb_syntax_resolved.specs.Visible.{kind_at}
 
 -- what follows where there is no value
 pub none_then : {X : Type 0} (o : Option X) {P Q : Type 0} → IfNone o P → (P → Q) → IfNone o Q

@@ -1,14 +1,14 @@
 -- When the refusal of an equation for a forwarded tree is true.
 use Rattle.std.specs.Prelude.{◌≢◌, ℕ}
-use Rattle.wb_attributes.specs.Vertices.{forward, made, top_inherited, inherited}
-use Rattle.wb_attributes.specs.Occurrences.{ForwardNeeds}
-use Rattle.wb_attributes.specs.Rules.{HasRule}
-use Rattle.wb_attributes.specs.Flow.{Reaches}
-use Rattle.wb_attributes.specs.Modular.{IsProduction, IsBridging}
+use Rattle.wb_flow_theory.specs.Vertices.{forward, made, top_inherited, inherited}
+use Rattle.wb_flow_theory.specs.Occurrences.{ForwardNeeds}
+use Rattle.wb_flow_theory.specs.Rules.{HasRule}
+use Rattle.wb_flow_theory.specs.Flow.{Reaches}
+use Rattle.wb_flow_theory.specs.Modular.{IsProduction, IsBridging}
 use Rattle.wb_flow.specs.declared.refusal.AttributeRefusal.{AttributeRefusal}
 use Rattle.wb_flow.specs.declared.refusal.AttributeRefusal.TheVariants as r
-use Rattle.wb_resolved.specs.declared.attribution.AttributionParts.{AttributionParts}
-use Rattle.wb_resolved.specs.declared.production.Production.{Production}
+use Rattle.wb_syntax_resolved.specs.declared.attribution.AttributionParts.{AttributionParts}
+use Rattle.wb_syntax_resolved.specs.declared.production.Production.{Production}
 
 -- the production has an equation for this inherited attribute of the forwarded tree, and it reaches another inherited attribute of the top
 -- that isn't in the flow type of the forward

@@ -1,7 +1,7 @@
 -- That the tests of completeness have at most one answer.
 use Rattle.std.specs.Prelude.{ℕ, Option}
 use Rattle.wb_flow.specs.declared.vertex.Vertex.{Vertex}
-use Rattle.wb_resolved.specs.declared.attribution.AttributionParts.{AttributionParts}
+use Rattle.wb_syntax_resolved.specs.declared.attribution.AttributionParts.{AttributionParts}
 use Rattle.wb_complete.specs.Refusals.{CompleteOk, StartHas, LacksForward, LacksEquation, LacksInherited}
 
 -- where the rules hold, no refusal but out of memory is true

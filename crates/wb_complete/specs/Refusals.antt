@@ -1,17 +1,17 @@
 -- What the tests of completeness ask, and when each refusal is true: its rule fails there, and those before it hold.
 use Rattle.std.specs.Prelude.{◌≡◌, ◌≢◌, ℕ, Option, Some, IfSome}
-use Rattle.wb_attributes.specs.Vertices.{Step, made, forward, top_synthesized, inherited}
-use Rattle.wb_attributes.specs.Occurrences.{Occurs}
-use Rattle.wb_attributes.specs.Rules.{Forwards, HasRule}
-use Rattle.wb_attributes.specs.WellDefined.{DefinesTop, DefinesBelow, ReadNeeds}
-use Rattle.wb_attributes.specs.Modular.{IsProduction, EachProduction, InheritsNothing, IsBridging, ForwardsAsExtension}
+use Rattle.wb_flow_theory.specs.Vertices.{Step, made, forward, top_synthesized, inherited}
+use Rattle.wb_flow_theory.specs.Occurrences.{Occurs}
+use Rattle.wb_flow_theory.specs.Rules.{Forwards, HasRule}
+use Rattle.wb_flow_theory.specs.WellDefined.{DefinesTop, DefinesBelow, ReadNeeds}
+use Rattle.wb_flow_theory.specs.Modular.{IsProduction, EachProduction, InheritsNothing, IsBridging, ForwardsAsExtension}
 use Rattle.wb_flow.specs.declared.refusal.AttributeRefusal.{AttributeRefusal}
 use Rattle.wb_flow.specs.declared.refusal.AttributeRefusal.TheVariants as r
 use Rattle.wb_flow.specs.declared.vertex.Vertex.{Vertex}
 use Rattle.wb_flow.specs.Vertices.{vertex_of}
-use Rattle.wb_resolved.specs.declared.attributes.Direction.TheVariants.{Synthesized, Inherited}
-use Rattle.wb_resolved.specs.declared.attribution.AttributionParts.{AttributionParts}
-use Rattle.wb_resolved.specs.declared.production.Production.{Production}
+use Rattle.wb_syntax_resolved.specs.declared.attributes.Direction.TheVariants.{Synthesized, Inherited}
+use Rattle.wb_syntax_resolved.specs.declared.attribution.AttributionParts.{AttributionParts}
+use Rattle.wb_syntax_resolved.specs.declared.production.Production.{Production}
 
 -- a start inherits nothing, an extension's productions on the host's nonterminals forward, and each attribute that is needed in a
 -- production is defined there

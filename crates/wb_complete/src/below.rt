@@ -3,21 +3,21 @@
 //! Where an attribute of a child or local is read, its flow type says which are needed. What the forwarded tree lacks is the top's.
 
 ghost use Rattle.std.specs.Prelude.{◌≡◌, ◌≢◌, ℕ, IfSome, IfNone, Contains};
-ghost use Rattle.wb_attributes.specs.Rules.{IsTreeAt};
-ghost use Rattle.wb_attributes.specs.WellDefined.{DefinesBelow};
+ghost use Rattle.wb_flow_theory.specs.Rules.{IsTreeAt};
+ghost use Rattle.wb_flow_theory.specs.WellDefined.{DefinesBelow};
 ghost use Rattle.wb_complete.specs.Inner.Tests.{DefinesRead, DefinesReads, LacksNeeds, LacksRead, LacksReads};
 ghost use Rattle.wb_complete.specs.Refusals.{LacksBelow};
 ghost use Rattle.wb_base.specs.declared.symbol.Kind.TheVariants.{Tree};
 ghost use Rattle.wb_flow.specs.Occurrences.{IsIndexOf};
 ghost use Rattle.wb_flow.specs.Rules.{attribute_at, IsDefined};
-ghost use Rattle.wb_resolved.specs.Attribution.{IsAttribution};
-ghost use Rattle.wb_resolved.specs.declared.equation.Equation.{Equation};
-ghost use Rattle.wb_resolved.specs.declared.production.ChildKind.TheVariants.{Value};
-ghost use Rattle.wb_resolved.specs.declared.production.Local.{Local};
+ghost use Rattle.wb_syntax_resolved.specs.Attribution.{IsAttribution};
+ghost use Rattle.wb_syntax_resolved.specs.declared.equation.Equation.{Equation};
+ghost use Rattle.wb_syntax_resolved.specs.declared.production.ChildKind.TheVariants.{Value};
+ghost use Rattle.wb_syntax_resolved.specs.declared.production.Local.{Local};
 
 use wb_base::Kind;
 use wb_flow::{Scope, Vertex, defines};
-use wb_resolved::{ChildKind, Node, Place, Production};
+use wb_syntax_resolved::{ChildKind, Node, Place, Production};
 
 // An inherited attribute of a child or local that the production needs and has no equation for.
 pub(crate) fn lacking_below(scope: &Scope, production: &Production) -> Option<Vertex>

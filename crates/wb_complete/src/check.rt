@@ -3,18 +3,18 @@
 //! Each rule is tested on all productions before the next, so the first that fails is the answer.
 
 ghost use Rattle.std.specs.Prelude.{◌↔◌, IfOk, IfErr, IfSome, IfNone, IsTrue};
-ghost use Rattle.wb_attributes.specs.Modular.{EachProduction, InheritsNothing, IsBridging, ForwardsAsExtension};
-ghost use Rattle.wb_attributes.specs.WellDefined.{DefinesTop, DefinesBelow};
+ghost use Rattle.wb_flow_theory.specs.Modular.{EachProduction, InheritsNothing, IsBridging, ForwardsAsExtension};
+ghost use Rattle.wb_flow_theory.specs.WellDefined.{DefinesTop, DefinesBelow};
 ghost use Rattle.wb_complete.specs.Inner.Tests.{IsSo, IsWithoutForward};
 ghost use Rattle.wb_complete.specs.Refusals.{CompleteOk, IsTrueCompletenessRefusal, LacksBelow, LacksTop, StartHas};
 ghost use Rattle.wb_flow.specs.Occurrences.{IsIndexOf};
-ghost use Rattle.wb_resolved.specs.Attribution.{IsAttribution};
+ghost use Rattle.wb_syntax_resolved.specs.Attribution.{IsAttribution};
 
 use crate::below::lacking_below;
 use crate::top::lacking_top;
 use std::alloc::Global;
 use wb_flow::{AttributeRefusal, OccurrenceIndex, Scope, Vertex};
-use wb_resolved::{Attribution, Production};
+use wb_syntax_resolved::{Attribution, Production};
 
 /// Whether a start has no inherited attribute, an extension's productions on the host's nonterminals forward, each production has an
 /// equation for each synthesized attribute of its left side or forwards, and where an attribute of a child or local is read, each inherited

@@ -1,17 +1,17 @@
 //! Does an equation for a forwarded tree reach more of the top than the flow type of the forward has?
 
 ghost use Rattle.std.specs.Prelude.{◌≡◌, ◌⊎◌, ◌<◌, ℕ, Some, IfOk, IfErr, IfSome, IfNone, Contains, length, slice_get, slice_index_or, false, true};
-ghost use Rattle.wb_attributes.specs.Occurrences.{Goes};
+ghost use Rattle.wb_flow_theory.specs.Occurrences.{Goes};
 ghost use Rattle.wb_flow.specs.declared.vertex.Vertex.{Vertex};
 ghost use Rattle.wb_flow.specs.declared.vertex.Vertex.TheVariants as v;
 ghost use Rattle.wb_flow.specs.Rules.{IsDefined};
 ghost use Rattle.wb_complete.specs.Inner.ForwardTests.{is_forward, IsOutside, IsTested, KeepsForward, KeepsFrom, RefusesProduction};
-ghost use Rattle.wb_resolved.specs.declared.attributes.Direction.TheVariants.{Inherited};
+ghost use Rattle.wb_syntax_resolved.specs.declared.attributes.Direction.TheVariants.{Inherited};
 
 use std::alloc::Global;
 use wb_flow::{AttributeRefusal, FlowGraph, Scope, Vertex, defines};
 use wb_graph::reachable_from;
-use wb_resolved::{Production, Target};
+use wb_syntax_resolved::{Production, Target};
 
 // A production with its number and its flow graph.
 #[derive(Clone, Copy)]

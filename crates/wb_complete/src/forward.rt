@@ -3,15 +3,15 @@
 //! A flow graph is made only for a production that has such an equation.
 
 ghost use Rattle.std.specs.Prelude.{◌≡◌, ◌<◌, ◌↔◌, ℕ, Some, IfOk, IfErr, IsTrue, length, slice_get};
-ghost use Rattle.wb_attributes.specs.Modular.{ForwardEquationsReach, IsBridging, IsProduction};
+ghost use Rattle.wb_flow_theory.specs.Modular.{ForwardEquationsReach, IsBridging, IsProduction};
 ghost use Rattle.wb_complete.specs.Inner.ForwardTests.{IsChecked, KeepsWhereBridging};
 ghost use Rattle.wb_complete.specs.ForwardRefusals.{IsTrueForwardRefusal};
-ghost use Rattle.wb_resolved.specs.declared.production.Production.{Production};
+ghost use Rattle.wb_syntax_resolved.specs.declared.production.Production.{Production};
 
 use crate::equations::{Tested, check_vertices, gives_forward};
 use std::alloc::Global;
 use wb_flow::{AttributeRefusal, OccurrenceIndex, Scope, production_graph};
-use wb_resolved::{Attribution, Production};
+use wb_syntax_resolved::{Attribution, Production};
 
 /// Whether in each production of the extension on a nonterminal of the host each equation for an inherited attribute of the forwarded tree
 /// reaches, of the inherited attributes of the top, only those in the flow type of the forward and that attribute itself.

@@ -1,10 +1,10 @@
 //! A law of the definitions: what it says is proved, and there is nothing to run.
 
 ghost use Rattle.std.specs.Prelude.{ℕ, Option};
-ghost use Rattle.wb_attributes.specs.Modular.{ForwardEquationsReach};
+ghost use Rattle.wb_flow_theory.specs.Modular.{ForwardEquationsReach};
 ghost use Rattle.wb_complete.specs.OneAnswer.{CompletenessHasOneAnswer};
 ghost use Rattle.wb_complete.specs.ForwardRefusals.{HasForwardRead};
-ghost use Rattle.wb_resolved.specs.declared.attribution.AttributionParts.{AttributionParts};
+ghost use Rattle.wb_syntax_resolved.specs.declared.attribution.AttributionParts.{AttributionParts};
 
 /// That the rules hold excludes each refusal but out of memory, and a refusal by one rule excludes one by another.
 pub fn one_answer_law()

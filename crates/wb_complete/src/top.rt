@@ -3,13 +3,13 @@
 //! One without an equation is that of the tree to which the production forwards, where it does.
 
 ghost use Rattle.std.specs.Prelude.{IfSome, IfNone};
-ghost use Rattle.wb_attributes.specs.WellDefined.{DefinesTop};
+ghost use Rattle.wb_flow_theory.specs.WellDefined.{DefinesTop};
 ghost use Rattle.wb_complete.specs.Refusals.{LacksTop};
 ghost use Rattle.wb_flow.specs.Occurrences.{IsIndexOf};
-ghost use Rattle.wb_resolved.specs.Attribution.{IsAttribution};
+ghost use Rattle.wb_syntax_resolved.specs.Attribution.{IsAttribution};
 
 use wb_flow::{Scope, Vertex, defines};
-use wb_resolved::Production;
+use wb_syntax_resolved::Production;
 
 // A synthesized attribute of its left side that the production has no equation for, where it doesn't forward.
 pub(crate) fn lacking_top(scope: &Scope, production: &Production) -> Option<usize>

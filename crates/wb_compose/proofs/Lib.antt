@@ -1,2 +1,25 @@
-mod HostLemmas
-mod RangeLemmas
+pub mod RowLemmas
+pub mod InRange
+pub mod KeptLemmas
+pub mod GrammarKept
+pub mod MarkerLemmas
+pub mod OwnLemmas
+pub mod JoinedLemmas
+pub mod NumberLemmas
+pub mod CertifiedLemmas
+pub mod GroupLemmas
+pub mod WrittenRows
+pub mod WrittenPreferences
+pub mod WrittenLemmas
+pub mod ApartLemmas
+pub mod WrittenApart
+pub mod KeepLemmas
+pub mod CutLemmas
+pub mod AdditionLemmas
+pub mod UnionLemmas
+pub mod LawLemmas
+pub mod AgreementLemmas
+mod LendingLemmas
+mod ComposedLemmas
+mod CutRows
+mod ComposedAttributes

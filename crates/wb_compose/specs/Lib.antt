@@ -1,2 +1,18 @@
--- the language of a host by itself
-pub mod HostLanguage
+-- a certified host and certified extensions, as what unions are made of
+pub mod Joined
+-- what keeps its numbers with an extension
+pub mod Numbers
+-- how they are written
+pub mod Written
+-- the attributes of a host with extensions
+pub mod Attributes
+-- their grammar
+pub mod Agreement
+-- what the laws say of the attributes
+pub mod AttributeLaws
+-- when attributes are those of all together
+pub mod United
+-- the language that is composed of a certified host and certified extensions
+pub mod Composed
+-- words of the private functions
+pub mod Inner

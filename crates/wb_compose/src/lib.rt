@@ -1,8 +1,18 @@
-//! The language of a certified host by itself.
+//! What certified extensions make with their certified host, whichever are picked: one language, and its attributes.
 //!
-//! What was certified has a language: the only refusal of the calls here is out of memory.
+//! The only refusal of the calls here is out of memory, and the laws say why: a certified extension is a piece of a union (`laws`), whose
+//! attributes are well defined (`attribute_laws`) and agree with its grammar (`agreement`). A host by itself has its language in
+//! `wb_compose_host`.
 #![tactic(auto)]
 
-mod host;
+mod additions;
+pub mod agreement;
+pub mod attribute_laws;
+mod attributes;
+mod composition;
+mod cuts;
+pub mod laws;
+mod rows;
 
-pub use host::host_language;
+pub use attributes::composed_attributes;
+pub use composition::{Composed, compose};

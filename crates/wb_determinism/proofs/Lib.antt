@@ -1,3 +1,17 @@
+mod BoundLemmas
+mod ClashLemmas
+mod ConsideredLemmas
+mod EnvelopeLemmas
+mod ExtensionLemmas
 mod FlagLemmas
-pub mod HostLemmas
-pub mod RefusalLemmas
+mod ImageLemmas
+mod IndexLemmas
+mod KeepLemmas
+mod LawLemmas
+mod ListLemmas
+mod NumberLemmas
+mod RegionLemmas
+mod RowLemmas
+mod RuleLemmas
+mod SameKernelLemmas
+mod ValidLemmas

@@ -1,3 +1,15 @@
 -- Words of private functions, and what loops keep.
+pub mod Numbers
+pub mod Moved
+pub mod Contexts
+pub mod Keeps
+pub mod Envelopes
+pub mod Conflicts
+pub mod Valid
+pub mod Considered
+pub mod Shown
+pub mod Clashes
+pub mod Images
 pub mod Flags
-pub mod Lists
+pub mod Extended
+pub mod Index

@@ -1,54 +1,53 @@
--- Why a host isn't deterministic: each reason with a true example, where no earlier one holds.
-use Rattle.std.specs.Prelude.{◌<◌}
-use Rattle.wb_base.specs.Different.{Differ}
+-- Why an extension isn't deterministic beside its host: each reason with a true example, where no earlier one holds.
+use Rattle.std.specs.Prelude.{◌<◌, List}
+use Rattle.wb_base.specs.declared.symbol.Symbol.{Symbol}
 use Rattle.wb_base.specs.Grammar.{GrammarView}
-use Rattle.wb_contexts.specs.Conflicts.{IsConflictAt}
-use Rattle.wb_contexts.specs.Considered.{IsClashAt}
-use Rattle.wb_grammar.specs.Refusals.{IsTrueReason}
-use Rattle.wb_grammars.specs.Cycles.{HasNoUnitCycle, IsUnitCycle, IsHiddenCycle}
-use Rattle.wb_grammars.specs.Lookaheads.{HasNoConflict}
-use Rattle.wb_graph.specs.Orders.{IsSimpleCycle}
-use Rattle.wb_marking.specs.Holes.{with_holes_of}
-use Rattle.wb_resolved.specs.declared.resolved.ResolvedParts.{ResolvedParts}
-use Rattle.wb_determinism.specs.declared.refusal.DeterminismRefusal.{DeterminismRefusal}
-use Rattle.wb_determinism.specs.declared.refusal.DeterminismRefusal.TheVariants as d
-use Rattle.wb_determinism.specs.Lexicons.{lexicon_of, preference_pairs}
-use Rattle.wb_determinism.specs.Hosts.{AreAcyclic, IsSound, IsFitForParsing}
+use Rattle.wb_determinism_host.specs.declared.refusal.DeterminismRefusal.{DeterminismRefusal}
+use Rattle.wb_determinism_host.specs.declared.refusal.DeterminismRefusal.TheVariants as d
+use Rattle.wb_determinism_host.specs.declared.refusal.EnvelopeFault.{EnvelopeFault}
+use Rattle.wb_determinism_host.specs.declared.refusal.EnvelopeFault.TheVariants as f
+use Rattle.wb_determinism_host.specs.Hosts.{IsDeterministicHost}
+use Rattle.wb_determinism_host.specs.Refusals.{IsHostRefusal}
+use Rattle.wb_compose_theory.specs.Numbered.{KeepsKernelLookaheads}
+use Rattle.wb_syntax_resolved.specs.declared.resolved.ResolvedParts.{ResolvedParts}
+use Rattle.wb_determinism.specs.EnvelopeClash.{IsEnvelopeClashFault}
+use Rattle.wb_determinism.specs.EnvelopeRule.{IsEnvelopeLookaheadFault, IsEnvelopeConflictFault}
+use Rattle.wb_determinism.specs.Extensions.{extended_grammar, both_numbers, host_lexicon}
+use Rattle.wb_determinism.specs.Images.{StandsFor, stands_for}
+use Rattle.wb_determinism.specs.LookaheadRule.{IsLookaheadFault}
+use Rattle.wb_determinism.specs.Numbers.{up_by}
 
--- what is shown is an example of the first of these that holds of a host with this grammar: preferences form a cycle; the grammar isn't
--- reduced; with holes it has a unit cycle, hidden left recursion, a conflict, or a clash, whose lesser terminal is first. The other reasons
--- are of extensions alone, and out of memory says nothing of the host
-abbrev pub IsHostRefusal : ResolvedParts → GrammarView → DeterminismRefusal → Type 0
-IsHostRefusal r g (d.NotBridge _) = ⊥
-IsHostRefusal r g (d.MarkerElsewhere _) = ⊥
-IsHostRefusal r g (d.NotExtensible _) = ⊥
-IsHostRefusal r g (d.PreferenceCycle cycle) = IsSimpleCycle (preference_pairs r) cycle
-IsHostRefusal r g (d.MarkerClash _ _ _) = ⊥
-IsHostRefusal r g (d.NotReduced reason) = AreAcyclic r × IsTrueReason g reason
-IsHostRefusal r g (d.UnitCycle list) = IsSound r g × IsUnitCycle (with_holes_of g r.extensible) list × Differ list
-IsHostRefusal r g (d.HiddenLeftRecursion list) =
-    IsSound r g × HasNoUnitCycle (with_holes_of g r.extensible) × IsHiddenCycle (with_holes_of g r.extensible) list × Differ list
-IsHostRefusal r g (d.Conflict prefix terminal first second) =
-    IsFitForParsing r g × IsConflictAt (with_holes_of g r.extensible) prefix terminal first second
-IsHostRefusal r g (d.Clash prefix left right text) =
-    IsFitForParsing r g × HasNoConflict (with_holes_of g r.extensible)
-    × IsClashAt (with_holes_of g r.extensible) (lexicon_of r g) prefix left right text × (left < right)
-IsHostRefusal r g (d.Lookahead _ _ _) = ⊥
-IsHostRefusal r g (d.Envelope _ _) = ⊥
-IsHostRefusal r g (d.NoMemory _) = Unit {0}
+module _ (r : ResolvedParts) (g host : GrammarView) where
+  -- what is shown is a lookahead beyond the envelope, a conflict or a clash, whose lesser terminal is first
+  abbrev pub IsEnvelopeFault : List Symbol → EnvelopeFault → Type 0
+  IsEnvelopeFault prefix (f.Lookahead item t) =
+      IsEnvelopeLookaheadFault host (extended_grammar r g host) (both_numbers r g host)
+      (StandsFor r g (both_numbers r g host)) prefix item t
+  IsEnvelopeFault prefix (f.Conflict t first second) =
+      IsEnvelopeConflictFault host (extended_grammar r g host) (both_numbers r g host)
+      (StandsFor r g (both_numbers r g host)) prefix t first second
+  IsEnvelopeFault prefix (f.Clash left right text) =
+      IsEnvelopeClashFault host (extended_grammar r g host) (both_numbers r g host) (host_lexicon r g host) prefix left right text
+      × (left < right)
 
--- the refusal is that memory ran out
-abbrev pub IsNoMemory : DeterminismRefusal → Type 0
-IsNoMemory (d.NotBridge _) = ⊥
-IsNoMemory (d.MarkerElsewhere _) = ⊥
-IsNoMemory (d.NotExtensible _) = ⊥
-IsNoMemory (d.PreferenceCycle _) = ⊥
-IsNoMemory (d.MarkerClash _ _ _) = ⊥
-IsNoMemory (d.NotReduced _) = ⊥
-IsNoMemory (d.UnitCycle _) = ⊥
-IsNoMemory (d.HiddenLeftRecursion _) = ⊥
-IsNoMemory (d.Conflict _ _ _ _) = ⊥
-IsNoMemory (d.Clash _ _ _ _) = ⊥
-IsNoMemory (d.Lookahead _ _ _) = ⊥
-IsNoMemory (d.Envelope _ _) = ⊥
-IsNoMemory (d.NoMemory _) = Unit {0}
+  -- what is shown is an example of the first of these that holds of the specification of a host with an extension: a reason for which it
+  -- wouldn't do as a host; a lookahead that the extension adds at a kernel of the host; or a fault with the envelope. Reasons of marks are
+  -- found elsewhere, and out of memory says nothing of it
+  abbrev pub IsExtensionRefusal : DeterminismRefusal → Type 0
+  IsExtensionRefusal (d.NotBridge _) = ⊥
+  IsExtensionRefusal (d.MarkerElsewhere _) = ⊥
+  IsExtensionRefusal (d.NotExtensible _) = ⊥
+  IsExtensionRefusal (d.PreferenceCycle cycle) = IsHostRefusal r g (d.PreferenceCycle cycle)
+  IsExtensionRefusal (d.MarkerClash _ _ _) = ⊥
+  IsExtensionRefusal (d.NotReduced reason) = IsHostRefusal r g (d.NotReduced reason)
+  IsExtensionRefusal (d.UnitCycle list) = IsHostRefusal r g (d.UnitCycle list)
+  IsExtensionRefusal (d.HiddenLeftRecursion list) = IsHostRefusal r g (d.HiddenLeftRecursion list)
+  IsExtensionRefusal (d.Conflict prefix terminal first second) = IsHostRefusal r g (d.Conflict prefix terminal first second)
+  IsExtensionRefusal (d.Clash prefix left right text) = IsHostRefusal r g (d.Clash prefix left right text)
+  IsExtensionRefusal (d.Lookahead prefix item t) =
+      IsDeterministicHost r g × IsLookaheadFault host (extended_grammar r g host) (both_numbers r g host)
+      (StandsFor r g (both_numbers r g host)) prefix item t
+  IsExtensionRefusal (d.Envelope prefix fault) =
+      IsDeterministicHost r g × KeepsKernelLookaheads host (extended_grammar r g host) (up_by (both_numbers r g host)) (stands_for r g)
+      × IsEnvelopeFault prefix fault
+  IsExtensionRefusal (d.NoMemory _) = Unit {0}

@@ -1,17 +1,30 @@
-//! Determinism of hosts: what an extension's author may rely on, before any extension is there.
+//! Determinism of extensions: whether an extension leaves a host as deterministic as it was, whatever other extensions there are.
 //!
-//! A host is tested with holes, terminals that match no text and stand where markers of extensions may come. What the words mean is in
-//! `wb_grammars`, `wb_marking` and `wb_contexts`.
+//! An extension is tested with its host alone. What the words mean is in `wb_grammar_theory`, `wb_marking_holes`, `wb_determinism_host` and
+//! `wb_compose_theory`; marks are tested elsewhere.
 #![tactic(auto)]
 
-mod host;
+mod conflict;
+mod context;
+mod envelope;
+mod envelope_clash;
+mod envelope_rule;
+mod envelope_test;
+mod extension;
+mod host_index;
+mod images;
 mod laws;
-mod lexicon;
+mod layout;
+mod lookahead_rule;
+mod numbers;
 mod parts;
-mod refusal;
+mod position;
+mod regions;
+mod rules;
+mod valid;
 
-pub use host::host_determinism;
-pub use laws::host_refusals_law;
-pub use lexicon::{expressions_of, pairs_of};
-pub use parts::HostParts;
-pub use refusal::{DeterminismRefusal, EnvelopeFault};
+pub use extension::extension_determinism;
+pub use laws::{composable_law, extension_refusals_law};
+pub use parts::ExtensionParts;
+pub use regions::Region;
+pub use wb_determinism_host::host_determinism;

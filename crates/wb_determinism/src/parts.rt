@@ -1,12 +1,12 @@
-//! What is kept of a deterministic host?
+//! What is kept of a deterministic extension?
 
-use wb_base::Grammar;
+use crate::Region;
+use wb_base::{Grammar, Sequence};
 use wb_items::{Kernels, Lookaheads};
 use wb_lookahead::Tables;
 
-/// The host's grammar with holes, and what is made of it for a parser.
-#[derive(Drop)]
-pub struct HostParts {
+/// The grammar of the host with the extension, with holes, and what is made of it for a parser.
+pub struct ExtensionParts {
     /// The grammar with holes.
     pub grammar: Grammar,
     /// The kernels of its prefixes.
@@ -15,9 +15,28 @@ pub struct HostParts {
     pub lookaheads: Lookaheads,
     /// What a parser does at each of them.
     pub tables: Tables,
+    /// What each kernel is to the host.
+    pub regions: Sequence<Region>,
 }
 
-impl HostParts {
+impl ExtensionParts {
     /// Lets go of the parts. A crate that calls this proves no drop of what it holds.
     pub fn release(self) {}
+}
+
+impl Drop for ExtensionParts {
+    fn drop(self) {
+        let ExtensionParts {
+            grammar,
+            kernels,
+            lookaheads,
+            tables,
+            regions,
+        } = self;
+        drop(grammar);
+        drop(kernels);
+        drop(lookaheads);
+        drop(tables);
+        drop(regions);
+    }
 }

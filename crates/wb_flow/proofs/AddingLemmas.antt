@@ -1,5 +1,6 @@
 -- Lists to which values are added: one, several after each other, and by a loop.
-use Rattle.std.proofs.Common.{◌≡◌, ◌<◌, ◌≤◌, ◌+◌, ◌∷◌, ◌++◌, [], ◌⊎◌, inl, inr, ℕ, List, Some, length, slice_get, Contains, sym, ap, subst, ◌∙◌, get_or}
+use Rattle.std.proofs.Common.{◌≡◌, ◌<◌, ◌≤◌, ◌+◌, ◌∷◌, ◌++◌, [], ◌⊎◌, inl, inr, ℕ, List, Some, length, slice_get, Contains, sym, ap, subst}
+use Rattle.std.proofs.Common.{◌∙◌, get_or}
 use Rattle.std.proofs.Common.{arith}
 use Rattle.std.specs.Prelude.{◌↔◌}
 use Rattle.std.proofs.lemmas.Bool.{cases_lt}

@@ -2,15 +2,15 @@
 use Rattle.std.proofs.Common.{◌≡◌, ◌≢◌, ◌∙◌, ◌⊎◌, inl, inr, ℕ, List, Option, None, Some, refl, sym, ap, subst, option_map, Contains}
 use Rattle.std.specs.Prelude.{◌↔◌}
 use Rattle.std.proofs.lemmas.Option.{same_Some}
-use Rattle.wb_expressions.specs.declared.node.Node.TheVariants as n
+use Rattle.wb_syntax_expressions.specs.declared.node.Node.TheVariants as n
 use Rattle.wb_lemmas.proofs.Elements.{all_contained}
-use Rattle.wb_attributes.specs.Vertices as w
-use Rattle.wb_attributes.specs.Occurrences.{Goes, HasFlowType, IsOn, Needs}
-use Rattle.wb_attributes.specs.Rules.{IsRule, HasRule, Reads, Forwards, IsBelow, target_vertex, node_read}
-use Rattle.wb_attributes.specs.Rules as rules
-use Rattle.wb_attributes.specs.Flow.{HasFlowEdge, by_rule, by_flow_type, by_tree, by_copy_up, by_copy_down}
-use Rattle.wb_attributes.proofs.EdgeLemmas.{rule_named}
-use Rattle.wb_attributes.proofs.OccurrenceLemmas.{goes_seen, flow_type_inherited}
+use Rattle.wb_flow_theory.specs.Vertices as w
+use Rattle.wb_flow_theory.specs.Occurrences.{Goes, HasFlowType, IsOn, Needs}
+use Rattle.wb_flow_theory.specs.Rules.{IsRule, HasRule, Reads, Forwards, IsBelow, target_vertex, node_read}
+use Rattle.wb_flow_theory.specs.Rules as rules
+use Rattle.wb_flow_theory.specs.Flow.{HasFlowEdge, by_rule, by_flow_type, by_tree, by_copy_up, by_copy_down}
+use Rattle.wb_flow_theory.proofs.EdgeLemmas.{rule_named}
+use Rattle.wb_flow_theory.proofs.OccurrenceLemmas.{goes_seen, flow_type_inherited}
 use Rattle.wb_flow.specs.Rules.{attribute_at, target_of, IsDefined}
 use Rattle.wb_flow.specs.declared.arrows.Arrow.{Arrow}
 use Rattle.wb_flow.specs.declared.positions.Position.{Position}
@@ -24,18 +24,18 @@ use Rattle.wb_flow.specs.Inner.Arrows.{IsBelowArrow, IsCopyArrow, IsLeftCopyArro
 use Rattle.wb_flow.specs.Inner.Positions.{vertex_at, tree_at, HasTree}
 use Rattle.wb_flow.specs.Vertices.{vertex_below, vertex_of}
 use Rattle.wb_flow.proofs.VertexLemmas.{position_of, step_at, name_of, name_of_vertex, top_is, below_is, tree_is, tree_below, below_tree}
-use Rattle.wb_resolved.specs.declared.attributes.Direction.{Direction}
-use Rattle.wb_resolved.specs.declared.attributes.Direction.TheVariants.{Synthesized, Inherited}
-use Rattle.wb_resolved.specs.declared.attributes.Occurrence.{Occurrence}
-use Rattle.wb_resolved.specs.declared.attribution.AttributionParts.{AttributionParts}
-use Rattle.wb_resolved.specs.declared.equation.Place.{Place}
-use Rattle.wb_resolved.specs.declared.equation.Place.TheVariants as place
-use Rattle.wb_resolved.specs.declared.equation.Target.{Target}
-use Rattle.wb_resolved.specs.declared.equation.Target.TheVariants as target
-use Rattle.wb_resolved.specs.declared.production.Production.{Production}
-use Rattle.wb_resolved.specs.Attribution.{IsAttribution}
-use Rattle.wb_resolved.specs.Expression.{Node}
-use Rattle.wb_resolved.specs.Named.{IsNamedNode, IsNamedTarget, IsNamedEquation, IsNamedProduction}
+use Rattle.wb_syntax_resolved.specs.declared.attributes.Direction.{Direction}
+use Rattle.wb_syntax_resolved.specs.declared.attributes.Direction.TheVariants.{Synthesized, Inherited}
+use Rattle.wb_syntax_resolved.specs.declared.attributes.Occurrence.{Occurrence}
+use Rattle.wb_syntax_resolved.specs.declared.attribution.AttributionParts.{AttributionParts}
+use Rattle.wb_syntax_resolved.specs.declared.equation.Place.{Place}
+use Rattle.wb_syntax_resolved.specs.declared.equation.Place.TheVariants as place
+use Rattle.wb_syntax_resolved.specs.declared.equation.Target.{Target}
+use Rattle.wb_syntax_resolved.specs.declared.equation.Target.TheVariants as target
+use Rattle.wb_syntax_resolved.specs.declared.production.Production.{Production}
+use Rattle.wb_syntax_resolved.specs.Attribution.{IsAttribution}
+use Rattle.wb_syntax_resolved.specs.Expression.{Node}
+use Rattle.wb_syntax_resolved.specs.Named.{IsNamedNode, IsNamedTarget, IsNamedEquation, IsNamedProduction}
 
 -- the vertex that an equation for a name defines
 abbrev pub defined_by : Vertex → w.Vertex

@@ -1,9 +1,9 @@
 -- What the tests find is what the rules say.
 use Rattle.std.proofs.Common.{◌≡◌, ◌-◌, ℕ, zero, suc, List, Option, None, Some, length, refl, sym, subst, slice_get, arith}
 use Rattle.wb_lemmas.proofs.Places.{at_within, at_earlier}
-use Rattle.wb_attributes.specs.Vertices as w
-use Rattle.wb_attributes.specs.Flow.{one, more, Reaches}
-use Rattle.wb_attributes.specs.Modular.{IsProduction, HoldForwardNeeds}
+use Rattle.wb_flow_theory.specs.Vertices as w
+use Rattle.wb_flow_theory.specs.Flow.{one, more, Reaches}
+use Rattle.wb_flow_theory.specs.Modular.{IsProduction, HoldForwardNeeds}
 use Rattle.wb_flow.specs.declared.refusal.AttributeRefusal.{AttributeRefusal}
 use Rattle.wb_flow.specs.declared.refusal.AttributeRefusal.TheVariants as r
 use Rattle.wb_flow.specs.declared.vertex.Vertex.{Vertex}
@@ -12,8 +12,8 @@ use Rattle.wb_flow.specs.OneAnswer.{FlowsExclude, FlowsHaveOneAnswer}
 use Rattle.wb_flow.specs.Refusals.{KeepToFlowTypes, FlowsOk, ReachesOutside, HasReadOutside, IsFlowCycle}
 use Rattle.wb_flow.specs.Refusals.{IsTrueFlowRefusal}
 use Rattle.wb_flow.specs.Vertices.{vertex_of}
-use Rattle.wb_resolved.specs.declared.attribution.AttributionParts.{AttributionParts}
-use Rattle.wb_resolved.specs.declared.production.Production.{Production}
+use Rattle.wb_syntax_resolved.specs.declared.attribution.AttributionParts.{AttributionParts}
+use Rattle.wb_syntax_resolved.specs.declared.production.Production.{Production}
 
 module _ (a : AttributionParts) (production : Production) (vertices : List Vertex) (cycle : IsFlowCycle a production vertices) where
   -- the first vertex of a cycle reaches each other

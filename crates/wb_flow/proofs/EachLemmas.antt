@@ -1,5 +1,6 @@
 -- Loops that test each value of a list.
-use Rattle.std.proofs.Common.{◌≡◌, ◌<◌, ◌≤◌, ◌+◌, ◌∷◌, ◌++◌, [], inl, inr, ℕ, Bool, true, false, eqb, List, Some, All, length, take, get_or, slice_get, Contains, refl, sym, subst}
+use Rattle.std.proofs.Common.{◌≡◌, ◌<◌, ◌≤◌, ◌+◌, ◌∷◌, ◌++◌, [], inl, inr, ℕ, Bool, true, false, eqb, List, Some, All, length, take, get_or}
+use Rattle.std.proofs.Common.{slice_get, Contains, refl, sym, subst}
 use Rattle.std.proofs.Common.{arith}
 use Rattle.std.specs.Bool.{Decides}
 use Rattle.std.specs.List.{AllZip, IsAnyAnswer}
@@ -11,17 +12,17 @@ use Rattle.std.proofs.lemmas.Slice.Zip.{all_zipped_more}
 use Rattle.wb_lemmas.proofs.Elements.{all_at}
 use Rattle.wb_lemmas.proofs.Members.{place_of}
 use Rattle.wb_lemmas.proofs.Places.{at_once}
-use Rattle.wb_attributes.specs.Occurrences.{Goes, HasFlowType, ForwardNeeds}
-use Rattle.wb_attributes.specs.Modular.{HoldForwardNeeds}
-use Rattle.wb_attributes.proofs.OccurrenceLemmas.{one_flow_type}
+use Rattle.wb_flow_theory.specs.Occurrences.{Goes, HasFlowType, ForwardNeeds}
+use Rattle.wb_flow_theory.specs.Modular.{HoldForwardNeeds}
+use Rattle.wb_flow_theory.proofs.OccurrenceLemmas.{one_flow_type}
 use Rattle.wb_flow.specs.declared.vertex.Vertex.{Vertex}
 use Rattle.wb_flow.specs.Inner.Sources.{HoldsForward}
 use Rattle.wb_flow.specs.Refusals.{LacksForwardNeed}
 use Rattle.wb_flow.proofs.AddingLemmas.{below_or}
-use Rattle.wb_resolved.specs.declared.attributes.Direction.TheVariants.{Synthesized}
-use Rattle.wb_resolved.specs.declared.attributes.Occurrence.{Occurrence}
-use Rattle.wb_resolved.specs.declared.attribution.AttributionParts.{AttributionParts}
-use Rattle.wb_resolved.specs.Attribution.{IsAttribution}
+use Rattle.wb_syntax_resolved.specs.declared.attributes.Direction.TheVariants.{Synthesized}
+use Rattle.wb_syntax_resolved.specs.declared.attributes.Occurrence.{Occurrence}
+use Rattle.wb_syntax_resolved.specs.declared.attribution.AttributionParts.{AttributionParts}
+use Rattle.wb_syntax_resolved.specs.Attribution.{IsAttribution}
 
 -- of each of the first values it holds
 abbrev pub EachBefore : {X : Type 0} → List X → ℕ → (X → Type 0) → Type 0

@@ -7,9 +7,9 @@ use Rattle.wb_graph.specs.Graphs.{IsEdgeBelow}
 use Rattle.wb_lemmas.proofs.Elements.{all_contained, all_from_contained}
 use Rattle.wb_lemmas.proofs.Members.{contains_at}
 use Rattle.wb_lemmas.proofs.Places.{at_once}
-use Rattle.wb_attributes.specs.Flow.{IsVertex}
-use Rattle.wb_attributes.specs.Modular.{IsProduction}
-use Rattle.wb_attributes.proofs.EdgeLemmas.{edge_from, edge_to}
+use Rattle.wb_flow_theory.specs.Flow.{IsVertex}
+use Rattle.wb_flow_theory.specs.Modular.{IsProduction}
+use Rattle.wb_flow_theory.proofs.EdgeLemmas.{edge_from, edge_to}
 use Rattle.wb_flow.specs.declared.arrows.Arrow.{Arrow}
 use Rattle.wb_flow.specs.declared.positions.TreeAt.{TreeAt}
 use Rattle.wb_flow.specs.declared.vertex.FlowGraph.{FlowGraph}
@@ -22,10 +22,10 @@ use Rattle.wb_flow.specs.Vertices.{vertex_of}
 use Rattle.wb_flow.proofs.AddingLemmas.{adds_as, adds_both, adds_to_nothing, read_item}
 use Rattle.wb_flow.proofs.ArrowLemmas.{arrows_edges}
 use Rattle.wb_flow.proofs.VertexLemmas.{trees_vertices}
-use Rattle.wb_resolved.specs.declared.attribution.AttributionParts.{AttributionParts}
-use Rattle.wb_resolved.specs.declared.production.Production.{Production}
-use Rattle.wb_resolved.specs.Attribution.{IsAttribution}
-use Rattle.wb_resolved.specs.Named.{IsNamedProduction}
+use Rattle.wb_syntax_resolved.specs.declared.attribution.AttributionParts.{AttributionParts}
+use Rattle.wb_syntax_resolved.specs.declared.production.Production.{Production}
+use Rattle.wb_syntax_resolved.specs.Attribution.{IsAttribution}
+use Rattle.wb_syntax_resolved.specs.Named.{IsNamedProduction}
 
 -- one edge more has the places of an arrow's ends
 pub numbered_one : (vertices : List Vertex) → Differ vertices → (arrow : Arrow) (i j : ℕ) → slice_get vertices i ≡ Some arrow.from

@@ -1,5 +1,6 @@
 -- Occurrences by nonterminal.
-use Rattle.std.proofs.Common.{◌≡◌, ◌≢◌, ◌<◌, ◌≤◌, ◌+◌, ◌∙◌, ◌++◌, ◌∷◌, [], ◌⊎◌, inl, inr, ℕ, List, Vec, Global, Some, length, map, set, get_or, refl, sym, ap, subst}
+use Rattle.std.proofs.Common.{◌≡◌, ◌≢◌, ◌<◌, ◌≤◌, ◌+◌, ◌∙◌, ◌++◌, ◌∷◌, [], ◌⊎◌, inl, inr, ℕ, List, Vec, Global, Some, length, map, set}
+use Rattle.std.proofs.Common.{get_or, refl, sym, ap, subst}
 use Rattle.std.proofs.Common.{slice_get, Contains, arith, length-append, get_or-set_same, get_or-set_other}
 use Rattle.std.specs.Prelude.{◌↔◌}
 use Rattle.std.proofs.lemmas.Bool.{cases_eq}
@@ -9,15 +10,15 @@ use Rattle.std.proofs.lemmas.Option.{slice_get_within, slice_get-get_or, gets}
 use Rattle.wb_lemmas.proofs.Elements.{all_contained}
 use Rattle.wb_lemmas.proofs.Members.{contains_at, place_of, nothing_in, contains_push, push_contains, push_contains_last}
 use Rattle.wb_lemmas.proofs.Places.{at_once}
-use Rattle.wb_attributes.specs.Occurrences.{HasFlowType, Needs, ForwardNeeds}
-use Rattle.wb_attributes.proofs.OccurrenceLemmas.{one_flow_type}
+use Rattle.wb_flow_theory.specs.Occurrences.{HasFlowType, Needs, ForwardNeeds}
+use Rattle.wb_flow_theory.proofs.OccurrenceLemmas.{one_flow_type}
 use Rattle.wb_flow.specs.Occurrences.{IsNumberOn, IsIndexOf}
 use Rattle.wb_flow.proofs.AddingLemmas.{below_or}
-use Rattle.wb_resolved.specs.declared.attributes.Nonterminal.{Nonterminal}
-use Rattle.wb_resolved.specs.declared.attributes.Occurrence.{Occurrence}
-use Rattle.wb_resolved.specs.declared.attribution.AttributionParts.{AttributionParts}
-use Rattle.wb_resolved.specs.Attribution.{IsAttribution}
-use Rattle.wb_resolved.specs.Named.{IsNamedOccurrence}
+use Rattle.wb_syntax_resolved.specs.declared.attributes.Nonterminal.{Nonterminal}
+use Rattle.wb_syntax_resolved.specs.declared.attributes.Occurrence.{Occurrence}
+use Rattle.wb_syntax_resolved.specs.declared.attribution.AttributionParts.{AttributionParts}
+use Rattle.wb_syntax_resolved.specs.Attribution.{IsAttribution}
+use Rattle.wb_syntax_resolved.specs.Named.{IsNamedOccurrence}
 
 -- the lists of rows
 abbrev pub lists_of : List (Vec ℕ Global) → List (List ℕ)

@@ -1,10 +1,11 @@
 -- One edge more of each kind.
-use Rattle.std.proofs.Common.{◌≡◌, ◌≢◌, ◌<◌, ◌≤◌, ◌+◌, ◌∙◌, ◌∷◌, ◌++◌, [], ◌⊎◌, inl, inr, ℕ, List, None, Some, length, refl, sym, ap, subst, slice_get}
+use Rattle.std.proofs.Common.{◌≡◌, ◌≢◌, ◌<◌, ◌≤◌, ◌+◌, ◌∙◌, ◌∷◌, ◌++◌, [], ◌⊎◌, inl, inr, ℕ, List, None, Some, length, refl, sym, ap, subst}
+use Rattle.std.proofs.Common.{slice_get}
 use Rattle.std.proofs.Common.{Contains, arith}
 use Rattle.std.proofs.lemmas.Option.{same_Some, slice_get_within}
 use Rattle.wb_lemmas.proofs.Members.{contains_at, place_of}
 use Rattle.wb_lemmas.proofs.Places.{at_once}
-use Rattle.wb_attributes.specs.Occurrences.{Goes}
+use Rattle.wb_flow_theory.specs.Occurrences.{Goes}
 use Rattle.wb_flow.specs.Rules.{target_of, IsDefined}
 use Rattle.wb_flow.specs.declared.arrows.Arrow.{Arrow}
 use Rattle.wb_flow.specs.declared.positions.Position.{Position}
@@ -16,13 +17,13 @@ use Rattle.wb_flow.specs.Inner.Arrows.{IsNeedArrow, IsTreeArrow, IsCopyArrow}
 use Rattle.wb_flow.specs.Inner.Positions.{vertex_at, tree_at}
 use Rattle.wb_flow.proofs.AddingLemmas.{adds_as, adds_one, adds_none, below_or}
 use Rattle.wb_flow.proofs.ReadLemmas.{one_way}
-use Rattle.wb_resolved.specs.declared.attributes.Direction.TheVariants.{Synthesized, Inherited}
-use Rattle.wb_resolved.specs.declared.attribution.AttributionParts.{AttributionParts}
-use Rattle.wb_resolved.specs.declared.equation.Equation.{Equation}
-use Rattle.wb_resolved.specs.declared.production.Forward.{Forward}
-use Rattle.wb_resolved.specs.declared.production.Local.{Local}
-use Rattle.wb_resolved.specs.declared.production.Production.{Production}
-use Rattle.wb_resolved.specs.Expression.{Node}
+use Rattle.wb_syntax_resolved.specs.declared.attributes.Direction.TheVariants.{Synthesized, Inherited}
+use Rattle.wb_syntax_resolved.specs.declared.attribution.AttributionParts.{AttributionParts}
+use Rattle.wb_syntax_resolved.specs.declared.equation.Equation.{Equation}
+use Rattle.wb_syntax_resolved.specs.declared.production.Forward.{Forward}
+use Rattle.wb_syntax_resolved.specs.declared.production.Local.{Local}
+use Rattle.wb_syntax_resolved.specs.declared.production.Production.{Production}
+use Rattle.wb_syntax_resolved.specs.Expression.{Node}
 
 abbrev pub arrow : Vertex → Vertex → Arrow
 arrow from to = record { from = from; to = to }

@@ -1,5 +1,6 @@
 -- What is reached and isn't in a flow type is what the test of reads finds.
-use Rattle.std.proofs.Common.{◌≡◌, ◌<◌, ◌∙◌, ◌∷◌, [], ◌⊎◌, inl, inr, ℕ, Bool, true, false, List, Option, None, Some, length, refl, sym, ap, subst, get_or}
+use Rattle.std.proofs.Common.{◌≡◌, ◌<◌, ◌∙◌, ◌∷◌, [], ◌⊎◌, inl, inr, ℕ, Bool, true, false, List, Option, None, Some, length, refl, sym, ap}
+use Rattle.std.proofs.Common.{subst, get_or}
 use Rattle.std.proofs.Common.{◌≤◌, ◌+◌, slice_get, Contains, arith, true≢false}
 use Rattle.std.specs.Prelude.{◌↔◌, slice_index_or, IfSome, IfNone, is_some, option_map}
 use Rattle.std.proofs.lemmas.Option.{same_Some, slice_get-get_or, slice_get_within}
@@ -7,9 +8,9 @@ use Rattle.wb_lemmas.proofs.Elements.{all_contained}
 use Rattle.wb_lemmas.proofs.Members.{contains_at, contains_first, contains_one}
 use Rattle.wb_lemmas.proofs.Places.{at_once}
 use Rattle.wb_graph.specs.Graphs.{Edge, AreReached, IsReached, Walk}
-use Rattle.wb_attributes.specs.Vertices as w
-use Rattle.wb_attributes.specs.Occurrences.{Goes}
-use Rattle.wb_attributes.specs.Flow.{IsVertex, Reaches}
+use Rattle.wb_flow_theory.specs.Vertices as w
+use Rattle.wb_flow_theory.specs.Occurrences.{Goes}
+use Rattle.wb_flow_theory.specs.Flow.{IsVertex, Reaches}
 use Rattle.wb_flow.specs.declared.vertex.FlowGraph.{FlowGraph}
 use Rattle.wb_flow.specs.declared.vertex.Vertex.{Vertex}
 use Rattle.wb_flow.specs.declared.vertex.Vertex.TheVariants as code
@@ -20,13 +21,13 @@ use Rattle.wb_flow.specs.Vertices.{vertex_of}
 use Rattle.wb_flow.proofs.AddingLemmas.{below_or}
 use Rattle.wb_flow.proofs.VertexLemmas.{name_of, name_of_vertex, top_is}
 use Rattle.wb_flow.proofs.WalkLemmas.{PlaceOf, place_of_vertex, reaches_walk, walk_leads, reaches_from, reaches_to}
-use Rattle.wb_resolved.specs.declared.attributes.Attribute.{Attribute}
-use Rattle.wb_resolved.specs.declared.attributes.Direction.{Direction}
-use Rattle.wb_resolved.specs.declared.attributes.Direction.TheVariants.{Synthesized, Inherited}
-use Rattle.wb_resolved.specs.declared.attribution.AttributionParts.{AttributionParts}
-use Rattle.wb_resolved.specs.declared.production.Production.{Production}
-use Rattle.wb_resolved.specs.Attribution.{IsAttribution}
-use Rattle.wb_resolved.specs.Named.{IsNamedProduction}
+use Rattle.wb_syntax_resolved.specs.declared.attributes.Attribute.{Attribute}
+use Rattle.wb_syntax_resolved.specs.declared.attributes.Direction.{Direction}
+use Rattle.wb_syntax_resolved.specs.declared.attributes.Direction.TheVariants.{Synthesized, Inherited}
+use Rattle.wb_syntax_resolved.specs.declared.attribution.AttributionParts.{AttributionParts}
+use Rattle.wb_syntax_resolved.specs.declared.production.Production.{Production}
+use Rattle.wb_syntax_resolved.specs.Attribution.{IsAttribution}
+use Rattle.wb_syntax_resolved.specs.Named.{IsNamedProduction}
 
 -- all that is written on a production of an attribution is named
 pub known_production : (a : AttributionParts) → IsAttribution a → (number : ℕ) (production : Production)

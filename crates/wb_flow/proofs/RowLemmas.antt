@@ -4,13 +4,13 @@ use Rattle.std.specs.Prelude.{◌↔◌}
 use Rattle.std.proofs.lemmas.Option.{slice_get-get_or, same_Some}
 use Rattle.wb_lemmas.proofs.Members.{contains_at, place_of}
 use Rattle.wb_lemmas.proofs.Places.{at_once}
-use Rattle.wb_attributes.specs.Occurrences.{IsOn}
+use Rattle.wb_flow_theory.specs.Occurrences.{IsOn}
 use Rattle.wb_flow.specs.Inner.Adding.{Adds, SomeBefore, SomeOf}
 use Rattle.wb_flow.specs.Occurrences.{IsIndexOf}
 use Rattle.wb_flow.proofs.AddingLemmas.{adds_as, adds_more, adds_all}
 use Rattle.wb_flow.proofs.IndexLemmas.{row_number, number_within, on_of_number}
-use Rattle.wb_resolved.specs.declared.attributes.Occurrence.{Occurrence}
-use Rattle.wb_resolved.specs.declared.attribution.AttributionParts.{AttributionParts}
+use Rattle.wb_syntax_resolved.specs.declared.attributes.Occurrence.{Occurrence}
+use Rattle.wb_syntax_resolved.specs.declared.attribution.AttributionParts.{AttributionParts}
 
 -- what is something is what it is
 pub some_is : {X : Type 0} (o : Option X) (x : X) → o ≡ Some x → (y : X) → (y ≡ x) ↔ (o ≡ Some y)

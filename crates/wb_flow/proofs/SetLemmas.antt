@@ -1,5 +1,6 @@
 -- Different vertices, kept by a table of hashes.
-use Rattle.std.proofs.Common.{◌≡◌, ◌++◌, ◌∷◌, [], ◌⊎◌, inl, inr, ℕ, List, Bool, true, false, Some, length, get_or, refl, sym, ap, subst, ◌∙◌, Contains, slice_get, rules}
+use Rattle.std.proofs.Common.{◌≡◌, ◌++◌, ◌∷◌, [], ◌⊎◌, inl, inr, ℕ, List, Bool, true, false, Some, length, get_or, refl, sym, ap, subst}
+use Rattle.std.proofs.Common.{◌∙◌, Contains, slice_get, rules}
 use Rattle.std.proofs.Common.{if◌then◌else◌}
 use Rattle.std.specs.List.{list_any, position}
 use Rattle.std.proofs.lemmas.List.Quantifiers.{position-Some}

@@ -9,9 +9,9 @@ use Rattle.wb_flow.specs.declared.positions.TreeAt.{TreeAt}
 use Rattle.wb_flow.specs.Inner.Adding.{Adds, SomeBelow}
 use Rattle.wb_flow.specs.Inner.Positions.{nonterminal_at, child_nonterminal, kind_nonterminal, HasTree, IsTreeOf}
 use Rattle.wb_flow.proofs.AddingLemmas.{adds_both, adds_to_nothing}
-use Rattle.wb_resolved.specs.declared.production.Child.{Child}
-use Rattle.wb_resolved.specs.declared.production.Local.{Local}
-use Rattle.wb_resolved.specs.declared.production.Production.{Production}
+use Rattle.wb_syntax_resolved.specs.declared.production.Child.{Child}
+use Rattle.wb_syntax_resolved.specs.declared.production.Local.{Local}
+use Rattle.wb_syntax_resolved.specs.declared.production.Production.{Production}
 
 abbrev pub tree : Position → ℕ → TreeAt
 tree position n = record { position = position; nonterminal = n }

@@ -4,11 +4,11 @@ use Rattle.std.specs.Prelude.{◌↔◌, IsSome}
 use Rattle.std.proofs.lemmas.Option.{same_Some}
 use Rattle.wb_base.specs.declared.symbol.Kind.TheVariants as kind
 use Rattle.wb_lemmas.proofs.Elements.{all_contained}
-use Rattle.wb_attributes.specs.Vertices as w
-use Rattle.wb_attributes.specs.Occurrences.{Goes, IsOn, Occurs}
-use Rattle.wb_attributes.specs.Rules.{IsBelow}
-use Rattle.wb_attributes.specs.Flow.{IsVertex}
-use Rattle.wb_attributes.proofs.OccurrenceLemmas.{goes_seen}
+use Rattle.wb_flow_theory.specs.Vertices as w
+use Rattle.wb_flow_theory.specs.Occurrences.{Goes, IsOn, Occurs}
+use Rattle.wb_flow_theory.specs.Rules.{IsBelow}
+use Rattle.wb_flow_theory.specs.Flow.{IsVertex}
+use Rattle.wb_flow_theory.proofs.OccurrenceLemmas.{goes_seen}
 use Rattle.wb_flow.specs.declared.positions.Position.{Position}
 use Rattle.wb_flow.specs.declared.positions.Position.TheVariants as p
 use Rattle.wb_flow.specs.declared.positions.TreeAt.{TreeAt}
@@ -17,17 +17,17 @@ use Rattle.wb_flow.specs.declared.vertex.Vertex.TheVariants as code
 use Rattle.wb_flow.specs.Inner.Adding.{SomeOf}
 use Rattle.wb_flow.specs.Inner.Positions.{vertex_at, tree_at, child_nonterminal, kind_nonterminal, nonterminal_at, HasTree, IsVertexOf}
 use Rattle.wb_flow.specs.Vertices.{known_direction, direction_of, top_vertex, vertex_below, vertex_of}
-use Rattle.wb_resolved.specs.declared.attributes.Direction.{Direction}
-use Rattle.wb_resolved.specs.declared.attributes.Direction.TheVariants.{Synthesized, Inherited}
-use Rattle.wb_resolved.specs.declared.attribution.AttributionParts.{AttributionParts}
-use Rattle.wb_resolved.specs.declared.production.Child.{Child}
-use Rattle.wb_resolved.specs.declared.production.ChildKind.{ChildKind}
-use Rattle.wb_resolved.specs.declared.production.ChildKind.TheVariants as child
-use Rattle.wb_resolved.specs.declared.production.Forward.{Forward}
-use Rattle.wb_resolved.specs.declared.production.Local.{Local}
-use Rattle.wb_resolved.specs.declared.production.Production.{Production}
-use Rattle.wb_resolved.specs.Attribution.{IsAttribution}
-use Rattle.wb_resolved.specs.Named.{IsNamedOccurrence}
+use Rattle.wb_syntax_resolved.specs.declared.attributes.Direction.{Direction}
+use Rattle.wb_syntax_resolved.specs.declared.attributes.Direction.TheVariants.{Synthesized, Inherited}
+use Rattle.wb_syntax_resolved.specs.declared.attribution.AttributionParts.{AttributionParts}
+use Rattle.wb_syntax_resolved.specs.declared.production.Child.{Child}
+use Rattle.wb_syntax_resolved.specs.declared.production.ChildKind.{ChildKind}
+use Rattle.wb_syntax_resolved.specs.declared.production.ChildKind.TheVariants as child
+use Rattle.wb_syntax_resolved.specs.declared.production.Forward.{Forward}
+use Rattle.wb_syntax_resolved.specs.declared.production.Local.{Local}
+use Rattle.wb_syntax_resolved.specs.declared.production.Production.{Production}
+use Rattle.wb_syntax_resolved.specs.Attribution.{IsAttribution}
+use Rattle.wb_syntax_resolved.specs.Named.{IsNamedOccurrence}
 
 -- the position that a step leads to
 abbrev pub position_of : w.Step → Position

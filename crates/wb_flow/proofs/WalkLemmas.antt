@@ -1,5 +1,6 @@
 -- Walks of a flow graph by places and by vertices.
-use Rattle.std.proofs.Common.{◌≡◌, ◌<◌, ◌+◌, ◌-◌, ◌∙◌, ◌∷◌, ◌++◌, [], ◌⊎◌, inl, inr, ℕ, List, Vec, Global, Some, All, length, refl, sym, ap, subst}
+use Rattle.std.proofs.Common.{◌≡◌, ◌<◌, ◌+◌, ◌-◌, ◌∙◌, ◌∷◌, ◌++◌, [], ◌⊎◌, inl, inr, ℕ, List, Vec, Global, Some, All, length, refl, sym, ap}
+use Rattle.std.proofs.Common.{subst}
 use Rattle.std.proofs.Common.{slice_get, arith, length-append}
 use Rattle.std.specs.List.{AllZip}
 use Rattle.std.proofs.lemmas.Option.{slice_get_within, same_Some}
@@ -14,19 +15,19 @@ use Rattle.wb_lemmas.proofs.Elements.{all_contained, all_from_places}
 use Rattle.wb_lemmas.proofs.Members.{place_of}
 use Rattle.wb_lemmas.proofs.Places.{at_once, at_within, at_one, at_push, push_keeps}
 use Rattle.wb_lemmas.proofs.Zips.{beside}
-use Rattle.wb_attributes.specs.Vertices as w
-use Rattle.wb_attributes.specs.Flow.{IsVertex, HasFlowEdge, one, more, Reaches}
-use Rattle.wb_attributes.proofs.EdgeLemmas.{edge_from, edge_to}
+use Rattle.wb_flow_theory.specs.Vertices as w
+use Rattle.wb_flow_theory.specs.Flow.{IsVertex, HasFlowEdge, one, more, Reaches}
+use Rattle.wb_flow_theory.proofs.EdgeLemmas.{edge_from, edge_to}
 use Rattle.wb_flow.specs.declared.vertex.FlowGraph.{FlowGraph}
 use Rattle.wb_flow.specs.declared.vertex.Vertex.{Vertex}
 use Rattle.wb_flow.specs.Graphs.{IsNeededBy, IsFlowGraph}
 use Rattle.wb_flow.specs.Refusals.{IsFlowCycle}
 use Rattle.wb_flow.specs.Vertices.{vertex_of}
 use Rattle.wb_flow.proofs.VertexLemmas.{name_of, name_of_vertex, named_vertex}
-use Rattle.wb_resolved.specs.declared.attribution.AttributionParts.{AttributionParts}
-use Rattle.wb_resolved.specs.declared.production.Production.{Production}
-use Rattle.wb_resolved.specs.Attribution.{IsAttribution}
-use Rattle.wb_resolved.specs.Named.{IsNamedProduction}
+use Rattle.wb_syntax_resolved.specs.declared.attribution.AttributionParts.{AttributionParts}
+use Rattle.wb_syntax_resolved.specs.declared.production.Production.{Production}
+use Rattle.wb_syntax_resolved.specs.Attribution.{IsAttribution}
+use Rattle.wb_syntax_resolved.specs.Named.{IsNamedProduction}
 
 module _ (a : AttributionParts) (production : Production) (graph : FlowGraph) (flow : IsFlowGraph a production graph) where
   -- the vertices at the ends of an edge

@@ -2,9 +2,9 @@
 use Rattle.std.specs.Prelude.{◌≡◌, ◌↔◌, ℕ, Some, All, Contains, length, slice_get}
 use Rattle.wb_base.specs.Different.{Differ}
 use Rattle.wb_graph.specs.Graphs.{IsEdgeBelow}
-use Rattle.wb_attributes.specs.Flow.{IsVertex, HasFlowEdge}
-use Rattle.wb_resolved.specs.declared.attribution.AttributionParts.{AttributionParts}
-use Rattle.wb_resolved.specs.declared.production.Production.{Production}
+use Rattle.wb_flow_theory.specs.Flow.{IsVertex, HasFlowEdge}
+use Rattle.wb_syntax_resolved.specs.declared.attribution.AttributionParts.{AttributionParts}
+use Rattle.wb_syntax_resolved.specs.declared.production.Production.{Production}
 use Rattle.wb_flow.specs.declared.vertex.FlowGraph.{FlowGraph}
 use Rattle.wb_flow.specs.declared.vertex.Vertex.{Vertex}
 use Rattle.wb_flow.specs.Vertices.{vertex_of}

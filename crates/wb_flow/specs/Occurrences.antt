@@ -1,6 +1,6 @@
 -- Occurrences by nonterminal.
 use Rattle.std.specs.Prelude.{◌≡◌, ◌↔◌, ℕ, List, [], Some, Contains, slice_get, slice_index_or}
-use Rattle.wb_resolved.specs.declared.attributes.Occurrence.{Occurrence}
+use Rattle.wb_syntax_resolved.specs.declared.attributes.Occurrence.{Occurrence}
 
 -- the occurrence of this number is on the nonterminal
 abbrev pub IsNumberOn : List Occurrence → ℕ → ℕ → Type 0

@@ -1,6 +1,6 @@
 -- That the tests of flow types and cycles have at most one answer.
 use Rattle.std.specs.Prelude.{ℕ, List, Option}
-use Rattle.wb_resolved.specs.declared.attribution.AttributionParts.{AttributionParts}
+use Rattle.wb_syntax_resolved.specs.declared.attribution.AttributionParts.{AttributionParts}
 use Rattle.wb_flow.specs.declared.vertex.Vertex.{Vertex}
 use Rattle.wb_flow.specs.Refusals.{FlowsOk, LacksForwardNeed, HasReadOutside, HasFlowCycle}
 

@@ -1,14 +1,14 @@
 -- What the tests of flow types and cycles ask, and when each refusal is true: its rule fails there, and those before it hold.
 use Rattle.std.specs.Prelude.{◌≡◌, ◌<◌, ◌+◌, ◌-◌, ℕ, List, Option, None, Some, length, slice_get}
 use Rattle.wb_base.specs.Different.{Differ}
-use Rattle.wb_attributes.specs.Vertices.{top_synthesized, top_inherited, tree_of, forward}
-use Rattle.wb_attributes.specs.Occurrences.{Occurs, Needs, ForwardNeeds}
-use Rattle.wb_attributes.specs.Flow.{Reaches}
-use Rattle.wb_attributes.specs.WellDefined.{KeepsFlowTypes, KeepsForwardFlowType, IsAcyclic}
-use Rattle.wb_attributes.specs.Modular.{IsProduction, EachProduction, HoldForwardNeeds}
-use Rattle.wb_resolved.specs.declared.attributes.Direction.TheVariants.{Synthesized}
-use Rattle.wb_resolved.specs.declared.attribution.AttributionParts.{AttributionParts}
-use Rattle.wb_resolved.specs.declared.production.Production.{Production}
+use Rattle.wb_flow_theory.specs.Vertices.{top_synthesized, top_inherited, tree_of, forward}
+use Rattle.wb_flow_theory.specs.Occurrences.{Occurs, Needs, ForwardNeeds}
+use Rattle.wb_flow_theory.specs.Flow.{Reaches}
+use Rattle.wb_flow_theory.specs.WellDefined.{KeepsFlowTypes, KeepsForwardFlowType, IsAcyclic}
+use Rattle.wb_flow_theory.specs.Modular.{IsProduction, EachProduction, HoldForwardNeeds}
+use Rattle.wb_syntax_resolved.specs.declared.attributes.Direction.TheVariants.{Synthesized}
+use Rattle.wb_syntax_resolved.specs.declared.attribution.AttributionParts.{AttributionParts}
+use Rattle.wb_syntax_resolved.specs.declared.production.Production.{Production}
 use Rattle.wb_flow.specs.declared.refusal.AttributeRefusal.{AttributeRefusal}
 use Rattle.wb_flow.specs.declared.refusal.AttributeRefusal.TheVariants as r
 use Rattle.wb_flow.specs.declared.vertex.Vertex.{Vertex}

@@ -1,12 +1,12 @@
 -- Which vertex of the definitions a vertex names: one that names an attribute is of the kind that the attribute's direction says.
 use Rattle.std.specs.Prelude.{ℕ, Option, None, Some, option_map, slice_get}
-use Rattle.wb_attributes.specs.Vertices as a
+use Rattle.wb_flow_theory.specs.Vertices as a
 use Rattle.wb_flow.specs.declared.vertex.Vertex.{Vertex}
 use Rattle.wb_flow.specs.declared.vertex.Vertex.TheVariants as v
-use Rattle.wb_resolved.specs.declared.attributes.Attribute.{Attribute}
-use Rattle.wb_resolved.specs.declared.attributes.Direction.{Direction}
-use Rattle.wb_resolved.specs.declared.attributes.Direction.TheVariants.{Synthesized, Inherited}
-use Rattle.wb_resolved.specs.declared.attribution.AttributionParts.{AttributionParts}
+use Rattle.wb_syntax_resolved.specs.declared.attributes.Attribute.{Attribute}
+use Rattle.wb_syntax_resolved.specs.declared.attributes.Direction.{Direction}
+use Rattle.wb_syntax_resolved.specs.declared.attributes.Direction.TheVariants.{Synthesized, Inherited}
+use Rattle.wb_syntax_resolved.specs.declared.attribution.AttributionParts.{AttributionParts}
 
 -- which way the values of an attribute go; those of one that isn't there go down
 abbrev pub known_direction : Option Direction → Direction

@@ -14,7 +14,7 @@ use crate::rules::{defined, defines, read};
 use crate::{Scope, Vertex};
 use std::alloc::AllocError;
 use wb_base::push;
-use wb_resolved::{Node, Occurrence, Production};
+use wb_syntax_resolved::{Node, Occurrence, Production};
 
 // An edge, by its ends.
 #[derive(Clone, Copy)]

@@ -3,18 +3,18 @@
 //! Each rule is tested on all productions before the next, so the first that fails is the answer.
 
 ghost use Rattle.std.specs.Prelude.{◌≡◌, ℕ, Some, IfOk, IfErr, Contains, slice_get};
-ghost use Rattle.wb_attributes.specs.Modular.{EachProduction, HoldForwardNeeds};
-ghost use Rattle.wb_attributes.specs.WellDefined.{IsAcyclic};
+ghost use Rattle.wb_flow_theory.specs.Modular.{EachProduction, HoldForwardNeeds};
+ghost use Rattle.wb_flow_theory.specs.WellDefined.{IsAcyclic};
 ghost use Rattle.wb_flow.specs.Inner.Sources.{KeepsAll, RefusesAnyReads, RefusesAnyCycle, RefusesForward, HoldsForward};
 ghost use Rattle.wb_flow.specs.Occurrences.{IsIndexOf};
 ghost use Rattle.wb_flow.specs.Refusals.{FlowsOk, IsTrueFlowRefusal};
-ghost use Rattle.wb_resolved.specs.Attribution.{IsAttribution};
+ghost use Rattle.wb_syntax_resolved.specs.Attribution.{IsAttribution};
 
 use crate::cycles::check_cycle;
 use crate::reads::check_reads;
 use crate::{AttributeRefusal, OccurrenceIndex, Scope};
 use std::alloc::Global;
-use wb_resolved::{Attribution, Occurrence};
+use wb_syntax_resolved::{Attribution, Occurrence};
 
 /// Whether each flow type has what that of its nonterminal's forward has, each production needs no more inherited attributes of its top
 /// than flow types say, and nothing in a production needs itself.

@@ -4,11 +4,11 @@
 
 ghost use Rattle.std.specs.Prelude.{◌≡◌, ◌<◌, Some, All, IfOk, IfErr, length, slice_get};
 ghost use Rattle.std.specs.List.{AllZip};
-ghost use Rattle.wb_attributes.specs.Modular.{IsProduction};
-ghost use Rattle.wb_attributes.specs.WellDefined.{IsAcyclic};
+ghost use Rattle.wb_flow_theory.specs.Modular.{IsProduction};
+ghost use Rattle.wb_flow_theory.specs.WellDefined.{IsAcyclic};
 ghost use Rattle.wb_flow.specs.Inner.Sources.{RefusesCycle, IsTested};
 ghost use Rattle.wb_flow.specs.Occurrences.{IsIndexOf};
-ghost use Rattle.wb_resolved.specs.Attribution.{IsAttribution};
+ghost use Rattle.wb_syntax_resolved.specs.Attribution.{IsAttribution};
 
 use crate::graph::graph_of;
 use crate::reads::Tested;
@@ -16,7 +16,7 @@ use crate::{AttributeRefusal, Scope, Vertex};
 use std::alloc::{AllocError, Global};
 use wb_base::{Sequence, push};
 use wb_graph::{Order, order_of};
-use wb_resolved::Production;
+use wb_syntax_resolved::Production;
 
 // Whether nothing in the production of this number needs itself.
 pub(crate) fn check_cycle(

@@ -3,7 +3,7 @@
 //! Its edges are found by their ends and then given by the positions of these among the vertices.
 
 ghost use Rattle.std.specs.Prelude.{◌<◌, ◌↔◌, ℕ, Contains, IfOk, length};
-ghost use Rattle.wb_attributes.specs.Modular.{IsProduction};
+ghost use Rattle.wb_flow_theory.specs.Modular.{IsProduction};
 ghost use Rattle.wb_flow.specs.declared.arrows.Arrow.{Arrow};
 ghost use Rattle.wb_flow.specs.declared.positions.TreeAt.{TreeAt};
 ghost use Rattle.wb_flow.specs.declared.vertex.Vertex.{Vertex};
@@ -12,8 +12,8 @@ ghost use Rattle.wb_flow.specs.Inner.Adding.{SomeOf};
 ghost use Rattle.wb_flow.specs.Inner.Arrows.{IsArrow, IsNumbered};
 ghost use Rattle.wb_flow.specs.Inner.Positions.{HasTree, IsVertexOf};
 ghost use Rattle.wb_flow.specs.Occurrences.{IsIndexOf};
-ghost use Rattle.wb_resolved.specs.Attribution.{IsAttribution};
-ghost use Rattle.wb_resolved.specs.declared.production.Production.{Production};
+ghost use Rattle.wb_syntax_resolved.specs.Attribution.{IsAttribution};
+ghost use Rattle.wb_syntax_resolved.specs.declared.production.Production.{Production};
 
 use crate::arrows::{Arrow, add_copies, add_needs, add_reads};
 use crate::positions::{TreeAt, trees_of};
@@ -22,7 +22,7 @@ use crate::vertices::vertices_of;
 use crate::{FlowGraph, OccurrenceIndex, Scope};
 use std::alloc::{AllocError, Global};
 use wb_base::{Sequence, push};
-use wb_resolved::{Attribution, Production};
+use wb_syntax_resolved::{Attribution, Production};
 
 /// The flow graph of the production of this number.
 ///

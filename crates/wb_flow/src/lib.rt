@@ -2,7 +2,7 @@
 //! itself.
 //!
 //! Each production is tested by itself, by the flow types of the attributes around it, so an extension is tested with its host alone. The
-//! rules are defined in `wb_attributes`. Whether each attribute has an equation is tested elsewhere.
+//! rules are defined in `wb_flow_theory`. Whether each attribute has an equation is tested elsewhere.
 #![tactic(auto)]
 
 mod arrows;

@@ -3,15 +3,15 @@
 //! Occurrences are listed in any order, and each production asks for those on a few nonterminals; so their numbers are kept by nonterminal.
 
 ghost use Rattle.std.specs.Prelude.{◌≡◌, ◌⊎◌, ◌↔◌, ◌<◌, ℕ, Some, Contains, IfOk, OnOk, IsTrue, [], length, slice_get, slice_index_or};
-ghost use Rattle.wb_attributes.specs.Occurrences.{Goes, Needs, ForwardNeeds};
+ghost use Rattle.wb_flow_theory.specs.Occurrences.{Goes, Needs, ForwardNeeds};
 ghost use Rattle.wb_flow.specs.Occurrences.{IsNumberOn, IsIndexOf};
-ghost use Rattle.wb_resolved.specs.declared.attributes.Direction.TheVariants.{Synthesized, Inherited};
-ghost use Rattle.wb_resolved.specs.Attribution.{IsAttribution};
+ghost use Rattle.wb_syntax_resolved.specs.declared.attributes.Direction.TheVariants.{Synthesized, Inherited};
+ghost use Rattle.wb_syntax_resolved.specs.Attribution.{IsAttribution};
 
 use std::alloc::{AllocError, Global};
 use std::marker::Model;
 use wb_base::push;
-use wb_resolved::{AttributionParts, Direction, Occurrence};
+use wb_syntax_resolved::{AttributionParts, Direction, Occurrence};
 
 /// The numbers of occurrences by the nonterminal that they are on.
 pub struct OccurrenceIndex {

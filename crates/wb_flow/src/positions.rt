@@ -10,7 +10,7 @@ ghost use Rattle.wb_flow.specs.Inner.Positions.{vertex_at, tree_at, child_nonter
 use crate::Vertex;
 use std::alloc::{AllocError, Global};
 use wb_base::{Kind, push};
-use wb_resolved::{ChildKind, Production};
+use wb_syntax_resolved::{ChildKind, Production};
 
 // Where a tree is.
 #[derive(Clone, Copy)]

@@ -3,20 +3,20 @@
 //! What each synthesized attribute of its top reaches in its flow graph, and what the forwarded tree does, has to be in a flow type.
 
 ghost use Rattle.std.specs.Prelude.{◌≡◌, ◌<◌, ◌↔◌, ℕ, Some, IfOk, IfErr, IfSome, IfNone, Contains, Option, length, slice_get, slice_index_or, false, true};
-ghost use Rattle.wb_attributes.specs.Modular.{IsProduction};
-ghost use Rattle.wb_attributes.specs.Occurrences.{Goes};
+ghost use Rattle.wb_flow_theory.specs.Modular.{IsProduction};
+ghost use Rattle.wb_flow_theory.specs.Occurrences.{Goes};
 ghost use Rattle.wb_flow.specs.declared.vertex.Vertex.{Vertex};
 ghost use Rattle.wb_flow.specs.declared.vertex.Vertex.TheVariants as v;
 ghost use Rattle.wb_flow.specs.Inner.Sources.{IsSource, Allows, KeepsFrom, KeepsAll, RefusesReads, IsOutside, IsTested};
 ghost use Rattle.wb_flow.specs.Occurrences.{IsIndexOf};
-ghost use Rattle.wb_resolved.specs.declared.attributes.Direction.TheVariants.{Inherited};
-ghost use Rattle.wb_resolved.specs.Attribution.{IsAttribution};
+ghost use Rattle.wb_syntax_resolved.specs.declared.attributes.Direction.TheVariants.{Inherited};
+ghost use Rattle.wb_syntax_resolved.specs.Attribution.{IsAttribution};
 
 use crate::graph::graph_of;
 use crate::{AttributeRefusal, FlowGraph, Scope, Vertex};
 use std::alloc::{AllocError, Global};
 use wb_graph::reachable_from;
-use wb_resolved::Production;
+use wb_syntax_resolved::Production;
 
 // A production with its number and its flow graph.
 #[derive(Clone, Copy)]

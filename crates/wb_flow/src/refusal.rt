@@ -1,6 +1,6 @@
 //! Why are attributes not well defined?
 //!
-//! The rules are defined in `wb_attributes`; `wb_flow` and the crate above it find where they fail.
+//! The rules are defined in `wb_flow_theory`; `wb_flow` and the crate above it find where they fail.
 
 use crate::Vertex;
 use std::alloc::AllocError;

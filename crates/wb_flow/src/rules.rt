@@ -7,7 +7,7 @@ ghost use Rattle.wb_flow.specs.Rules.{attribute_at, target_of, IsDefined};
 ghost use Rattle.wb_flow.specs.Inner.Arrows.{label_read, read_by};
 
 use crate::Vertex;
-use wb_resolved::{Node, Place, Production, Target};
+use wb_syntax_resolved::{Node, Place, Production, Target};
 
 /// Whether an equation of a production is for this vertex. Takes time linear in its equations.
 pub fn defines(production: &Production, vertex: Vertex) -> bool

@@ -8,14 +8,14 @@ use Rattle.std.proofs.lemmas.List.Elements.{All-cons, All-head, All-nil}
 use Rattle.wb_base.specs.declared.symbol.Symbol.{Symbol}
 use Rattle.wb_base.specs.declared.symbol.Symbol.TheVariants.{Terminal, Nonterminal}
 use Rattle.wb_base.specs.Grammar.{GrammarView, Production, IsSymbolBelow, IsGrammar}
-use Rattle.wb_grammars.specs.Productions.{IsProduction}
-use Rattle.wb_grammars.specs.Trees.{Forest, nothing, leaf, node, symbols, IsDerived}
-use Rattle.wb_grammars.proofs.ProductionLemmas.{production_below}
-use Rattle.wb_languages.specs.Bounds.{HasNoCycle, IsSized, count, fewer, nodes}
-use Rattle.wb_languages.specs.Machine.{joined}
-use Rattle.wb_languages.proofs.BackLemmas.{parts_of}
-use Rattle.wb_languages.proofs.ForestLemmas.{symbols_joined, derived_joined, derived_left, derived_right}
-use Rattle.wb_languages.proofs.TreeBounds.{count_joined, tree_bound}
+use Rattle.wb_grammar_theory.specs.Productions.{IsProduction}
+use Rattle.wb_grammar_theory.specs.Trees.{Forest, nothing, leaf, node, symbols, IsDerived}
+use Rattle.wb_grammar_theory.proofs.ProductionLemmas.{production_below}
+use Rattle.wb_scan_theory.specs.Bounds.{HasNoCycle, IsSized, count, fewer, nodes}
+use Rattle.wb_scan_theory.specs.Machine.{joined}
+use Rattle.wb_scan_theory.proofs.BackLemmas.{parts_of}
+use Rattle.wb_scan_theory.proofs.ForestLemmas.{symbols_joined, derived_joined, derived_left, derived_right}
+use Rattle.wb_scan_theory.proofs.TreeBounds.{count_joined, tree_bound}
 use Rattle.wb_generate.specs.Counts.{AreLeast, HasTree, total}
 use Rattle.wb_generate.specs.Draws.{draw, upper, candidates, chosen_of, wants}
 use Rattle.wb_generate.specs.Inner.States.{State, before, IsFit}

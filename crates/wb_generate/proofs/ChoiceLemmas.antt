@@ -10,9 +10,9 @@ use Rattle.std.proofs.lemmas.Bool.{true≢false, cases_lt, leb-true, le-leb, lt-
 use Rattle.wb_base.specs.declared.symbol.Symbol.{Symbol}
 use Rattle.wb_base.specs.declared.symbol.Symbol.TheVariants.{Nonterminal}
 use Rattle.wb_base.specs.Grammar.{GrammarView, Production}
-use Rattle.wb_grammars.specs.Productions.{IsProduction}
-use Rattle.wb_grammars.specs.Trees.{Forest, nothing, leaf, node, symbols, IsDerived}
-use Rattle.wb_languages.specs.Bounds.{count}
+use Rattle.wb_grammar_theory.specs.Productions.{IsProduction}
+use Rattle.wb_grammar_theory.specs.Trees.{Forest, nothing, leaf, node, symbols, IsDerived}
+use Rattle.wb_scan_theory.specs.Bounds.{count}
 use Rattle.wb_generate.specs.Counts.{AreLeast, total}
 use Rattle.wb_generate.specs.Draws.{admits, candidates, wants, IsChosen}
 

@@ -11,12 +11,12 @@ use Rattle.std.proofs.lemmas.Bool.{true≢false, cases_eq, cases_lt}
 use Rattle.wb_base.specs.declared.symbol.Symbol.{Symbol}
 use Rattle.wb_base.specs.declared.symbol.Symbol.TheVariants.{Terminal, Nonterminal}
 use Rattle.wb_base.specs.Grammar.{GrammarView, IsSymbolBelow}
-use Rattle.wb_grammars.specs.Productions.{IsProduction}
-use Rattle.wb_grammars.specs.Trees.{Forest, nothing, leaf, node, symbols, IsDerived}
-use Rattle.wb_languages.specs.Bounds.{count}
-use Rattle.wb_languages.specs.Machine.{joined}
-use Rattle.wb_languages.proofs.ForestLemmas.{symbols_joined, derived_joined}
-use Rattle.wb_languages.proofs.TreeBounds.{count_joined}
+use Rattle.wb_grammar_theory.specs.Productions.{IsProduction}
+use Rattle.wb_grammar_theory.specs.Trees.{Forest, nothing, leaf, node, symbols, IsDerived}
+use Rattle.wb_scan_theory.specs.Bounds.{count}
+use Rattle.wb_scan_theory.specs.Machine.{joined}
+use Rattle.wb_scan_theory.proofs.ForestLemmas.{symbols_joined, derived_joined}
+use Rattle.wb_scan_theory.proofs.TreeBounds.{count_joined}
 use Rattle.wb_generate.specs.Counts.{HasTree, AreLeast, least_of, total}
 use Rattle.wb_generate.specs.Inner.Lowerings.{AreReached}
 

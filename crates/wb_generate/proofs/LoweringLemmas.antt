@@ -11,8 +11,8 @@ use Rattle.std.proofs.lemmas.List.Sorted.{All-permutation, Contains-permutation,
 use Rattle.wb_base.specs.declared.symbol.Symbol.{Symbol}
 use Rattle.wb_base.specs.declared.symbol.Symbol.TheVariants.{Terminal, Nonterminal}
 use Rattle.wb_base.specs.Grammar.{GrammarView, IsSymbolBelow}
-use Rattle.wb_grammars.specs.Productions.{IsProduction}
-use Rattle.wb_grammars.proofs.ProductionLemmas.{production_once, production_within}
+use Rattle.wb_grammar_theory.specs.Productions.{IsProduction}
+use Rattle.wb_grammar_theory.proofs.ProductionLemmas.{production_once, production_within}
 use Rattle.wb_lemmas.proofs.Members.{contains_cases, contains_first, contains_later, contains_one, contains_push, nothing_in}
 use Rattle.wb_lemmas.proofs.Elements.{all_from_contained}
 use Rattle.wb_generate.specs.Counts.{AreLeast, total}

@@ -9,14 +9,14 @@ use Rattle.std.proofs.lemmas.List.Elements.{All-head, All-tail, All-append, All-
 use Rattle.wb_base.specs.declared.symbol.Symbol.{Symbol}
 use Rattle.wb_base.specs.declared.symbol.Symbol.TheVariants.{Terminal, Nonterminal}
 use Rattle.wb_base.specs.Grammar.{GrammarView, IsSymbolBelow, IsProductionBelow, IsGrammar}
-use Rattle.wb_grammars.specs.Productions.{IsProduction}
-use Rattle.wb_grammars.specs.Trees.{Forest, nothing, leaf, node, symbols, leaves, IsDerived}
-use Rattle.wb_languages.specs.Bounds.{count}
-use Rattle.wb_languages.specs.Machine.{joined}
-use Rattle.wb_languages.specs.Readings.{terminals_of}
-use Rattle.wb_languages.proofs.BackLemmas.{parts_of}
-use Rattle.wb_languages.proofs.ForestLemmas.{symbols_joined, derived_joined, derived_left, derived_right, terminals_joined}
-use Rattle.wb_languages.proofs.TreeBounds.{count_joined}
+use Rattle.wb_grammar_theory.specs.Productions.{IsProduction}
+use Rattle.wb_grammar_theory.specs.Trees.{Forest, nothing, leaf, node, symbols, leaves, IsDerived}
+use Rattle.wb_scan_theory.specs.Bounds.{count}
+use Rattle.wb_scan_theory.specs.Machine.{joined}
+use Rattle.wb_scan_theory.specs.Readings.{terminals_of}
+use Rattle.wb_scan_theory.proofs.BackLemmas.{parts_of}
+use Rattle.wb_scan_theory.proofs.ForestLemmas.{symbols_joined, derived_joined, derived_left, derived_right, terminals_joined}
+use Rattle.wb_scan_theory.proofs.TreeBounds.{count_joined}
 use Rattle.wb_generate.specs.Counts.{HasTree, AreLeast, total}
 use Rattle.wb_generate.specs.Draws.{draw, upper, IsChosen}
 use Rattle.wb_generate.specs.Making.{Makes, over, shown, removed, replaced}

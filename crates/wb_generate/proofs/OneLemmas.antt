@@ -7,7 +7,7 @@ use Rattle.wb_automata.specs.Overlaps.{IsLeastMatch}
 use Rattle.wb_base.specs.declared.symbol.Symbol.{Symbol}
 use Rattle.wb_base.specs.declared.symbol.Symbol.TheVariants.{Nonterminal}
 use Rattle.wb_base.specs.Grammar.{GrammarView, Production}
-use Rattle.wb_languages.specs.Bounds.{count}
+use Rattle.wb_scan_theory.specs.Bounds.{count}
 use Rattle.wb_lemmas.proofs.Zips.{one_zip}
 use Rattle.wb_regex.specs.Tree.{Tree}
 use Rattle.wb_generate.specs.Counts.{AreLeast, IsLeast, total}

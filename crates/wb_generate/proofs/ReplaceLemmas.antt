@@ -7,8 +7,8 @@ use Rattle.std.proofs.lemmas.List.Elements.{All-head}
 use Rattle.wb_base.specs.declared.symbol.Symbol.{Symbol}
 use Rattle.wb_base.specs.declared.symbol.Symbol.TheVariants.{Nonterminal}
 use Rattle.wb_base.specs.Grammar.{GrammarView, IsSymbolBelow}
-use Rattle.wb_grammars.specs.Productions.{IsProduction}
-use Rattle.wb_grammars.proofs.ProductionLemmas.{production_within}
+use Rattle.wb_grammar_theory.specs.Productions.{IsProduction}
+use Rattle.wb_grammar_theory.proofs.ProductionLemmas.{production_within}
 use Rattle.wb_lemmas.proofs.Booleans.{is_false}
 use Rattle.wb_generate.specs.Counts.{total}
 use Rattle.wb_generate.specs.Draws.{draw, upper, IsChosen}

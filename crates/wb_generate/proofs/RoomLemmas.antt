@@ -1,5 +1,6 @@
 -- The productions that may be chosen are those of the nonterminal whose sums are in a range, in the same order.
-use Rattle.std.proofs.Common.{◌≡◌, ℕ, ◌+◌, zero, suc, ◌<◌, ◌≤◌, ◌/◌, ◌%◌, min, Bool, true, false, cond, not, ◌&&◌, ◌||◌, List, [], ◌∷◌, ◌++◌, length, get_or, take}
+use Rattle.std.proofs.Common.{◌≡◌, ℕ, ◌+◌, zero, suc, ◌<◌, ◌≤◌, ◌/◌, ◌%◌, min, Bool, true, false, cond, not, ◌&&◌, ◌||◌, List, [], ◌∷◌}
+use Rattle.std.proofs.Common.{◌++◌, length, get_or, take}
 use Rattle.std.proofs.Common.{All, Contains, refl, sym, ◌∙◌, ap, subst, inl, inr, arith, Some}
 use Rattle.std.specs.Prelude.{◌==◌, IfSome, nat_le, nat_lt, slice_get, slice_index}
 use Rattle.std.specs.List.{AllZip, filter}
@@ -9,7 +10,7 @@ use Rattle.std.proofs.lemmas.List.{length-map, map-append, take_more}
 use Rattle.std.proofs.lemmas.Option.{slice_get-get_or}
 use Rattle.wb_base.specs.declared.symbol.Symbol.{Symbol}
 use Rattle.wb_base.specs.Grammar.{GrammarView, Production}
-use Rattle.wb_grammars.specs.Productions.{IsProduction}
+use Rattle.wb_grammar_theory.specs.Productions.{IsProduction}
 use Rattle.wb_lemmas.proofs.Booleans.{is_false}
 use Rattle.wb_lemmas.proofs.Elements.{all_from_contained}
 use Rattle.wb_lemmas.proofs.Zips.{beside}

@@ -3,8 +3,8 @@ use Rattle.std.specs.Prelude.{◌≡◌, ◌<◌, ◌≤◌, ◌+◌, ◌⊎◌,
 use Rattle.wb_base.specs.declared.symbol.Symbol.{Symbol}
 use Rattle.wb_base.specs.declared.symbol.Symbol.TheVariants.{Terminal, Nonterminal}
 use Rattle.wb_base.specs.Grammar.{GrammarView}
-use Rattle.wb_grammars.specs.Trees.{Forest, IsTree}
-use Rattle.wb_languages.specs.Bounds.{count}
+use Rattle.wb_grammar_theory.specs.Trees.{Forest, IsTree}
+use Rattle.wb_scan_theory.specs.Bounds.{count}
 
 -- a tree of the nonterminal with so many leaves
 pub record HasTree (g : GrammarView) (a n : ℕ) : Type 0 where

@@ -2,9 +2,9 @@
 use Rattle.std.specs.Prelude.{◌≡◌, ◌<◌, ◌≤◌, ℕ, List, Option, [], length}
 use Rattle.wb_base.specs.Grammar.{GrammarView}
 use Rattle.wb_regex.specs.Tree.{Tree}
-use Rattle.wb_grammars.specs.Trees.{Forest, DerivationTree, leaves}
-use Rattle.wb_languages.specs.Bounds.{count}
-use Rattle.wb_languages.specs.Readings.{terminals_of}
+use Rattle.wb_grammar_theory.specs.Trees.{Forest, DerivationTree, leaves}
+use Rattle.wb_scan_theory.specs.Bounds.{count}
+use Rattle.wb_scan_theory.specs.Readings.{terminals_of}
 use Rattle.wb_generate.specs.Counts.{IsLeast}
 use Rattle.wb_generate.specs.Making.{IsMade}
 use Rattle.wb_generate.specs.Texts.{IsWritten}

@@ -5,7 +5,7 @@
 ghost use Rattle.std.specs.Prelude.{◌≡◌, ◌↔◌, IsTrue, ◌≤◌, ◌+◌, ◌-◌, ◌++◌, ◌∷◌, [], ℕ, IfOk, OnOk, length, slice_index};
 ghost use Rattle.wb_base.specs.declared.symbol.Symbol.{Symbol};
 ghost use Rattle.wb_base.specs.declared.symbol.Symbol.TheVariants.{Nonterminal};
-ghost use Rattle.wb_languages.specs.Bounds.{HasNoCycle};
+ghost use Rattle.wb_scan_theory.specs.Bounds.{HasNoCycle};
 ghost use Rattle.wb_generate.specs.Making.{Makes};
 ghost use Rattle.wb_generate.specs.Inner.Choices.{AreChoices};
 ghost use Rattle.wb_generate.specs.Inner.Runs.{taken};

@@ -1,7 +1,7 @@
 //! What text does a number make?
 
 ghost use Rattle.std.specs.Prelude.{◌≡◌, ◌<◌, ◌≤◌, ℕ, IfOk, IfSome, length, slice_index};
-ghost use Rattle.wb_languages.specs.Bounds.{HasNoCycle};
+ghost use Rattle.wb_scan_theory.specs.Bounds.{HasNoCycle};
 ghost use Rattle.wb_generate.specs.Outcomes.{IsOutcome};
 ghost use Rattle.wb_generate.specs.Inner.Choices.{AreChoices};
 
@@ -18,8 +18,8 @@ use wb_regex::Regex;
 /// The expressions are those by which terminals are written: that of a marker has its prefix. The layout is the place of one more
 /// expression, whose least text comes between two leaves. Whether the text scans to the same leaves isn't promised.
 ///
-/// Least counts are found in about linear time. Then there is a step for each node of the text's tree, which goes over the productions of its
-/// nonterminal. Where many nonterminals derive only the empty text, in more than one way, there may be exponentially many such nodes.
+/// Least counts are found in about linear time. Then there is a step for each node of the text's tree, which goes over the productions of
+/// its nonterminal. Where many nonterminals derive only the empty text, in more than one way, there may be exponentially many such nodes.
 pub fn generate(
     alloc: Global,
     grammar: &Grammar,

@@ -8,13 +8,13 @@ use Rattle.wb_base.specs.declared.symbol.Symbol.TheVariants.{Terminal, Nontermin
 use Rattle.wb_base.specs.Grammar.{GrammarView, IsGrammar}
 use Rattle.wb_graph.specs.Graphs.{Edge, IsEdge}
 use Rattle.wb_graph.specs.Orders.{IsOrder, IsCycle}
-use Rattle.wb_grammars.specs.Productions.{IsProduction}
-use Rattle.wb_grammars.specs.Derives.{Derives, done}
-use Rattle.wb_grammars.specs.Cycles.{IsUnitProduction, IsUnitCycle, DerivesAlone, HasNoUnitCycle, IsFollowedBy, IsCycleOf}
-use Rattle.wb_grammars.specs.Walks.{Walk, one, more}
-use Rattle.wb_grammars.proofs.DerivesLemmas.{Derives-append, Nullable-parts}
-use Rattle.wb_grammars.proofs.UnitLemmas.{unit_cycle_is, production_alone}
-use Rattle.wb_grammars.proofs.ProductionLemmas.{production_below}
+use Rattle.wb_grammar_theory.specs.Productions.{IsProduction}
+use Rattle.wb_grammar_theory.specs.Derives.{Derives, done}
+use Rattle.wb_grammar_theory.specs.Cycles.{IsUnitProduction, IsUnitCycle, DerivesAlone, HasNoUnitCycle, IsFollowedBy, IsCycleOf}
+use Rattle.wb_grammar_theory.specs.Walks.{Walk, one, more}
+use Rattle.wb_grammar_theory.proofs.DerivesLemmas.{Derives-append, Nullable-parts}
+use Rattle.wb_grammar_theory.proofs.UnitLemmas.{unit_cycle_is, production_alone}
+use Rattle.wb_grammar_theory.proofs.ProductionLemmas.{production_below}
 use Rattle.wb_grammar.specs.Inner.LeastSets.{Holds}
 use Rattle.wb_grammar.specs.Facts.{IsNullableSet}
 use Rattle.wb_grammar.specs.declared.occurrence.Occurrence.TheVariants.{Unit}

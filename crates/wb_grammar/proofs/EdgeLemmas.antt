@@ -9,8 +9,8 @@ use Rattle.wb_base.specs.declared.symbol.Symbol.{Symbol}
 use Rattle.wb_base.specs.declared.symbol.Symbol.TheVariants.{Terminal, Nonterminal}
 use Rattle.wb_base.specs.Grammar.{GrammarView, IsGrammar, IsSymbolBelow}
 use Rattle.wb_graph.specs.Graphs.{Edge, IsEdgeBelow}
-use Rattle.wb_grammars.specs.Productions.{IsProduction}
-use Rattle.wb_grammars.proofs.ProductionLemmas.{production_once, production_within, production_below}
+use Rattle.wb_grammar_theory.specs.Productions.{IsProduction}
+use Rattle.wb_grammar_theory.proofs.ProductionLemmas.{production_once, production_within, production_below}
 use Rattle.wb_grammar.specs.declared.occurrence.Occurrence.{Occurrence}
 use Rattle.wb_grammar.specs.Inner.Edges.{IsPlaced, IsEdgeBy, AreEdges, edges_of}
 use Rattle.wb_grammar.proofs.OccurrenceLemmas.{placed_within}

@@ -10,9 +10,9 @@ use Rattle.wb_base.specs.declared.symbol.Symbol.TheVariants.{Terminal, Nontermin
 use Rattle.wb_base.specs.Grammar.{GrammarView}
 use Rattle.wb_termset.specs.Sets.{IsMember, IsUnion, Grew, members}
 use Rattle.wb_termset.proofs.CallerLemmas.{IsEmpty-replicate, members_le, members_mono, members_grow}
-use Rattle.wb_grammars.specs.Productions.{IsProduction}
-use Rattle.wb_grammars.specs.Derives.{Derives, done, keep, expand, IsNullable, IsFirst}
-use Rattle.wb_grammars.proofs.DerivesLemmas.{append_nil, Derives-same, First-of_head, First-of_tail}
+use Rattle.wb_grammar_theory.specs.Productions.{IsProduction}
+use Rattle.wb_grammar_theory.specs.Derives.{Derives, done, keep, expand, IsNullable, IsFirst}
+use Rattle.wb_grammar_theory.proofs.DerivesLemmas.{append_nil, Derives-same, First-of_head, First-of_tail}
 use Rattle.wb_grammar.specs.Facts.{IsNullableSet, AreSets, AreFirstSets, set_of}
 use Rattle.wb_grammar.specs.Inner.Firsts.{CanBegin, AreFirsts, IsFirstClosedAt, SetsWithin, SetsGrew}
 

@@ -10,10 +10,10 @@ use Rattle.wb_base.specs.declared.symbol.Symbol.TheVariants.{Nonterminal}
 use Rattle.wb_base.specs.Grammar.{GrammarView}
 use Rattle.wb_graph.specs.Graphs as graphs
 use Rattle.wb_graph.specs.Graphs.{Edge, IsEdge, IsReached, stay, step}
-use Rattle.wb_grammars.specs.Productions.{IsProduction}
-use Rattle.wb_grammars.specs.Cycles.{IsLeftCorner, IsHiddenCorner, IsHiddenCycle, IsFollowedBy, HasNoHiddenLeftRecursion}
-use Rattle.wb_grammars.specs.Walks.{Walk, one, more, HiddenWalk, last, here, later}
-use Rattle.wb_grammars.proofs.HiddenLemmas.{hidden_is}
+use Rattle.wb_grammar_theory.specs.Productions.{IsProduction}
+use Rattle.wb_grammar_theory.specs.Cycles.{IsLeftCorner, IsHiddenCorner, IsHiddenCycle, IsFollowedBy, HasNoHiddenLeftRecursion}
+use Rattle.wb_grammar_theory.specs.Walks.{Walk, one, more, HiddenWalk, last, here, later}
+use Rattle.wb_grammar_theory.proofs.HiddenLemmas.{hidden_is}
 use Rattle.wb_grammar.specs.Facts.{IsNullableSet}
 use Rattle.wb_grammar.specs.declared.occurrence.Occurrence.TheVariants.{LeftCorner, HiddenLeft}
 use Rattle.wb_grammar.specs.Inner.Edges.{IsEdgeBy, AreEdges}

@@ -6,11 +6,11 @@ use Rattle.wb_base.specs.declared.symbol.Symbol.{Symbol}
 use Rattle.wb_base.specs.declared.symbol.Symbol.TheVariants.{Terminal, Nonterminal}
 use Rattle.wb_base.specs.Grammar.{GrammarView, IsSymbolBelow}
 use Rattle.wb_termset.proofs.CallerLemmas.{IsMember-insert}
-use Rattle.wb_grammars.specs.Productions.{IsProduction}
-use Rattle.wb_grammars.specs.Derives.{Derives, done, keep, expand, IsText, empty, next}
-use Rattle.wb_grammars.specs.Shape.{IsProductive}
-use Rattle.wb_grammars.proofs.DerivesLemmas.{nil_parts}
-use Rattle.wb_grammars.proofs.TreeLemmas.{text_left, text_right}
+use Rattle.wb_grammar_theory.specs.Productions.{IsProduction}
+use Rattle.wb_grammar_theory.specs.Derives.{Derives, done, keep, expand, IsText, empty, next}
+use Rattle.wb_grammar_theory.specs.Shape.{IsProductive}
+use Rattle.wb_grammar_theory.proofs.DerivesLemmas.{nil_parts}
+use Rattle.wb_grammar_theory.proofs.TreeLemmas.{text_left, text_right}
 use Rattle.wb_grammar.specs.Inner.LeastSets.{Generates, nothing, terminal, nonterminal, Holds, IsKnown, AreGenerated, IsClosedAt}
 use Rattle.wb_grammar.specs.Inner.LeastSets.{IsLeastSet}
 use Rattle.wb_grammar.specs.Facts.{IsNullableSet}

@@ -6,9 +6,9 @@ use Rattle.wb_base.specs.declared.symbol.Symbol.{Symbol}
 use Rattle.wb_base.specs.declared.symbol.Symbol.TheVariants.{Nonterminal}
 use Rattle.wb_base.specs.Grammar.{GrammarView}
 use Rattle.wb_graph.specs.Graphs.{Edge, IsEdge, Walk, stay, step, IsReached}
-use Rattle.wb_grammars.specs.Derives.{Derives, done, keep, expand}
-use Rattle.wb_grammars.specs.Shape.{IsReachable}
-use Rattle.wb_grammars.proofs.DerivesLemmas.{Derives-same, Derives-append, Derives-then}
+use Rattle.wb_grammar_theory.specs.Derives.{Derives, done, keep, expand}
+use Rattle.wb_grammar_theory.specs.Shape.{IsReachable}
+use Rattle.wb_grammar_theory.proofs.DerivesLemmas.{Derives-same, Derives-append, Derives-then}
 use Rattle.wb_grammar.specs.declared.occurrence.Occurrence.TheVariants.{Any}
 use Rattle.wb_grammar.specs.Inner.Edges.{AreEdges}
 use Rattle.wb_grammar.proofs.OccurrenceLemmas.{whole_is, contains_cases, contains_nil}

@@ -5,7 +5,7 @@ use Rattle.std.proofs.lemmas.Bool.{true≢false}
 use Rattle.wb_base.specs.Grammar.{GrammarView}
 use Rattle.wb_termset.specs.Sets.{IsMember}
 use Rattle.wb_graph.specs.Graphs.{Edge, AreReached}
-use Rattle.wb_grammars.specs.Shape.{IsReachable, IsProductive}
+use Rattle.wb_grammar_theory.specs.Shape.{IsReachable, IsProductive}
 use Rattle.wb_grammar.specs.declared.occurrence.Occurrence.TheVariants.{Any}
 use Rattle.wb_grammar.specs.Inner.Edges.{AreEdges}
 use Rattle.wb_grammar.specs.Inner.LeastSets.{IsLeastSet}

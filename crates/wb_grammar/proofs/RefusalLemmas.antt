@@ -1,6 +1,6 @@
 -- A true refusal other than out of memory rules facts out.
 use Rattle.wb_base.specs.Grammar.{GrammarView}
-use Rattle.wb_grammars.proofs.CycleLemmas.{unit_cycle_member, hidden_cycle_above, first_element}
+use Rattle.wb_grammar_theory.proofs.CycleLemmas.{unit_cycle_member, hidden_cycle_above, first_element}
 use Rattle.wb_grammar.specs.declared.refusal.Reason.TheVariants.{Unreachable, Unproductive}
 use Rattle.wb_grammar.specs.declared.refusal.GrammarRefusal.{GrammarRefusal}
 use Rattle.wb_grammar.specs.declared.refusal.GrammarRefusal.TheVariants.{NotReduced, UnitCycle, HiddenLeftRecursion, NoMemory}

@@ -15,8 +15,8 @@ use Rattle.wb_base.specs.Grammar.{GrammarView, Production, IsSymbolBelow}
 use Rattle.wb_termset.specs.Sets.{IsMember, IsSubset, members}
 use Rattle.wb_termset.proofs.CallerLemmas.{IsMember-insert, IsMember-insert_same, IsSubset-insert, IsSubset-refl, IsEmpty-replicate}
 use Rattle.wb_termset.proofs.CallerLemmas.{members_le, members_grow}
-use Rattle.wb_grammars.specs.Productions.{IsProduction}
-use Rattle.wb_grammars.proofs.ProductionLemmas.{production_once, production_within}
+use Rattle.wb_grammar_theory.specs.Productions.{IsProduction}
+use Rattle.wb_grammar_theory.proofs.ProductionLemmas.{production_once, production_within}
 use Rattle.wb_grammar.specs.Inner.LeastSets.{Holds, IsClosedAt, IsLeastSet, IsFirstMissing}
 use Rattle.wb_grammar.specs.Inner.Worklists.{State, added, stopped_at, IsPassed, IsStoppedAt, Blocks, IsBlocked, IsSettled, AreSettled}
 use Rattle.wb_grammar.specs.Inner.Worklists.{IsWorklist, left_of, Passes, Advances}

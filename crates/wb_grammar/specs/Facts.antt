@@ -3,9 +3,9 @@ use Rattle.std.specs.Prelude.{◌≡◌, ◌+◌, ◌↔◌, ℕ, Bool, List, []
 use Rattle.wb_base.specs.declared.symbol.Symbol.TheVariants.{Nonterminal}
 use Rattle.wb_base.specs.Grammar.{GrammarView}
 use Rattle.wb_termset.specs.Sets.{IsMember}
-use Rattle.wb_grammars.specs.Derives.{IsNullable, IsFirst}
-use Rattle.wb_grammars.specs.Shape.{IsReduced, IsLive}
-use Rattle.wb_grammars.specs.Cycles.{HasNoUnitCycle, HasNoHiddenLeftRecursion}
+use Rattle.wb_grammar_theory.specs.Derives.{IsNullable, IsFirst}
+use Rattle.wb_grammar_theory.specs.Shape.{IsReduced, IsLive}
+use Rattle.wb_grammar_theory.specs.Cycles.{HasNoUnitCycle, HasNoHiddenLeftRecursion}
 
 -- a set of nonterminals, and for each nonterminal a set of terminals
 pub record FactsView : Type 0 where

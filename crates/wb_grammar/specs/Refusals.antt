@@ -2,8 +2,8 @@
 use Rattle.std.specs.Prelude.{◌<◌}
 use Rattle.wb_base.specs.Different.{Differ}
 use Rattle.wb_base.specs.Grammar.{GrammarView}
-use Rattle.wb_grammars.specs.Shape.{IsReduced, IsReachable, IsProductive}
-use Rattle.wb_grammars.specs.Cycles.{HasNoUnitCycle, IsUnitCycle, IsHiddenCycle}
+use Rattle.wb_grammar_theory.specs.Shape.{IsReduced, IsReachable, IsProductive}
+use Rattle.wb_grammar_theory.specs.Cycles.{HasNoUnitCycle, IsUnitCycle, IsHiddenCycle}
 use Rattle.wb_grammar.specs.declared.refusal.Reason.{Reason}
 use Rattle.wb_grammar.specs.declared.refusal.Reason.TheVariants.{Unreachable, Unproductive}
 use Rattle.wb_grammar.specs.declared.refusal.GrammarRefusal.{GrammarRefusal}

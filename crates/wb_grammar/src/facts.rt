@@ -4,7 +4,7 @@ ghost use Rattle.std.specs.Prelude.{◌≡◌, ◌+◌, ◌<◌, ◌↔◌, ◌�
 ghost use Rattle.wb_base.specs.declared.symbol.Symbol.TheVariants.{Nonterminal};
 ghost use Rattle.wb_base.specs.Grammar.{GrammarView};
 ghost use Rattle.wb_termset.specs.Sets.{IsMember};
-ghost use Rattle.wb_grammars.specs.Derives.{IsNullable, IsFirst};
+ghost use Rattle.wb_grammar_theory.specs.Derives.{IsNullable, IsFirst};
 ghost use Rattle.wb_grammar.specs.Facts.{AreFacts, set_of};
 
 use std::marker::Model;

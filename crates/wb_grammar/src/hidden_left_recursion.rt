@@ -4,8 +4,8 @@
 
 ghost use Rattle.std.specs.Prelude.{◌<◌, ◌∷◌, [], ℕ, All, Contains, length, IfOk, IfErr, OnOk, MatchOption};
 ghost use Rattle.wb_graph.specs.Graphs.{Edge, IsEdgeBelow, IsReached};
-ghost use Rattle.wb_grammars.specs.Shape.{IsReduced};
-ghost use Rattle.wb_grammars.specs.Cycles.{HasNoUnitCycle, HasNoHiddenLeftRecursion};
+ghost use Rattle.wb_grammar_theory.specs.Shape.{IsReduced};
+ghost use Rattle.wb_grammar_theory.specs.Cycles.{HasNoUnitCycle, HasNoHiddenLeftRecursion};
 ghost use Rattle.wb_grammar.specs.Facts.{IsNullableSet};
 ghost use Rattle.wb_grammar.specs.Inner.Paths.{IsPathTo};
 ghost use Rattle.wb_grammar.specs.Inner.Together.{IsTogether};

@@ -108,7 +108,8 @@ impl Worklist {
         Ok(())
     }
 
-    // Passes the symbols of a right side that the set holds: all, and the left side is a member, or up to one at which the production waits.
+    // Passes the symbols of a right side that the set holds: all, and the left side is a member, or up to one at which the production
+    // waits.
     fn pass(
         &mut self,
         grammar: &Grammar,

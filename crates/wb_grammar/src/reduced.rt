@@ -4,7 +4,7 @@
 
 ghost use Rattle.std.specs.Prelude.{◌≡◌, ◌<◌, ℕ, Bool, true, false, length, All, IfOk, IfErr, OnOk, MatchOption, slice_index_or};
 ghost use Rattle.wb_termset.specs.Sets.{IsMember};
-ghost use Rattle.wb_grammars.specs.Shape.{IsReachable, IsProductive, IsReduced};
+ghost use Rattle.wb_grammar_theory.specs.Shape.{IsReachable, IsProductive, IsReduced};
 ghost use Rattle.wb_grammar.specs.Facts.{IsNullableSet};
 ghost use Rattle.wb_grammar.specs.Refusals.{IsTrueRefusal};
 

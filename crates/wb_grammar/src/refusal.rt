@@ -1,4 +1,4 @@
-//! Why a grammar is refused, as `analyse` finds it; each reason has a true example. What the words mean is in `wb_grammars`.
+//! Why a grammar is refused, as `analyse` finds it; each reason has a true example. What the words mean is in `wb_grammar_theory`.
 
 use std::alloc::AllocError;
 use wb_base::Sequence;

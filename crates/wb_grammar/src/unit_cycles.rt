@@ -1,8 +1,8 @@
 //! Does some nonterminal derive itself? A topological order of unit productions says no, and a cycle of them is shown.
 
 ghost use Rattle.std.specs.Prelude.{IfErr, OnOk};
-ghost use Rattle.wb_grammars.specs.Shape.{IsReduced};
-ghost use Rattle.wb_grammars.specs.Cycles.{HasNoUnitCycle};
+ghost use Rattle.wb_grammar_theory.specs.Shape.{IsReduced};
+ghost use Rattle.wb_grammar_theory.specs.Cycles.{HasNoUnitCycle};
 ghost use Rattle.wb_grammar.specs.Facts.{IsNullableSet};
 ghost use Rattle.wb_grammar.specs.Refusals.{IsTrueRefusal};
 

@@ -8,7 +8,8 @@ ghost use Rattle.wb_graph.specs.Inner.Taking.{IsLinked, NothingTaken, Takes};
 
 use std::alloc::{AllocError, Global};
 
-// For each vertex one more than the number of its last edge that is not taken, or 0; and for each edge the same of the edges before it that leave its vertex.
+// For each vertex one more than the number of its last edge that is not taken, or 0; and for each edge the same of the edges before it that
+// leave its vertex.
 #[derive(Drop)]
 pub(crate) struct EdgeLists {
     pub(crate) firsts: Vec<usize>,

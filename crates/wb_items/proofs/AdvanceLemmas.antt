@@ -15,10 +15,10 @@ use Rattle.wb_lemmas.proofs.Places.{at_once, at_within, default_at}
 use Rattle.wb_lemmas.proofs.Members.{contains_at, place_of, contains_push, push_contains, push_contains_last}
 use Rattle.wb_base.specs.declared.symbol.Symbol.{Symbol}
 use Rattle.wb_base.specs.Grammar.{GrammarView}
-use Rattle.wb_grammars.specs.declared.item.Item.{Item}
-use Rattle.wb_grammars.specs.Items.{after_dot, advance}
-use Rattle.wb_grammars.specs.Shape.{IsLive}
-use Rattle.wb_grammars.proofs.ClosureLemmas.{closure_sound, closure_complete}
+use Rattle.wb_grammar_theory.specs.declared.item.Item.{Item}
+use Rattle.wb_grammar_theory.specs.Items.{after_dot, advance}
+use Rattle.wb_grammar_theory.specs.Shape.{IsLive}
+use Rattle.wb_grammar_theory.proofs.ClosureLemmas.{closure_sound, closure_complete}
 use Rattle.wb_items.specs.declared.advance.Advance.{Advance}
 use Rattle.wb_items.specs.Inner.Advances.{AreAdvancesRising, AdvancePrecedes, HasAdvance, IsRun, ListsAdvances, items_of, symbol_by}
 use Rattle.wb_items.specs.Inner.Advances.{symbol_of}

@@ -12,10 +12,10 @@ use Rattle.wb_base.specs.declared.symbol.Symbol.TheVariants.{Nonterminal}
 use Rattle.wb_base.specs.Grammar.{GrammarView}
 use Rattle.wb_termset.specs.Sets.{IsMember}
 use Rattle.wb_termset.proofs.CallerLemmas.{IsSubset-insert, IsMember-insert_same, IsMember-insert, IsEmpty-replicate, has_or_not}
-use Rattle.wb_grammars.specs.declared.item.Item.{Item}
-use Rattle.wb_grammars.specs.Productions.{IsProduction}
-use Rattle.wb_grammars.specs.Items.{after_dot, initial_item}
-use Rattle.wb_grammars.specs.Closure.{InClosure, kernel, opened}
+use Rattle.wb_grammar_theory.specs.declared.item.Item.{Item}
+use Rattle.wb_grammar_theory.specs.Productions.{IsProduction}
+use Rattle.wb_grammar_theory.specs.Items.{after_dot, initial_item}
+use Rattle.wb_grammar_theory.specs.Closure.{InClosure, kernel, opened}
 use Rattle.wb_items.specs.Inner.Closing.{IsClosing}
 use Rattle.wb_items.specs.Table.{AreProductionsOf}
 

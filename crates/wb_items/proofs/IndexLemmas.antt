@@ -8,7 +8,7 @@ use Rattle.std.proofs.lemmas.Bool.{cases_eq, cases_lt}
 use Rattle.std.proofs.lemmas.List.Edits.{length-insert, get_or-insert_below, get_or-insert_at, get_or-insert_above}
 use Rattle.wb_lemmas.proofs.Places.{at_once, at_push, default_at}
 use Rattle.wb_lemmas.proofs.Members.{contains_at, place_of}
-use Rattle.wb_grammars.specs.declared.item.Item.{Item}
+use Rattle.wb_grammar_theory.specs.declared.item.Item.{Item}
 use Rattle.wb_items.specs.Kernels.{AreInOrder}
 use Rattle.wb_items.specs.Inner.Searches.{ComesFirst, IsIndex, LiesWithin}
 use Rattle.wb_items.specs.Table.{SameItems}

@@ -7,7 +7,7 @@ use Rattle.std.proofs.lemmas.Grind.{common_steps}
 use Rattle.std.proofs.lemmas.List.{append_assoc, reverse-append}
 use Rattle.wb_lemmas.proofs.Places.{at_push}
 use Rattle.wb_base.specs.declared.symbol.Symbol.{Symbol}
-use Rattle.wb_grammars.specs.declared.item.Item.{Item}
+use Rattle.wb_grammar_theory.specs.declared.item.Item.{Item}
 use Rattle.wb_items.specs.declared.kernel_index.Step.{Step}
 use Rattle.wb_items.specs.Index.{IndexView, prefixes_after, prefixes_of}
 use Rattle.wb_items.specs.Inner.Steps.{IsKernelIndex, AreSteps}

@@ -9,7 +9,7 @@ use Rattle.std.proofs.lemmas.List.Elements.{All-push, All-nil}
 use Rattle.wb_lemmas.proofs.Places.{at_once}
 use Rattle.wb_termset.specs.Sets.{IsEmpty}
 use Rattle.wb_termset.proofs.CallerLemmas.{IsEmpty-replicate}
-use Rattle.wb_grammars.specs.declared.item.Item.{Item}
+use Rattle.wb_grammar_theory.specs.declared.item.Item.{Item}
 use Rattle.wb_items.specs.declared.item_lookahead.ItemLookahead.{ItemLookahead}
 use Rattle.wb_items.specs.Lookaheads.{items_in}
 

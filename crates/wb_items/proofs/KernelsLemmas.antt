@@ -7,12 +7,12 @@ use Rattle.std.proofs.lemmas.List.{get_or_past}
 use Rattle.wb_lemmas.proofs.Places.{default_at}
 use Rattle.wb_base.specs.declared.symbol.Symbol.{Symbol}
 use Rattle.wb_base.specs.Grammar.{GrammarView}
-use Rattle.wb_grammars.specs.declared.item.Item.{Item}
-use Rattle.wb_grammars.specs.Items.{IsValidItem, start, close, move, IsViablePrefix, SameKernel}
-use Rattle.wb_grammars.specs.States.{IsNext}
-use Rattle.wb_grammars.proofs.KernelLemmas.{kernel_decides, same_move}
-use Rattle.wb_grammars.proofs.ValidLemmas.{before_last}
-use Rattle.wb_grammars.proofs.FlowLemmas.{same_itself, same_back, same_then}
+use Rattle.wb_grammar_theory.specs.declared.item.Item.{Item}
+use Rattle.wb_grammar_theory.specs.Items.{IsValidItem, start, close, move, IsViablePrefix, SameKernel}
+use Rattle.wb_grammar_theory.specs.States.{IsNext}
+use Rattle.wb_grammar_theory.proofs.KernelLemmas.{kernel_decides, same_move}
+use Rattle.wb_grammar_theory.proofs.ValidLemmas.{before_last}
+use Rattle.wb_grammar_theory.proofs.FlowLemmas.{same_itself, same_back, same_then}
 use Rattle.wb_items.specs.declared.transitions.Move.{Move}
 use Rattle.wb_items.specs.Index.{IndexView}
 use Rattle.wb_items.specs.Kernels.{AreKernels, AreInOrder, ListsKernel, ListsItems, HasNoneBefore}

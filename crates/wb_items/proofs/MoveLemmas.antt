@@ -7,9 +7,9 @@ use Rattle.wb_lemmas.proofs.Places.{at_push, at_once}
 use Rattle.wb_lemmas.proofs.Members.{place_of, contains_at, contains_push, push_contains, push_contains_last}
 use Rattle.wb_base.specs.declared.symbol.Symbol.{Symbol}
 use Rattle.wb_base.specs.Grammar.{GrammarView}
-use Rattle.wb_grammars.specs.declared.item.Item.{Item}
-use Rattle.wb_grammars.specs.Items.{advance}
-use Rattle.wb_grammars.specs.Shape.{IsLive}
+use Rattle.wb_grammar_theory.specs.declared.item.Item.{Item}
+use Rattle.wb_grammar_theory.specs.Items.{advance}
+use Rattle.wb_grammar_theory.specs.Shape.{IsLive}
 use Rattle.std.specs.List.{between}
 use Rattle.wb_items.specs.declared.advance.Advance.{Advance}
 use Rattle.wb_items.specs.declared.transitions.Move.{Move}

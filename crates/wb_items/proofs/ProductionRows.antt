@@ -9,8 +9,8 @@ use Rattle.wb_lemmas.proofs.Places.{at_push, push_last}
 use Rattle.wb_lemmas.proofs.Members.{contains_at, contains_push, push_contains}
 use Rattle.wb_base.specs.declared.symbol.Symbol.{Symbol}
 use Rattle.wb_base.specs.Grammar.{GrammarView}
-use Rattle.wb_grammars.specs.Productions.{IsProduction}
-use Rattle.wb_grammars.proofs.ProductionLemmas.{production_once, production_within}
+use Rattle.wb_grammar_theory.specs.Productions.{IsProduction}
+use Rattle.wb_grammar_theory.proofs.ProductionLemmas.{production_once, production_within}
 use Rattle.wb_items.specs.Table.{AreProductionsOf, AreProductions}
 use Rattle.wb_items.specs.Inner.Passes.{ProductionsUpTo, RowsUpTo}
 

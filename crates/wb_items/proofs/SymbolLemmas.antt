@@ -5,9 +5,9 @@ use Rattle.std.proofs.lemmas.List.{drop_all}
 use Rattle.wb_base.specs.declared.symbol.Symbol.{Symbol}
 use Rattle.wb_base.specs.declared.symbol.Symbol.TheVariants.{Nonterminal}
 use Rattle.wb_base.specs.Grammar.{GrammarView, Production}
-use Rattle.wb_grammars.specs.declared.item.Item.{Item}
-use Rattle.wb_grammars.specs.Productions.{right_in}
-use Rattle.wb_grammars.specs.Items.{after_dot}
+use Rattle.wb_grammar_theory.specs.declared.item.Item.{Item}
+use Rattle.wb_grammar_theory.specs.Productions.{right_in}
+use Rattle.wb_grammar_theory.specs.Items.{after_dot}
 
 right_in-at : (rs : List Production) (s p : ℕ) (right : List Symbol) → p < length rs → IfSome (slice_get rs p) (λ r. right ≡ r.1) →
     right_in rs s p ≡ right

@@ -6,15 +6,16 @@ use Rattle.wb_lemmas.proofs.Places.{at_push, push_last, push_keeps, at_once, at_
 use Rattle.wb_lemmas.proofs.Members.{contains_at, place_of}
 use Rattle.wb_base.specs.declared.symbol.Symbol.{Symbol}
 use Rattle.wb_base.specs.Grammar.{GrammarView}
-use Rattle.wb_grammars.specs.declared.item.Item.{Item}
-use Rattle.wb_grammars.specs.Productions.{end_of}
-use Rattle.wb_grammars.specs.Items.{after_dot, advance, initial_item, IsValidItem, move, HasItem, IsKernelItem, IsViablePrefix, SameKernel}
-use Rattle.wb_grammars.specs.Items.{start_item}
-use Rattle.wb_grammars.specs.Items as valid
-use Rattle.wb_grammars.specs.Shape.{IsLive}
-use Rattle.wb_grammars.specs.Closure.{InClosure, kernel, opened, MovesTo}
-use Rattle.wb_grammars.proofs.ClosureLemmas.{closure_sound, closure_complete, moves_exact, first_kernel}
-use Rattle.wb_grammars.proofs.FlowLemmas.{same_itself}
+use Rattle.wb_grammar_theory.specs.declared.item.Item.{Item}
+use Rattle.wb_grammar_theory.specs.Productions.{end_of}
+use Rattle.wb_grammar_theory.specs.Items.{after_dot, advance, initial_item, IsValidItem, move, HasItem, IsKernelItem, IsViablePrefix}
+use Rattle.wb_grammar_theory.specs.Items.{SameKernel}
+use Rattle.wb_grammar_theory.specs.Items.{start_item}
+use Rattle.wb_grammar_theory.specs.Items as valid
+use Rattle.wb_grammar_theory.specs.Shape.{IsLive}
+use Rattle.wb_grammar_theory.specs.Closure.{InClosure, kernel, opened, MovesTo}
+use Rattle.wb_grammar_theory.proofs.ClosureLemmas.{closure_sound, closure_complete, moves_exact, first_kernel}
+use Rattle.wb_grammar_theory.proofs.FlowLemmas.{same_itself}
 use Rattle.wb_items.specs.declared.transitions.Move.{Move}
 use Rattle.wb_items.specs.Index.{IndexView}
 use Rattle.wb_items.specs.Kernels.{AreInOrder, ListsKernel, ListsItems}

@@ -1,8 +1,8 @@
 -- The lookaheads of a grammar's items as sets.
 use Rattle.std.specs.Prelude.{◌↔◌, ◌<◌, ℕ, Bool, List}
 use Rattle.wb_termset.specs.Sets.{IsMember}
-use Rattle.wb_grammars.specs.declared.item.Item.{Item}
-use Rattle.wb_grammars.specs.Lookaheads.{IsLookahead}
+use Rattle.wb_grammar_theory.specs.declared.item.Item.{Item}
+use Rattle.wb_grammar_theory.specs.Lookaheads.{IsLookahead}
 use Rattle.wb_items.specs.declared.item_lookahead.ItemLookahead.{ItemLookahead}
 use Rattle.wb_items.specs.Kernels.{KernelsView, count_of, prefix_of}
 use Rattle.wb_items.specs.Lookaheads.{AreLookaheadsOf, IsSetOf}

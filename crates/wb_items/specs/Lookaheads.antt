@@ -1,7 +1,7 @@
 -- Sets of terminals for the items of numbered kernels.
 use Rattle.std.specs.Prelude.{◌≡◌, ◌↔◌, ℕ, ◌+◌, Bool, true, IsTrue, List, [], length, map, Some, All, Contains, slice_get, slice_index_or}
 use Rattle.std.specs.Prelude.{slice_set}
-use Rattle.wb_grammars.specs.declared.item.Item.{Item}
+use Rattle.wb_grammar_theory.specs.declared.item.Item.{Item}
 use Rattle.wb_termset.specs.Sets.{IsMember, IsEmpty}
 use Rattle.wb_items.specs.declared.item_lookahead.ItemLookahead.{ItemLookahead}
 use Rattle.wb_items.specs.Kernels.{KernelsView}

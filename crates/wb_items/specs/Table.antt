@@ -2,10 +2,10 @@
 use Rattle.std.specs.Prelude.{◌≡◌, ◌↔◌, ℕ, ◌<◌, List, [], ◌∷◌, ◌++◌, length, Some, Contains, slice_get}
 use Rattle.wb_base.specs.declared.symbol.Symbol.{Symbol}
 use Rattle.wb_base.specs.Grammar.{GrammarView}
-use Rattle.wb_grammars.specs.declared.item.Item.{Item}
-use Rattle.wb_grammars.specs.Productions.{IsProduction}
-use Rattle.wb_grammars.specs.Items.{after_dot, IsViablePrefix, SameKernel}
-use Rattle.wb_grammars.specs.Shape.{IsLive}
+use Rattle.wb_grammar_theory.specs.declared.item.Item.{Item}
+use Rattle.wb_grammar_theory.specs.Productions.{IsProduction}
+use Rattle.wb_grammar_theory.specs.Items.{after_dot, IsViablePrefix, SameKernel}
+use Rattle.wb_grammar_theory.specs.Shape.{IsLive}
 use Rattle.wb_items.specs.declared.transitions.Move.{Move}
 use Rattle.wb_items.specs.Index.{IndexView}
 use Rattle.wb_items.specs.Kernels.{AreInOrder, ListsKernel, ListsItems}

@@ -2,8 +2,8 @@
 
 ghost use Rattle.std.specs.Prelude.{◌≡◌, ◌<◌, ◌+◌, ◌^◌, ◌↔◌, IfOk, OnOk, Some, length, slice_get};
 ghost use Rattle.wb_base.specs.declared.symbol.Symbol.{Symbol};
-ghost use Rattle.wb_grammars.specs.declared.item.Item.{Item};
-ghost use Rattle.wb_grammars.specs.Items as items;
+ghost use Rattle.wb_grammar_theory.specs.declared.item.Item.{Item};
+ghost use Rattle.wb_grammar_theory.specs.Items as items;
 ghost use Rattle.wb_items.specs.declared.advance.Advance.{Advance};
 ghost use Rattle.wb_items.specs.Inner.Advances.{AreAdvancesRising, HasAdvance, symbol_of};
 ghost use Rattle.wb_items.specs.Inner.Passes.{AdvancesUpTo};
@@ -12,7 +12,7 @@ ghost use Rattle.wb_items.specs.Inner.Growing.{IsMoved};
 use crate::dot::{item_at, symbol_after};
 use std::alloc::{AllocError, Global};
 use wb_base::{Grammar, Symbol, push};
-use wb_grammars::Item;
+use wb_grammar_theory::Item;
 
 // An item with its dot after a symbol. The order is by the symbol, terminals first, and then by the item.
 #[derive(Clone, Copy, PartialEq, Eq, PartialOrd, Ord, Drop)]

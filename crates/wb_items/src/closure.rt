@@ -1,9 +1,9 @@
 //! Which items are in the closure of a kernel? The initial items of each nonterminal after a dot are added once.
 
 ghost use Rattle.std.specs.Prelude.{◌≡◌, ◌↔◌, ◌++◌, IfOk, OnOk, Contains, map, ◌<◌, ◌+◌, vec_len, length, Some};
-ghost use Rattle.wb_grammars.specs.declared.item.Item.{Item};
-ghost use Rattle.wb_grammars.specs.Items.{initial_item};
-ghost use Rattle.wb_grammars.specs.Closure.{InClosure};
+ghost use Rattle.wb_grammar_theory.specs.declared.item.Item.{Item};
+ghost use Rattle.wb_grammar_theory.specs.Items.{initial_item};
+ghost use Rattle.wb_grammar_theory.specs.Closure.{InClosure};
 ghost use Rattle.wb_items.specs.Inner.Closing.{IsClosing};
 ghost use Rattle.wb_items.specs.Kernels.{AreInOrder};
 ghost use Rattle.wb_items.specs.Inner.Passes.{AreRising, StrictUpTo};
@@ -13,7 +13,7 @@ use crate::dot::{is_item, item_at, nonterminal_after};
 use crate::productions_of::Numbers;
 use std::alloc::{AllocError, Global};
 use wb_base::{Grammar, Sequence, push};
-use wb_grammars::Item;
+use wb_grammar_theory::Item;
 use wb_termset::TermSet;
 
 /// The items of the closure of a kernel, with those of the kernel first.

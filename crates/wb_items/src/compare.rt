@@ -8,7 +8,7 @@ ghost use Rattle.wb_items.specs.Table.{SameItems};
 
 use crate::dot::item_at;
 use std::cmp::Ordering;
-use wb_grammars::Item;
+use wb_grammar_theory::Item;
 
 // Which of a kernel and a list of items comes first. A list that isn't in order has any order, and an item may repeat.
 pub(crate) fn compare(kernel: &[Item], items: &[Item], in_order: bool) -> Ordering

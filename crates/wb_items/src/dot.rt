@@ -4,10 +4,10 @@ ghost use Rattle.std.specs.Prelude.{◌≡◌, ◌+◌, ◌<◌, ◌^◌, ◌∷
 ghost use Rattle.wb_base.specs.declared.symbol.Symbol.{Symbol};
 ghost use Rattle.wb_base.specs.declared.symbol.Symbol.TheVariants.{Nonterminal};
 ghost use Rattle.wb_base.specs.Grammar.{IsSymbolBelow};
-ghost use Rattle.wb_grammars.specs.Items.{after_dot};
+ghost use Rattle.wb_grammar_theory.specs.Items.{after_dot};
 
 use wb_base::{Grammar, Symbol};
-use wb_grammars::Item;
+use wb_grammar_theory::Item;
 
 /// The symbol after the dot of an item, or none where the dot is at the right end or the grammar has no such item.
 pub fn symbol_after(grammar: &Grammar, item: Item) -> Option<Symbol>

@@ -2,7 +2,7 @@
 
 ghost use Rattle.std.specs.Prelude.{◌≡◌, ◌<◌, ◌↔◌, List, Bool, IsTrue, true, false, IfOk, Some, length, All, Contains, slice_get, slice_set};
 ghost use Rattle.wb_termset.specs.Sets.{IsMember, IsEmpty, IsUnion, Grew};
-ghost use Rattle.wb_grammars.specs.declared.item.Item.{Item};
+ghost use Rattle.wb_grammar_theory.specs.declared.item.Item.{Item};
 ghost use Rattle.wb_items.specs.declared.item_lookahead.ItemLookahead.{ItemLookahead};
 ghost use Rattle.wb_items.specs.Kernels.{AreInOrder};
 ghost use Rattle.wb_items.specs.Lookaheads.{items_in};
@@ -12,7 +12,7 @@ use crate::dot::is_item;
 use std::alloc::{AllocError, Global};
 use std::marker::Model;
 use wb_base::push;
-use wb_grammars::Item;
+use wb_grammar_theory::Item;
 use wb_termset::TermSet;
 
 /// An item with a set of terminals.

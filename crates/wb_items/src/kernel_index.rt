@@ -4,7 +4,7 @@
 
 ghost use Rattle.std.specs.List.{insert};
 ghost use Rattle.std.specs.Prelude.{◌≡◌, ◌<◌, ◌≤◌, ◌++◌, ◌∷◌, [], ℕ, List, IfOk, IfSome, IfNone, OnErr, OnOk, Some, length, slice_get, slice_index_or};
-ghost use Rattle.wb_grammars.specs.declared.item.Item.{Item};
+ghost use Rattle.wb_grammar_theory.specs.declared.item.Item.{Item};
 ghost use Rattle.wb_items.specs.Kernels.{AreInOrder};
 ghost use Rattle.wb_items.specs.Table.{SameItems};
 
@@ -14,7 +14,7 @@ use crate::search::{is_number_of, locate};
 use std::alloc::{AllocError, Global};
 use std::marker::Model;
 use wb_base::{Grammar, Sequence, Symbol, push};
-use wb_grammars::Item;
+use wb_grammar_theory::Item;
 
 // A prefix goes on from that of an earlier number by a symbol.
 #[derive(Clone, Copy, Drop)]

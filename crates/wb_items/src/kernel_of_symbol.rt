@@ -1,7 +1,7 @@
 //! To which kernel does a symbol lead? The items that move over it stand together in the list of `advance.rt`.
 
 ghost use Rattle.std.specs.Prelude.{◌≡◌, ◌<◌, ◌+◌, ◌-◌, ◌↔◌, IfOk, OnOk, Some, Contains, length, slice_get};
-ghost use Rattle.wb_grammars.specs.declared.item.Item.{Item};
+ghost use Rattle.wb_grammar_theory.specs.declared.item.Item.{Item};
 ghost use Rattle.wb_items.specs.declared.advance.Advance.{Advance};
 ghost use Rattle.wb_items.specs.Inner.Advances.{AreAdvancesRising, IsRun, items_of, symbol_of};
 ghost use Rattle.wb_items.specs.Kernels.{AreInOrder};
@@ -11,7 +11,7 @@ use crate::advance::{Advance, symbol_at};
 use crate::dot::{is_item, is_symbol};
 use std::alloc::{AllocError, Global};
 use wb_base::{Sequence, Symbol, push};
-use wb_grammars::Item;
+use wb_grammar_theory::Item;
 
 // The place after all that have the symbol, from a place that has it.
 pub(crate) fn run_end(list: &[Advance], place: usize, symbol: Symbol) -> usize

@@ -2,7 +2,7 @@
 
 ghost use Rattle.std.specs.Prelude.{◌≡◌, ◌<◌, ◌↔◌, ℕ, List, IfOk, IfSome, IfNone, IsNone, Contains, length};
 ghost use Rattle.wb_base.specs.declared.symbol.Symbol.{Symbol};
-ghost use Rattle.wb_grammars.specs.Items.{IsViablePrefix};
+ghost use Rattle.wb_grammar_theory.specs.Items.{IsViablePrefix};
 ghost use Rattle.wb_grammar.specs.Facts.{AreFacts};
 ghost use Rattle.wb_items.specs.Table.{AreMovesInOrder};
 ghost use Rattle.wb_items.specs.declared.transitions.Move.{Move};
@@ -15,7 +15,7 @@ use std::alloc::{AllocError, Global};
 use std::marker::Model;
 use wb_base::{Grammar, Sequence, Symbol};
 use wb_grammar::Facts;
-use wb_grammars::Item;
+use wb_grammar_theory::Item;
 
 /// The kernels of a grammar's prefixes.
 ///

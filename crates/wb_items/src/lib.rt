@@ -1,7 +1,7 @@
 //! The LR(0) kernels of a grammar's prefixes, with their items and moves, and sets of terminals for these items.
 //!
 //! A parser is at a kernel after each symbol. The kernels are numbered as they are found from that of the empty prefix, and each
-//! number stands for a prefix that has it. What the words mean is in `wb_grammars`. Which terminals are lookaheads is found in the
+//! number stands for a prefix that has it. What the words mean is in `wb_grammar_theory`. Which terminals are lookaheads is found in the
 //! crates above.
 #![tactic(auto)]
 
@@ -27,4 +27,4 @@ pub use kernels::Kernels;
 pub use lookaheads::Lookaheads;
 pub use productions_of::{Numbers, production_numbers};
 pub use transitions::Move;
-pub use wb_grammars::Item;
+pub use wb_grammar_theory::Item;

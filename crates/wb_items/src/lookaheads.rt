@@ -4,7 +4,7 @@
 
 ghost use Rattle.std.specs.Prelude.{◌≡◌, ◌<◌, ◌↔◌, List, Bool, IsTrue, true, false, IfOk, Some, length, Contains, slice_get, slice_set};
 ghost use Rattle.wb_termset.specs.Sets.{IsMember, IsUnion, Grew};
-ghost use Rattle.wb_grammars.specs.declared.item.Item.{Item};
+ghost use Rattle.wb_grammar_theory.specs.declared.item.Item.{Item};
 ghost use Rattle.wb_items.specs.declared.item_lookahead.ItemLookahead.{ItemLookahead};
 ghost use Rattle.wb_items.specs.Lookaheads.{AreLookaheadsOf, AreEmpty, ChangesAt, Inserts, IsSetOf, items_in, row_of};
 
@@ -13,7 +13,7 @@ use crate::item_lookahead::{ItemLookahead, Row};
 use std::alloc::{AllocError, Global};
 use std::marker::Model;
 use wb_base::{Grammar, push};
-use wb_grammars::Item;
+use wb_grammar_theory::Item;
 use wb_termset::TermSet;
 
 /// A set of terminals for each kernel and each item of its closure.

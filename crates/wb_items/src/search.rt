@@ -1,7 +1,7 @@
 //! Is there a kernel with these items? Binary search in the order of kernels as sets, which `compare.rt` defines.
 
 ghost use Rattle.std.specs.Prelude.{◌≡◌, ◌<◌, List, IfOk, IfErr, IsTrue, Some, length, slice_get};
-ghost use Rattle.wb_grammars.specs.declared.item.Item.{Item};
+ghost use Rattle.wb_grammar_theory.specs.declared.item.Item.{Item};
 ghost use Rattle.wb_items.specs.Kernels.{AreInOrder};
 ghost use Rattle.wb_items.specs.Inner.Searches.{IsIndex, LiesWithin};
 ghost use Rattle.wb_items.specs.Table.{SameItems};
@@ -9,7 +9,7 @@ ghost use Rattle.wb_items.specs.Table.{SameItems};
 use crate::compare::compare;
 use std::cmp::Ordering;
 use wb_base::Sequence;
-use wb_grammars::Item;
+use wb_grammar_theory::Item;
 
 // The number of the kernel with these items, or else the place in the order where such a kernel would be.
 pub(crate) fn locate(

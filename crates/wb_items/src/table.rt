@@ -4,9 +4,9 @@
 
 ghost use Rattle.std.specs.Prelude.{◌≡◌, ◌<◌, ◌≤◌, ◌+◌, ◌++◌, ◌∷◌, [], List, IfOk, OnOk, Some, length, slice_get, vec_len};
 ghost use Rattle.wb_base.specs.declared.symbol.Symbol.{Symbol};
-ghost use Rattle.wb_grammars.specs.declared.item.Item.{Item};
-ghost use Rattle.wb_grammars.specs.Items.{start_item};
-ghost use Rattle.wb_grammars.specs.Shape.{IsLive};
+ghost use Rattle.wb_grammar_theory.specs.declared.item.Item.{Item};
+ghost use Rattle.wb_grammar_theory.specs.Items.{start_item};
+ghost use Rattle.wb_grammar_theory.specs.Shape.{IsLive};
 ghost use Rattle.wb_items.specs.Kernels.{ListsItems};
 ghost use Rattle.wb_items.specs.declared.transitions.Move.{Move};
 ghost use Rattle.wb_items.specs.declared.advance.Advance.{Advance};
@@ -23,7 +23,7 @@ use crate::productions_of::{Numbers, production_numbers};
 use crate::transitions::Move;
 use std::alloc::{AllocError, Global};
 use wb_base::{Grammar, Sequence, Symbol, push};
-use wb_grammars::Item;
+use wb_grammar_theory::Item;
 
 // The kernels with their items and moves.
 #[derive(Drop)]

@@ -8,10 +8,10 @@ use Rattle.std.proofs.lemmas.Option.{slice_get_within, same_Some}
 use Rattle.wb_lemmas.proofs.Members.{place_of, contains_at}
 use Rattle.wb_base.specs.declared.symbol.Symbol.{Symbol}
 use Rattle.wb_base.specs.declared.symbol.Symbol.TheVariants.{Terminal, Nonterminal}
-use Rattle.wb_grammars.specs.declared.item.Item.{Item}
-use Rattle.wb_grammars.specs.Items as valid
-use Rattle.wb_grammars.specs.Items.{after_dot, HasItem, advance}
-use Rattle.wb_grammars.proofs.ValidLemmas.{before_last}
+use Rattle.wb_grammar_theory.specs.declared.item.Item.{Item}
+use Rattle.wb_grammar_theory.specs.Items as valid
+use Rattle.wb_grammar_theory.specs.Items.{after_dot, HasItem, advance}
+use Rattle.wb_grammar_theory.proofs.ValidLemmas.{before_last}
 use Rattle.wb_items.specs.declared.transitions.Move.{Move}
 use Rattle.wb_items.specs.Kernels.{KernelsView, AreKernels, HasNoneBefore, LeadsTo, count_of, prefix_of}
 use Rattle.wb_lookahead.specs.Codes.{goto_at}

@@ -11,16 +11,16 @@ use Rattle.wb_base.specs.declared.symbol.Symbol.TheVariants.{Terminal, Nontermin
 use Rattle.wb_base.specs.Grammar.{GrammarView, Production}
 use Rattle.wb_termset.specs.Sets.{IsMember, IsEmpty}
 use Rattle.wb_termset.proofs.CallerLemmas.{IsEmpty-replicate, IsMember-insert}
-use Rattle.wb_grammars.specs.declared.item.Item.{Item}
-use Rattle.wb_grammars.specs.Productions.{IsProduction, right_of, end_of}
-use Rattle.wb_grammars.specs.Derives.{Derives, keep, IsFirst}
-use Rattle.wb_grammars.proofs.DerivesLemmas.{First-append, Derives-same}
-use Rattle.wb_grammars.proofs.ProductionLemmas.{production_once}
-use Rattle.wb_grammars.specs.Items.{after_dot, advance, initial_item, HasItem, start_item}
-use Rattle.wb_grammars.specs.Items as valid
-use Rattle.wb_grammars.specs.States.{close}
-use Rattle.wb_grammars.proofs.DotLemmas.{after_initial, after_advance}
-use Rattle.wb_grammars.proofs.FlowLemmas.{zero_state}
+use Rattle.wb_grammar_theory.specs.declared.item.Item.{Item}
+use Rattle.wb_grammar_theory.specs.Productions.{IsProduction, right_of, end_of}
+use Rattle.wb_grammar_theory.specs.Derives.{Derives, keep, IsFirst}
+use Rattle.wb_grammar_theory.proofs.DerivesLemmas.{First-append, Derives-same}
+use Rattle.wb_grammar_theory.proofs.ProductionLemmas.{production_once}
+use Rattle.wb_grammar_theory.specs.Items.{after_dot, advance, initial_item, HasItem, start_item}
+use Rattle.wb_grammar_theory.specs.Items as valid
+use Rattle.wb_grammar_theory.specs.States.{close}
+use Rattle.wb_grammar_theory.proofs.DotLemmas.{after_initial, after_advance}
+use Rattle.wb_grammar_theory.proofs.FlowLemmas.{zero_state}
 use Rattle.wb_items.specs.declared.item_lookahead.ItemLookahead.{ItemLookahead}
 use Rattle.wb_items.specs.Kernels.{KernelsView, AreKernels, LeadsTo, Precedes, closure_of, count_of, prefix_of}
 use Rattle.wb_items.specs.Lookaheads.{AreEmpty, AreLookaheadsOf, IsSetOf, items_in, row_of}

@@ -5,8 +5,8 @@ use Rattle.std.proofs.lemmas.List.Elements.{All-contains}
 use Rattle.wb_lemmas.proofs.Members.{contains_at}
 use Rattle.wb_base.specs.Grammar.{GrammarView}
 use Rattle.wb_termset.specs.Sets.{IsMember}
-use Rattle.wb_grammars.specs.declared.item.Item.{Item}
-use Rattle.wb_grammars.specs.Items.{HasItem}
+use Rattle.wb_grammar_theory.specs.declared.item.Item.{Item}
+use Rattle.wb_grammar_theory.specs.Items.{HasItem}
 use Rattle.wb_items.specs.declared.item_lookahead.ItemLookahead.{ItemLookahead}
 use Rattle.wb_items.specs.Kernels.{KernelsView, AreKernels, closure_of, count_of, prefix_of}
 use Rattle.wb_items.specs.Lookaheads.{AreLookaheadsOf, IsSetOf, row_of}

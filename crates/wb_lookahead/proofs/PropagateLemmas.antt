@@ -7,11 +7,11 @@ use Rattle.wb_base.specs.declared.symbol.Symbol.{Symbol}
 use Rattle.wb_base.specs.declared.symbol.Symbol.TheVariants.{Terminal, Nonterminal}
 use Rattle.wb_base.specs.Grammar.{GrammarView, Production}
 use Rattle.wb_termset.specs.Sets.{IsMember}
-use Rattle.wb_grammars.specs.declared.item.Item.{Item}
-use Rattle.wb_grammars.specs.Productions.{IsProduction}
-use Rattle.wb_grammars.specs.Derives.{Derives, done, IsFirst}
-use Rattle.wb_grammars.specs.Items.{after_dot, initial_item}
-use Rattle.wb_grammars.proofs.DotLemmas.{after_advance, after_initial}
+use Rattle.wb_grammar_theory.specs.declared.item.Item.{Item}
+use Rattle.wb_grammar_theory.specs.Productions.{IsProduction}
+use Rattle.wb_grammar_theory.specs.Derives.{Derives, done, IsFirst}
+use Rattle.wb_grammar_theory.specs.Items.{after_dot, initial_item}
+use Rattle.wb_grammar_theory.proofs.DotLemmas.{after_advance, after_initial}
 use Rattle.wb_items.specs.declared.item_lookahead.ItemLookahead.{ItemLookahead}
 use Rattle.wb_items.specs.Table.{AreProductionsOf}
 use Rattle.wb_lookahead.specs.declared.first_of.Rest.{Rest}

@@ -8,8 +8,9 @@ use Rattle.wb_base.specs.declared.symbol.Symbol.TheVariants.{Terminal, Nontermin
 use Rattle.wb_base.specs.Grammar.{GrammarView}
 use Rattle.wb_termset.specs.Sets.{IsMember, IsUnion, IsEmpty}
 use Rattle.wb_termset.proofs.CallerLemmas.{IsMember-insert, IsMember-insert_same, IsSubset-insert}
-use Rattle.wb_grammars.specs.Derives.{Derives, done, keep, IsFirst}
-use Rattle.wb_grammars.proofs.DerivesLemmas.{Derives-same, Derives-append, Derives-split, First-append, nil_parts, Terminal-not_nullable}
+use Rattle.wb_grammar_theory.specs.Derives.{Derives, done, keep, IsFirst}
+use Rattle.wb_grammar_theory.proofs.DerivesLemmas.{Derives-same, Derives-append, Derives-split, First-append, nil_parts}
+use Rattle.wb_grammar_theory.proofs.DerivesLemmas.{Terminal-not_nullable}
 use Rattle.wb_lookahead.specs.Inner.Rests.{IsRest, BeginsSoFar}
 
 -- a terminal begins what it derives alone

@@ -12,10 +12,10 @@ use Rattle.wb_lemmas.proofs.Members.{place_of}
 use Rattle.wb_base.specs.declared.symbol.Symbol.{Symbol}
 use Rattle.wb_base.specs.declared.symbol.Symbol.TheVariants.{Terminal, Nonterminal}
 use Rattle.wb_termset.specs.Sets.{IsMember}
-use Rattle.wb_grammars.specs.declared.item.Item.{Item}
-use Rattle.wb_grammars.specs.Productions.{top_of}
-use Rattle.wb_grammars.specs.Items.{after_dot, HasItem}
-use Rattle.wb_grammars.specs.Lookaheads.{IsLookahead}
+use Rattle.wb_grammar_theory.specs.declared.item.Item.{Item}
+use Rattle.wb_grammar_theory.specs.Productions.{top_of}
+use Rattle.wb_grammar_theory.specs.Items.{after_dot, HasItem}
+use Rattle.wb_grammar_theory.specs.Lookaheads.{IsLookahead}
 use Rattle.wb_items.specs.Kernels.{KernelsView, AreKernels, LeadsTo, closure_of, count_of, prefix_of}
 use Rattle.wb_lookahead.specs.declared.action.Action.{Action}
 use Rattle.wb_lookahead.specs.declared.action.Action.TheVariants as act

@@ -5,13 +5,13 @@ use Rattle.std.proofs.lemmas.Bool.{cases_eq}
 use Rattle.std.proofs.lemmas.Option.{same_Some, slice_get_within, slice_get-get_or}
 use Rattle.wb_base.specs.declared.symbol.Symbol.{Symbol}
 use Rattle.wb_base.specs.Grammar.{GrammarView, Production}
-use Rattle.wb_grammars.specs.declared.item.Item.{Item}
-use Rattle.wb_grammars.specs.Productions.{IsProduction}
-use Rattle.wb_grammars.specs.Items.{advance, initial_item, HasItem}
-use Rattle.wb_grammars.specs.States.{start, close, move}
-use Rattle.wb_grammars.proofs.DotLemmas.{top_no_production}
-use Rattle.wb_grammars.proofs.FlowLemmas.{flows_complete, flows_has, same_itself}
-use Rattle.wb_grammars.proofs.ProductionLemmas.{production_once, production_within}
+use Rattle.wb_grammar_theory.specs.declared.item.Item.{Item}
+use Rattle.wb_grammar_theory.specs.Productions.{IsProduction}
+use Rattle.wb_grammar_theory.specs.Items.{advance, initial_item, HasItem}
+use Rattle.wb_grammar_theory.specs.States.{start, close, move}
+use Rattle.wb_grammar_theory.proofs.DotLemmas.{top_no_production}
+use Rattle.wb_grammar_theory.proofs.FlowLemmas.{flows_complete, flows_has, same_itself}
+use Rattle.wb_grammar_theory.proofs.ProductionLemmas.{production_once, production_within}
 use Rattle.wb_items.specs.Kernels.{KernelsView, AreKernels, count_of, prefix_of}
 use Rattle.wb_items.specs.Table.{AreProductionsOf}
 use Rattle.wb_lookahead.specs.Inner.Spreading.{FlowsTo, IsFirstOf, IsSole, StandsFor, itself, initial}

@@ -3,14 +3,14 @@ use Rattle.std.proofs.Common.{◌≡◌, ◌≢◌, ◌↔◌, ℕ, ◌<◌, ◌
 use Rattle.std.specs.Prelude.{IfSome, IsNone}
 use Rattle.std.proofs.lemmas.Bool.{cases_eq}
 use Rattle.wb_base.specs.declared.symbol.Symbol.TheVariants.{Terminal, Nonterminal}
-use Rattle.wb_grammars.specs.declared.item.Item.{Item}
-use Rattle.wb_grammars.specs.Productions.{top_of}
-use Rattle.wb_grammars.specs.Items.{HasItem}
-use Rattle.wb_grammars.specs.Lookaheads.{CanShift, CanReduce, IsValidTerminal, HasConflict, HasNoConflict}
-use Rattle.wb_grammars.proofs.KernelLemmas.{kernel_decides}
-use Rattle.wb_grammars.proofs.FlowLemmas.{onward, same_back}
-use Rattle.wb_grammars.proofs.ShiftLemmas.{valid_production}
-use Rattle.wb_grammars.proofs.ValidLemmas.{before_last, shift_kept, reduction_kept}
+use Rattle.wb_grammar_theory.specs.declared.item.Item.{Item}
+use Rattle.wb_grammar_theory.specs.Productions.{top_of}
+use Rattle.wb_grammar_theory.specs.Items.{HasItem}
+use Rattle.wb_grammar_theory.specs.Lookaheads.{CanShift, CanReduce, IsValidTerminal, HasConflict, HasNoConflict}
+use Rattle.wb_grammar_theory.proofs.KernelLemmas.{kernel_decides}
+use Rattle.wb_grammar_theory.proofs.FlowLemmas.{onward, same_back}
+use Rattle.wb_grammar_theory.proofs.ShiftLemmas.{valid_production}
+use Rattle.wb_grammar_theory.proofs.ValidLemmas.{before_last, shift_kept, reduction_kept}
 use Rattle.wb_items.specs.Kernels.{KernelsView, AreKernels, HasNoneBefore, LeadsTo, count_of, prefix_of}
 use Rattle.wb_lookahead.specs.declared.action.Action.{Action}
 use Rattle.wb_lookahead.specs.declared.action.Action.TheVariants as act

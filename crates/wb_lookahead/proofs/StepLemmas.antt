@@ -5,12 +5,12 @@ use Rattle.std.proofs.lemmas.List.{get_or-map, length-map}
 use Rattle.std.proofs.lemmas.List.Elements.{All-get_or}
 use Rattle.wb_base.specs.declared.symbol.Symbol.{Symbol}
 use Rattle.wb_base.specs.declared.symbol.Symbol.TheVariants.{Nonterminal}
-use Rattle.wb_grammars.specs.declared.item.Item.{Item}
-use Rattle.wb_grammars.specs.Items as valid
-use Rattle.wb_grammars.specs.Items.{after_dot, advance, initial_item, HasItem, IsValidItem}
-use Rattle.wb_grammars.specs.Productions.{IsProduction}
-use Rattle.wb_grammars.proofs.KernelLemmas.{kernel_decides}
-use Rattle.wb_grammars.proofs.FlowLemmas.{same_back, same_then}
+use Rattle.wb_grammar_theory.specs.declared.item.Item.{Item}
+use Rattle.wb_grammar_theory.specs.Items as valid
+use Rattle.wb_grammar_theory.specs.Items.{after_dot, advance, initial_item, HasItem, IsValidItem}
+use Rattle.wb_grammar_theory.specs.Productions.{IsProduction}
+use Rattle.wb_grammar_theory.proofs.KernelLemmas.{kernel_decides}
+use Rattle.wb_grammar_theory.proofs.FlowLemmas.{same_back, same_then}
 use Rattle.wb_items.specs.declared.item_lookahead.ItemLookahead.{ItemLookahead}
 use Rattle.wb_items.specs.Kernels.{KernelsView, AreKernels, LeadsTo, closure_of, count_of, prefix_of}
 use Rattle.wb_items.specs.Lookaheads.{AreLookaheadsOf, items_in, row_of}

@@ -1,7 +1,7 @@
 -- What is shown as a conflict is one of the grammar, and where there are tables there is none.
 use Rattle.std.proofs.Common.{◌≢◌, ℕ, ◌<◌, sym, ◌∙◌, inl, inr, arith}
-use Rattle.wb_grammars.specs.Productions.{top_of}
-use Rattle.wb_grammars.specs.Lookaheads.{HasConflict}
+use Rattle.wb_grammar_theory.specs.Productions.{top_of}
+use Rattle.wb_grammar_theory.specs.Lookaheads.{HasConflict}
 use Rattle.wb_items.specs.Kernels.{KernelsView, prefix_of}
 use Rattle.wb_lookahead.specs.declared.action.Action.{Action}
 use Rattle.wb_lookahead.specs.declared.action.Action.TheVariants as act

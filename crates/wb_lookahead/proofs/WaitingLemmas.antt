@@ -3,13 +3,13 @@ use Rattle.std.proofs.Common.{◌≡◌, ℕ, suc, ◌<◌, ◌⊎◌, Bool, Lis
 use Rattle.std.specs.Prelude.{All, Contains, ◌↔◌}
 use Rattle.wb_lemmas.proofs.Members.{place_of, contains_cases}
 use Rattle.wb_termset.specs.Sets.{IsMember}
-use Rattle.wb_grammars.specs.declared.item.Item.{Item}
-use Rattle.wb_grammars.specs.Items.{start_item}
-use Rattle.wb_grammars.specs.Productions.{end_of}
-use Rattle.wb_grammars.specs.States.{start, close, move}
-use Rattle.wb_grammars.specs.Items.{initial_item}
-use Rattle.wb_grammars.specs.Lookaheads.{IsLookahead}
-use Rattle.wb_grammars.proofs.FlowLemmas.{flows_exact, flows_has}
+use Rattle.wb_grammar_theory.specs.declared.item.Item.{Item}
+use Rattle.wb_grammar_theory.specs.Items.{start_item}
+use Rattle.wb_grammar_theory.specs.Productions.{end_of}
+use Rattle.wb_grammar_theory.specs.States.{start, close, move}
+use Rattle.wb_grammar_theory.specs.Items.{initial_item}
+use Rattle.wb_grammar_theory.specs.Lookaheads.{IsLookahead}
+use Rattle.wb_grammar_theory.proofs.FlowLemmas.{flows_exact, flows_has}
 use Rattle.wb_items.specs.declared.item_lookahead.ItemLookahead.{ItemLookahead}
 use Rattle.wb_items.specs.Kernels.{KernelsView, AreKernels, LeadsTo, closure_of, count_of, prefix_of}
 use Rattle.wb_items.specs.Lookaheads.{AreEmpty, IsSetOf}

@@ -2,7 +2,7 @@
 //!
 //! A parser reduces by a production only before a lookahead of its complete item. Prefixes with the same kernel share their
 //! lookaheads. Tables have at most one action for each kernel and terminal; a grammar with a conflict has none. The kernels are in
-//! `wb_items`, and what the words mean is in `wb_grammars`.
+//! `wb_items`, and what the words mean is in `wb_grammar_theory`.
 #![tactic(auto)]
 
 mod action;

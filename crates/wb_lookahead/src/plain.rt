@@ -5,9 +5,9 @@
 ghost use Rattle.std.specs.Prelude.{◌≡◌, ◌<◌, ◌+◌, ◌↔◌, [], ℕ, List, IfOk, IfSome, MatchOption, OnOk, length};
 ghost use Rattle.wb_base.specs.declared.symbol.Symbol.{Symbol};
 ghost use Rattle.wb_termset.specs.Sets.{IsMember};
-ghost use Rattle.wb_grammars.specs.declared.item.Item.{Item};
-ghost use Rattle.wb_grammars.specs.Productions.{IsProduction};
-ghost use Rattle.wb_grammars.specs.Items.{HasItem, initial_item};
+ghost use Rattle.wb_grammar_theory.specs.declared.item.Item.{Item};
+ghost use Rattle.wb_grammar_theory.specs.Productions.{IsProduction};
+ghost use Rattle.wb_grammar_theory.specs.Items.{HasItem, initial_item};
 ghost use Rattle.wb_grammar.specs.Facts.{AreFacts};
 ghost use Rattle.wb_items.specs.Kernels.{closure_of, count_of, prefix_of};
 ghost use Rattle.wb_items.specs.Lookaheads.{AreEmpty, AreLookaheadsOf};

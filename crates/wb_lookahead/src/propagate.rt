@@ -7,9 +7,9 @@ ghost use Rattle.wb_base.specs.declared.symbol.Symbol.{Symbol};
 ghost use Rattle.wb_base.specs.declared.symbol.Symbol.TheVariants.{Terminal, Nonterminal};
 ghost use Rattle.wb_base.specs.Grammar.{IsSymbolBelow};
 ghost use Rattle.wb_termset.specs.Sets.{IsMember};
-ghost use Rattle.wb_grammars.specs.Productions.{IsProduction};
-ghost use Rattle.wb_grammars.specs.Derives.{IsFirst};
-ghost use Rattle.wb_grammars.specs.Items.{after_dot, advance, initial_item, HasItem};
+ghost use Rattle.wb_grammar_theory.specs.Productions.{IsProduction};
+ghost use Rattle.wb_grammar_theory.specs.Derives.{IsFirst};
+ghost use Rattle.wb_grammar_theory.specs.Items.{after_dot, advance, initial_item, HasItem};
 ghost use Rattle.wb_items.specs.Kernels.{AreKernels, LeadsTo, count_of, prefix_of};
 ghost use Rattle.wb_lookahead.specs.Inner.Spreading.{AreSound, FlowsTo, IsContext, IsFirstOf, IsItemPassed, IsPassedOn, IsPlace, Lists, Spreads};
 

@@ -4,7 +4,7 @@
 
 ghost use Rattle.std.specs.Prelude.{◌≡◌, ◌≢◌, ◌<◌, ◌↔◌, ℕ, IfErr, IfOk, OnOk, length};
 ghost use Rattle.wb_termset.specs.Sets.{IsMember};
-ghost use Rattle.wb_grammars.specs.Items.{HasItem};
+ghost use Rattle.wb_grammar_theory.specs.Items.{HasItem};
 ghost use Rattle.wb_items.specs.Kernels.{AreKernels, count_of, prefix_of};
 ghost use Rattle.wb_items.specs.LookaheadSets.{AreLookaheads};
 ghost use Rattle.wb_lookahead.specs.Contents.{action_in};

@@ -2,7 +2,7 @@
 
 ghost use Rattle.std.specs.Prelude.{◌≡◌, ◌+◌, ◌<◌, ℕ, All, OnOk, Some, length, slice_get};
 ghost use Rattle.wb_termset.specs.Sets.{IsMember};
-ghost use Rattle.wb_grammars.specs.Items.{HasItem};
+ghost use Rattle.wb_grammar_theory.specs.Items.{HasItem};
 ghost use Rattle.wb_items.specs.Kernels.{AreKernels, count_of, prefix_of};
 ghost use Rattle.wb_items.specs.Lookaheads.{items_in, row_of};
 ghost use Rattle.wb_lookahead.specs.Inner.Unions.{Unites};

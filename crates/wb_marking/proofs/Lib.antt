@@ -1,4 +1,9 @@
-mod HoleLemmas
-pub mod LiftLemmas
-mod ShiftLemmas
-pub mod UpLemmas
+mod BeginLemmas
+mod PlaceLemmas
+mod ClashLemmas
+mod ListedLemmas
+mod MarkedLemmas
+mod RefusalLemmas
+mod ScopeLemmas
+pub mod CallerLemmas
+mod TextLemmas

@@ -5,27 +5,27 @@ use Rattle.std.proofs.lemmas.List.{length-map}
 use Rattle.std.proofs.lemmas.List.Elements.{All-nil, All-cons}
 use Rattle.std.proofs.lemmas.Option.{slice_get_within}
 use Rattle.wb_lemmas.proofs.Elements.{all_contained, all_from_contained, all_weaker}
-use Rattle.wb_resolved.specs.declared.attributes.Nonterminal.{Nonterminal}
-use Rattle.wb_resolved.specs.declared.production.Child.{Child}
-use Rattle.wb_resolved.specs.declared.production.ChildKind.{ChildKind}
-use Rattle.wb_resolved.specs.declared.production.ChildKind.TheVariants as child
-use Rattle.wb_resolved.specs.declared.production.Forward.{Forward}
-use Rattle.wb_resolved.specs.declared.production.Production.{Production}
-use Rattle.wb_resolved.specs.declared.production.ProductionRole.{ProductionRole}
-use Rattle.wb_resolved.specs.declared.production.ProductionRole.TheVariants.{Concrete, Abstract}
-use Rattle.wb_resolved.specs.declared.terminal.Terminal.{Terminal}
-use Rattle.wb_resolved.specs.Expression.{Node}
-use Rattle.wb_resolved.specs.Named.{IsNamedProduction, IsNamedChild, IsChildKindOf, IsNamedLocal, IsNamedEquation, IsNamedExpression}
-use Rattle.wb_resolved.specs.Named.{IsNamedNode}
-use Rattle.wb_resolved.specs.Resolved.{IsResolved, HasGrammarTerminals, IsTerminalChild}
-use Rattle.wb_resolved.specs.Visible.{SeesKind}
-use Rattle.wb_numbering.specs.Files.{File}
-use Rattle.wb_numbering.specs.Numbering.{numbering_of}
-use Rattle.wb_rows.specs.declared.moves.Moves.{Moves}
-use Rattle.wb_rows.specs.declared.scope.Scope.{Scope}
-use Rattle.wb_rows.specs.Moves.{ChildKindIsWithin, EquationIsWithin, LocalIsWithin, NodeIsWithin}
-use Rattle.wb_rows.proofs.BaseWithin.{node_within, nonterminal_within, kind_within}
-use Rattle.wb_symbols.specs.Symbols.{AreTables}
+use Rattle.wb_syntax_resolved.specs.declared.attributes.Nonterminal.{Nonterminal}
+use Rattle.wb_syntax_resolved.specs.declared.production.Child.{Child}
+use Rattle.wb_syntax_resolved.specs.declared.production.ChildKind.{ChildKind}
+use Rattle.wb_syntax_resolved.specs.declared.production.ChildKind.TheVariants as child
+use Rattle.wb_syntax_resolved.specs.declared.production.Forward.{Forward}
+use Rattle.wb_syntax_resolved.specs.declared.production.Production.{Production}
+use Rattle.wb_syntax_resolved.specs.declared.production.ProductionRole.{ProductionRole}
+use Rattle.wb_syntax_resolved.specs.declared.production.ProductionRole.TheVariants.{Concrete, Abstract}
+use Rattle.wb_syntax_resolved.specs.declared.terminal.Terminal.{Terminal}
+use Rattle.wb_syntax_resolved.specs.Expression.{Node}
+use Rattle.wb_syntax_resolved.specs.Named.{IsNamedProduction, IsNamedChild, IsChildKindOf, IsNamedLocal, IsNamedEquation, IsNamedExpression}
+use Rattle.wb_syntax_resolved.specs.Named.{IsNamedNode}
+use Rattle.wb_syntax_resolved.specs.Resolved.{IsResolved, HasGrammarTerminals, IsTerminalChild}
+use Rattle.wb_syntax_resolved.specs.Visible.{SeesKind}
+use Rattle.wb_names_numbers_theory.specs.Files.{File}
+use Rattle.wb_names_numbers_theory.specs.Numbering.{numbering_of}
+use Rattle.wb_names_rows.specs.declared.moves.Moves.{Moves}
+use Rattle.wb_names_rows.specs.declared.scope.Scope.{Scope}
+use Rattle.wb_names_rows.specs.Moves.{ChildKindIsWithin, EquationIsWithin, LocalIsWithin, NodeIsWithin}
+use Rattle.wb_names_rows.proofs.BaseWithin.{node_within, nonterminal_within, kind_within}
+use Rattle.wb_names_symbols.specs.Symbols.{AreTables}
 
 module _ (file : File) (s : Scope) (m : Moves) (tables : AreTables file s m) (base : IsResolved file.base) (p : Production)
     (has : Contains file.base.attributes.productions p) where

@@ -5,34 +5,34 @@ use Rattle.std.specs.Prelude.{MatchOption, option_to_list}
 use Rattle.std.specs.List.{AllZip}
 use Rattle.std.proofs.lemmas.List.{map-append}
 use Rattle.wb_lemmas.proofs.Zips.{zip_map}
-use Rattle.wb_resolved.specs.declared.production.Child.{Child}
-use Rattle.wb_resolved.specs.declared.production.Forward.{Forward}
-use Rattle.wb_resolved.specs.declared.production.Local.{Local}
-use Rattle.wb_resolved.specs.declared.production.Production.{Production}
+use Rattle.wb_syntax_resolved.specs.declared.production.Child.{Child}
+use Rattle.wb_syntax_resolved.specs.declared.production.Forward.{Forward}
+use Rattle.wb_syntax_resolved.specs.declared.production.Local.{Local}
+use Rattle.wb_syntax_resolved.specs.declared.production.Production.{Production}
 use Rattle.wb_syntax.specs.declared.expression.Equation as written
 use Rattle.wb_syntax.specs.declared.expression.Target.{Target}
 use Rattle.wb_syntax.specs.declared.expression.Target.TheVariants as g
-use Rattle.wb_naming.specs.Declarations.{Items, ProductionDeclaration}
-use Rattle.wb_naming.specs.Declares.{declarations}
-use Rattle.wb_naming.specs.Hold.{AreOnce}
-use Rattle.wb_numbering.specs.Files.{File, equations_on}
-use Rattle.wb_numbering.specs.Numbering.{Numbering}
-use Rattle.wb_numbering.specs.Rows.{production_role}
-use Rattle.wb_numbering.specs.Sources.{sources, IsFrom}
-use Rattle.wb_numbering.specs.Written.{local_equations, forward_equations, attribute_equations}
-use Rattle.wb_numbering.proofs.OneProduction.{local_label}
-use Rattle.wb_rows.specs.declared.body.Body.{Body}
-use Rattle.wb_rows.specs.declared.moves.Moves.{Moves}
-use Rattle.wb_rows.specs.declared.scope.Scope.{Scope}
-use Rattle.wb_rows.specs.declared.scope.ProductionLabels.{ProductionLabels}
-use Rattle.wb_rows.specs.Blocks.{AddsBody, equations_at}
-use Rattle.wb_rows.specs.Moves.{IsNow, IsChildNow, IsLocalNow, IsForwardNow, IsEquationNow}
-use Rattle.wb_rows.specs.Nodes.{IsAt, IsFoundEquation, IsFoundForward, IsFoundLocal, IsFoundLocalTarget}
-use Rattle.wb_rows.specs.Scope.{IsFoundChild}
-use Rattle.wb_rows.proofs.GroupLemmas.{zip_sources}
+use Rattle.wb_names_theory.specs.Declarations.{Items, ProductionDeclaration}
+use Rattle.wb_names_theory.specs.Declares.{declarations}
+use Rattle.wb_names_theory.specs.Hold.{AreOnce}
+use Rattle.wb_names_numbers_theory.specs.Files.{File, equations_on}
+use Rattle.wb_names_numbers_theory.specs.Numbering.{Numbering}
+use Rattle.wb_names_numbers_theory.specs.Rows.{production_role}
+use Rattle.wb_names_numbers_theory.specs.Sources.{sources, IsFrom}
+use Rattle.wb_names_numbers_theory.specs.Written.{local_equations, forward_equations, attribute_equations}
+use Rattle.wb_names_numbers_theory.proofs.OneProduction.{local_label}
+use Rattle.wb_names_rows.specs.declared.body.Body.{Body}
+use Rattle.wb_names_rows.specs.declared.moves.Moves.{Moves}
+use Rattle.wb_names_rows.specs.declared.scope.Scope.{Scope}
+use Rattle.wb_names_rows.specs.declared.scope.ProductionLabels.{ProductionLabels}
+use Rattle.wb_names_rows.specs.Blocks.{AddsBody, equations_at}
+use Rattle.wb_names_rows.specs.Moves.{IsNow, IsChildNow, IsLocalNow, IsForwardNow, IsEquationNow}
+use Rattle.wb_names_rows.specs.Nodes.{IsAt, IsFoundEquation, IsFoundForward, IsFoundLocal, IsFoundLocalTarget}
+use Rattle.wb_names_rows.specs.Scope.{IsFoundChild}
+use Rattle.wb_names_rows.proofs.GroupLemmas.{zip_sources}
 use Rattle.wb_names.specs.Inner.Bodies.{IsWritten, IsExtendedBody, IsDeclaredBody, labels_with}
 use Rattle.wb_names.specs.Inner.Now.{AreLabelsOf, IsExtendedNow, IsDeclaredNow}
-use Rattle.wb_symbols.specs.Writers.{IsWrittenAt}
+use Rattle.wb_names_symbols.specs.Writers.{IsWrittenAt}
 use Rattle.wb_names.proofs.ForwardsOnce.{one_forward}
 
 -- the label of a local that is found is that of its equation

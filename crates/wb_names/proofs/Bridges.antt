@@ -5,36 +5,37 @@ use Rattle.std.proofs.lemmas.List.Elements.{All-head, All-tail}
 use Rattle.wb_lemmas.proofs.Elements.{all_contained, all_weaker}
 use Rattle.wb_lemmas.proofs.Members.{place_of}
 use Rattle.wb_lemmas.proofs.Zips.{zip_weaker}
-use Rattle.wb_resolved.specs.declared.attributes.Attribute.{Attribute}
-use Rattle.wb_resolved.specs.declared.attributes.Direction.TheVariants.{Inherited}
-use Rattle.wb_resolved.specs.declared.attributes.Nonterminal.{Nonterminal}
-use Rattle.wb_resolved.specs.declared.attributes.Occurrence.{Occurrence}
-use Rattle.wb_resolved.specs.declared.terminal.Preference.{Preference}
-use Rattle.wb_resolved.specs.declared.terminal.Terminal.{Terminal}
-use Rattle.wb_resolved.specs.Named.{IsNamedOccurrence}
-use Rattle.wb_resolved.specs.Resolved.{IsResolved}
-use Rattle.wb_resolved.specs.Visible.{SeesOccurrence}
-use Rattle.wb_naming.specs.Declarations.{LexicalDeclaration, AttributeDeclaration, OccurrenceDeclaration, PreferenceDeclaration}
-use Rattle.wb_naming.specs.Declarations.{nonterminals, occurrences}
-use Rattle.wb_numbering.specs.Files.{File, forward_needs_of}
-use Rattle.wb_numbering.specs.Moved.{IsMovedNonterminal, IsMovedAttributeNumber}
-use Rattle.wb_numbering.specs.Numbering.{Numbering, IsNumber}
-use Rattle.wb_numbering.specs.Resolves.{IsTerminal, IsNonterminal, IsAttribute, IsOccurrence, IsPreference, IsNonterminalNumber, move_of}
-use Rattle.wb_numbering.specs.Rows.{IsAttributeRow, IsOccurrenceRow, IsPreferenceRow}
-use Rattle.wb_numbering.specs.Sources.{sources, IsFrom}
-use Rattle.wb_numbering.proofs.RowLemmas.{source_before}
-use Rattle.wb_rows.specs.declared.moves.Moves.{Moves}
-use Rattle.wb_rows.specs.declared.scope.Scope.{Scope}
-use Rattle.wb_rows.specs.Base.{IsAttributeNow, IsOccurrenceNow, IsPreferenceNow}
-use Rattle.wb_rows.specs.Nodes.{IsAt}
-use Rattle.wb_rows.specs.Plains.{IsFoundAttribute, IsFoundOccurrence, IsFoundPreference}
-use Rattle.wb_rows.specs.Scope.{IsScope}
-use Rattle.wb_rows.proofs.BaseMoved.{Stays, moved_attribute, moved_occurrence, moved_preference}
-use Rattle.wb_rows.proofs.BaseWithin.{attribute_in}
-use Rattle.wb_rows.proofs.MovedLemmas.{AreMoves}
-use Rattle.wb_rows.proofs.PlainsFound.{found_attribute, found_occurrence, found_preference}
-use Rattle.wb_rows.proofs.ScopeLemmas.{is_number}
-use Rattle.wb_symbols.specs.Rows.{IsTerminalNow, IsNonterminalNow}
+use Rattle.wb_syntax_resolved.specs.declared.attributes.Attribute.{Attribute}
+use Rattle.wb_syntax_resolved.specs.declared.attributes.Direction.TheVariants.{Inherited}
+use Rattle.wb_syntax_resolved.specs.declared.attributes.Nonterminal.{Nonterminal}
+use Rattle.wb_syntax_resolved.specs.declared.attributes.Occurrence.{Occurrence}
+use Rattle.wb_syntax_resolved.specs.declared.terminal.Preference.{Preference}
+use Rattle.wb_syntax_resolved.specs.declared.terminal.Terminal.{Terminal}
+use Rattle.wb_syntax_resolved.specs.Named.{IsNamedOccurrence}
+use Rattle.wb_syntax_resolved.specs.Resolved.{IsResolved}
+use Rattle.wb_syntax_resolved.specs.Visible.{SeesOccurrence}
+use Rattle.wb_names_theory.specs.Declarations.{LexicalDeclaration, AttributeDeclaration, OccurrenceDeclaration, PreferenceDeclaration}
+use Rattle.wb_names_theory.specs.Declarations.{nonterminals, occurrences}
+use Rattle.wb_names_numbers_theory.specs.Files.{File, forward_needs_of}
+use Rattle.wb_names_numbers_theory.specs.Moved.{IsMovedNonterminal, IsMovedAttributeNumber}
+use Rattle.wb_names_numbers_theory.specs.Numbering.{Numbering, IsNumber}
+use Rattle.wb_names_numbers_theory.specs.Resolves.{IsTerminal, IsNonterminal, IsAttribute, IsOccurrence, IsPreference, IsNonterminalNumber}
+use Rattle.wb_names_numbers_theory.specs.Resolves.{move_of}
+use Rattle.wb_names_numbers_theory.specs.Rows.{IsAttributeRow, IsOccurrenceRow, IsPreferenceRow}
+use Rattle.wb_names_numbers_theory.specs.Sources.{sources, IsFrom}
+use Rattle.wb_names_numbers_theory.proofs.RowLemmas.{source_before}
+use Rattle.wb_names_rows.specs.declared.moves.Moves.{Moves}
+use Rattle.wb_names_rows.specs.declared.scope.Scope.{Scope}
+use Rattle.wb_names_rows.specs.Base.{IsAttributeNow, IsOccurrenceNow, IsPreferenceNow}
+use Rattle.wb_names_rows.specs.Nodes.{IsAt}
+use Rattle.wb_names_rows.specs.Plains.{IsFoundAttribute, IsFoundOccurrence, IsFoundPreference}
+use Rattle.wb_names_rows.specs.Scope.{IsScope}
+use Rattle.wb_names_rows.proofs.BaseMoved.{Stays, moved_attribute, moved_occurrence, moved_preference}
+use Rattle.wb_names_rows.proofs.BaseWithin.{attribute_in}
+use Rattle.wb_names_rows.proofs.MovedLemmas.{AreMoves}
+use Rattle.wb_names_rows.proofs.PlainsFound.{found_attribute, found_occurrence, found_preference}
+use Rattle.wb_names_rows.proofs.ScopeLemmas.{is_number}
+use Rattle.wb_names_symbols.specs.Rows.{IsTerminalNow, IsNonterminalNow}
 use Rattle.wb_names.specs.Inner.Rest.{IsNumberNow}
 
 -- a terminal's row, whatever the numbers are

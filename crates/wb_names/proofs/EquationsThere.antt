@@ -5,26 +5,26 @@ use Rattle.wb_lemmas.proofs.Elements.{all_from_contained}
 use Rattle.wb_lemmas.proofs.Members.{append_contains_left, contains_at, contains_later}
 use Rattle.wb_syntax.specs.declared.expression.Equation as written
 use Rattle.wb_syntax.specs.declared.production.Child.{Child}
-use Rattle.wb_naming.specs.declared.usage.Usage.{Usage}
-use Rattle.wb_naming.specs.declared.usage.Usage.TheVariants as u
-use Rattle.wb_naming.specs.declared.usage.Wanted.TheVariants as w
-use Rattle.wb_naming.specs.Declarations.{ProductionDeclaration, productions}
-use Rattle.wb_naming.specs.Declares.{declarations}
-use Rattle.wb_naming.specs.Hold.{AreMeant}
-use Rattle.wb_naming.specs.Uses.{uses, equation_uses, production_uses, kind_uses, child_wanted}
-use Rattle.wb_numbering.specs.Files.{File, equations_on}
-use Rattle.wb_numbering.proofs.OwnDeclared.{flat_map_contains}
-use Rattle.wb_numbering.proofs.Selected.{block_of_equation}
-use Rattle.wb_numbering.proofs.Used.{equation_used, production_used}
-use Rattle.wb_rows.specs.declared.scope.Scope.{Scope}
-use Rattle.wb_rows.specs.declared.scope.ProductionLabels.{ProductionLabels}
-use Rattle.wb_rows.specs.Blocks.{AreThere, equations_in}
-use Rattle.wb_rows.specs.Nodes.{EquationIsThere}
-use Rattle.wb_rows.specs.Scope.{KindIsThere}
-use Rattle.wb_rows.specs.There.{HasDeclared}
-use Rattle.wb_rows.proofs.UsesThere.{child_there, equation_there, nonterminal_there}
+use Rattle.wb_names_theory.specs.declared.usage.Usage.{Usage}
+use Rattle.wb_names_theory.specs.declared.usage.Usage.TheVariants as u
+use Rattle.wb_names_theory.specs.declared.usage.Wanted.TheVariants as w
+use Rattle.wb_names_theory.specs.Declarations.{ProductionDeclaration, productions}
+use Rattle.wb_names_theory.specs.Declares.{declarations}
+use Rattle.wb_names_theory.specs.Hold.{AreMeant}
+use Rattle.wb_names_theory.specs.Uses.{uses, equation_uses, production_uses, kind_uses, child_wanted}
+use Rattle.wb_names_numbers_theory.specs.Files.{File, equations_on}
+use Rattle.wb_names_numbers_theory.proofs.OwnDeclared.{flat_map_contains}
+use Rattle.wb_names_numbers_theory.proofs.Selected.{block_of_equation}
+use Rattle.wb_names_numbers_theory.proofs.Used.{equation_used, production_used}
+use Rattle.wb_names_rows.specs.declared.scope.Scope.{Scope}
+use Rattle.wb_names_rows.specs.declared.scope.ProductionLabels.{ProductionLabels}
+use Rattle.wb_names_rows.specs.Blocks.{AreThere, equations_in}
+use Rattle.wb_names_rows.specs.Nodes.{EquationIsThere}
+use Rattle.wb_names_rows.specs.Scope.{KindIsThere}
+use Rattle.wb_names_rows.specs.There.{HasDeclared}
+use Rattle.wb_names_rows.proofs.UsesThere.{child_there, equation_there, nonterminal_there}
 use Rattle.wb_names.specs.Inner.Bodies.{KnowsLabels}
-use Rattle.wb_symbols.specs.Writers.{IsWrittenAt}
+use Rattle.wb_names_symbols.specs.Writers.{IsWrittenAt}
 
 module _ (file : File) (s : Scope) (has : HasDeclared s (declarations file.base file.items))
     (meant : AreMeant (declarations file.base file.items) (uses file.items)) (labels : ProductionLabels) (name : List ℕ)

@@ -5,27 +5,27 @@ use Rattle.std.specs.Prelude.{filter}
 use Rattle.std.specs.Str.{bytes_eq}
 use Rattle.std.proofs.lemmas.Bool.{false≢true}
 use Rattle.std.proofs.lemmas.List.Elements.{filter-append}
-use Rattle.wb_resolved.specs.declared.resolved.ResolvedParts.{ResolvedParts}
+use Rattle.wb_syntax_resolved.specs.declared.resolved.ResolvedParts.{ResolvedParts}
 use Rattle.wb_syntax.specs.declared.expression.Equation.{Equation}
 use Rattle.wb_syntax.specs.declared.expression.Target.{Target}
 use Rattle.wb_syntax.specs.declared.expression.Target.TheVariants as g
 use Rattle.wb_syntax.specs.declared.item.ItemForm.{ItemForm}
 use Rattle.wb_syntax.specs.declared.item.ItemForm.TheVariants as f
 use Rattle.wb_syntax.specs.declared.pattern.Pattern.{Pattern}
-use Rattle.wb_naming.specs.declared.declaration.Declaration.{Declaration}
-use Rattle.wb_naming.specs.declared.declaration.Declaration.TheVariants as d
-use Rattle.wb_naming.specs.Declarations.{Items}
-use Rattle.wb_naming.specs.Declares.{base_declarations, item_declarations, declarations, form_declarations, child_declaration}
-use Rattle.wb_naming.specs.Declares.{target_declaration, equation_declarations}
-use Rattle.wb_naming.specs.Duplicate.{AreSame}
-use Rattle.wb_naming.specs.Duplicate as same
-use Rattle.wb_naming.specs.Hold.{AreOnce}
-use Rattle.wb_numbering.specs.Files.{Block, block_of, equations_on}
-use Rattle.wb_numbering.specs.Written.{forward_equations, makes_forward}
-use Rattle.wb_numbering.proofs.Selected.{same_bytes, bytes_same}
-use Rattle.wb_numbering.proofs.Times.{once_where}
+use Rattle.wb_names_theory.specs.declared.declaration.Declaration.{Declaration}
+use Rattle.wb_names_theory.specs.declared.declaration.Declaration.TheVariants as d
+use Rattle.wb_names_theory.specs.Declarations.{Items}
+use Rattle.wb_names_theory.specs.Declares.{base_declarations, item_declarations, declarations, form_declarations, child_declaration}
+use Rattle.wb_names_theory.specs.Declares.{target_declaration, equation_declarations}
+use Rattle.wb_names_theory.specs.Duplicate.{AreSame}
+use Rattle.wb_names_theory.specs.Duplicate as same
+use Rattle.wb_names_theory.specs.Hold.{AreOnce}
+use Rattle.wb_names_numbers_theory.specs.Files.{Block, block_of, equations_on}
+use Rattle.wb_names_numbers_theory.specs.Written.{forward_equations, makes_forward}
+use Rattle.wb_names_numbers_theory.proofs.Selected.{same_bytes, bytes_same}
+use Rattle.wb_names_numbers_theory.proofs.Times.{once_where}
 use Rattle.wb_names.proofs.OnceLemmas.{once_right, one_kept}
-use Rattle.wb_symbols.proofs.WrittenLemmas.{on_append, on_one, block_on, block_where}
+use Rattle.wb_names_symbols.proofs.WrittenLemmas.{on_append, on_one, block_on, block_where}
 
 -- how many pass a test
 count_first : {X : Type 0} (test : X → Bool) (x : X) (xs : List X)

@@ -7,19 +7,19 @@ use Rattle.std.proofs.lemmas.Slice.Zip.{AllZip-long}
 use Rattle.wb_base.specs.declared.symbol.Kind.TheVariants as kind
 use Rattle.wb_base.specs.declared.symbol.Symbol.TheVariants as symbol
 use Rattle.wb_base.specs.Grammar.{GrammarView}
-use Rattle.wb_resolved.specs.declared.production.Child.{Child}
-use Rattle.wb_resolved.specs.declared.production.ChildKind.{ChildKind}
-use Rattle.wb_resolved.specs.declared.production.ChildKind.TheVariants as child
-use Rattle.wb_resolved.specs.declared.production.Production.{Production}
-use Rattle.wb_resolved.specs.declared.resolved.ResolvedParts.{ResolvedParts}
-use Rattle.wb_resolved.specs.Grammar.{symbol_of, IsGrammarOf, IsIn}
-use Rattle.wb_resolved.specs.Resolved.{HasGrammarTerminals, IsResolved, IsTerminalChild}
-use Rattle.wb_naming.specs.Hold.{NamesHold}
-use Rattle.wb_numbering.specs.Files.{File}
-use Rattle.wb_numbering.specs.Given.{IsFile}
-use Rattle.wb_numbering.proofs.AllResolved.{gives_resolved}
-use Rattle.wb_numbering.proofs.RowLemmas.{map_contains}
-use Rattle.wb_rows.specs.Grammars.{IsGrammarLike, IsSymbolChild}
+use Rattle.wb_syntax_resolved.specs.declared.production.Child.{Child}
+use Rattle.wb_syntax_resolved.specs.declared.production.ChildKind.{ChildKind}
+use Rattle.wb_syntax_resolved.specs.declared.production.ChildKind.TheVariants as child
+use Rattle.wb_syntax_resolved.specs.declared.production.Production.{Production}
+use Rattle.wb_syntax_resolved.specs.declared.resolved.ResolvedParts.{ResolvedParts}
+use Rattle.wb_syntax_resolved.specs.Grammar.{symbol_of, IsGrammarOf, IsIn}
+use Rattle.wb_syntax_resolved.specs.Resolved.{HasGrammarTerminals, IsResolved, IsTerminalChild}
+use Rattle.wb_names_theory.specs.Hold.{NamesHold}
+use Rattle.wb_names_numbers_theory.specs.Files.{File}
+use Rattle.wb_names_numbers_theory.specs.Given.{IsFile}
+use Rattle.wb_names_numbers_theory.proofs.AllResolved.{gives_resolved}
+use Rattle.wb_names_numbers_theory.proofs.RowLemmas.{map_contains}
+use Rattle.wb_names_rows.specs.Grammars.{IsGrammarLike, IsSymbolChild}
 use Rattle.wb_names.specs.Resolving.{file_scope}
 use Rattle.wb_names.specs.Inner.Joined.{Rows}
 use Rattle.wb_names.specs.Inner.Now.{IsProductionNow}

@@ -9,15 +9,15 @@ use Rattle.wb_base.specs.declared.symbol.Kind.{Kind}
 use Rattle.wb_base.specs.declared.symbol.Kind.TheVariants as kind
 use Rattle.wb_base.specs.declared.symbol.Symbol.{Symbol}
 use Rattle.wb_base.specs.Grammar.{GrammarView}
-use Rattle.wb_resolved.specs.declared.attribution.AttributionParts.{AttributionParts}
-use Rattle.wb_resolved.specs.declared.production.Child.{Child}
-use Rattle.wb_resolved.specs.declared.production.ChildKind.{ChildKind}
-use Rattle.wb_resolved.specs.declared.production.ChildKind.TheVariants as child
-use Rattle.wb_resolved.specs.declared.production.Production.{Production}
-use Rattle.wb_resolved.specs.declared.production.ProductionRole.{ProductionRole}
-use Rattle.wb_resolved.specs.declared.production.ProductionRole.TheVariants.{Concrete}
-use Rattle.wb_resolved.specs.Grammar.{symbol_of, IsGrammarProduction}
-use Rattle.wb_resolved.specs.Named.{IsChildKindOf, IsNamedChild, IsNamedProduction}
+use Rattle.wb_syntax_resolved.specs.declared.attribution.AttributionParts.{AttributionParts}
+use Rattle.wb_syntax_resolved.specs.declared.production.Child.{Child}
+use Rattle.wb_syntax_resolved.specs.declared.production.ChildKind.{ChildKind}
+use Rattle.wb_syntax_resolved.specs.declared.production.ChildKind.TheVariants as child
+use Rattle.wb_syntax_resolved.specs.declared.production.Production.{Production}
+use Rattle.wb_syntax_resolved.specs.declared.production.ProductionRole.{ProductionRole}
+use Rattle.wb_syntax_resolved.specs.declared.production.ProductionRole.TheVariants.{Concrete}
+use Rattle.wb_syntax_resolved.specs.Grammar.{symbol_of, IsGrammarProduction}
+use Rattle.wb_syntax_resolved.specs.Named.{IsChildKindOf, IsNamedChild, IsNamedProduction}
 use Rattle.wb_syntax.specs.declared.item.Item.{Item}
 use Rattle.wb_syntax.specs.declared.item.ItemForm.{ItemForm}
 use Rattle.wb_syntax.specs.declared.item.ItemForm.TheVariants as f
@@ -27,22 +27,22 @@ use Rattle.wb_syntax.specs.declared.production.NamedKind.{NamedKind}
 use Rattle.wb_syntax.specs.declared.production.NamedKind.TheVariants as k
 use Rattle.wb_syntax.specs.declared.production.ProductionRole as written
 use Rattle.wb_syntax.specs.declared.production.ProductionRole.TheVariants as w
-use Rattle.wb_naming.specs.Declarations.{ProductionDeclaration, productions, production_of}
-use Rattle.wb_naming.specs.Hold.{NamesHold}
-use Rattle.wb_naming.specs.WrongKind.{form_misplaced, misplaced_child}
-use Rattle.wb_numbering.specs.Files.{File}
-use Rattle.wb_numbering.specs.Given.{IsFile}
-use Rattle.wb_numbering.specs.Numbering.{Numbering}
-use Rattle.wb_numbering.specs.Resolves.{IsConcrete, IsGrammarRow}
-use Rattle.wb_numbering.specs.Rows.{production_role}
-use Rattle.wb_numbering.specs.Sources.{sources}
-use Rattle.wb_numbering.specs.Written.{IsWrittenChildKind}
-use Rattle.wb_numbering.proofs.RowLemmas.{source_before, source_declared}
-use Rattle.wb_numbering.proofs.Selected.{kept_from}
-use Rattle.wb_rows.specs.declared.moves.Moves.{Moves}
-use Rattle.wb_rows.specs.declared.scope.Scope.{Scope}
-use Rattle.wb_rows.specs.Moves.{IsChildNow, IsChildKindNow, IsKindNow}
-use Rattle.wb_rows.specs.Scope.{IsFoundChild}
+use Rattle.wb_names_theory.specs.Declarations.{ProductionDeclaration, productions, production_of}
+use Rattle.wb_names_theory.specs.Hold.{NamesHold}
+use Rattle.wb_names_theory.specs.WrongKind.{form_misplaced, misplaced_child}
+use Rattle.wb_names_numbers_theory.specs.Files.{File}
+use Rattle.wb_names_numbers_theory.specs.Given.{IsFile}
+use Rattle.wb_names_numbers_theory.specs.Numbering.{Numbering}
+use Rattle.wb_names_numbers_theory.specs.Resolves.{IsConcrete, IsGrammarRow}
+use Rattle.wb_names_numbers_theory.specs.Rows.{production_role}
+use Rattle.wb_names_numbers_theory.specs.Sources.{sources}
+use Rattle.wb_names_numbers_theory.specs.Written.{IsWrittenChildKind}
+use Rattle.wb_names_numbers_theory.proofs.RowLemmas.{source_before, source_declared}
+use Rattle.wb_names_numbers_theory.proofs.Selected.{kept_from}
+use Rattle.wb_names_rows.specs.declared.moves.Moves.{Moves}
+use Rattle.wb_names_rows.specs.declared.scope.Scope.{Scope}
+use Rattle.wb_names_rows.specs.Moves.{IsChildNow, IsChildKindNow, IsKindNow}
+use Rattle.wb_names_rows.specs.Scope.{IsFoundChild}
 use Rattle.wb_names.specs.Resolving.{file_scope}
 use Rattle.wb_names.specs.Inner.Joined.{Rows}
 use Rattle.wb_names.specs.Inner.Now.{IsProductionNow}

@@ -4,30 +4,30 @@ use Rattle.std.specs.List.{AllZip}
 use Rattle.std.proofs.lemmas.Bool.{false≢true}
 use Rattle.wb_lemmas.proofs.Members.{append_contains_left, append_contains_right}
 use Rattle.wb_lemmas.proofs.Zips.{zip_map}
-use Rattle.wb_resolved.specs.declared.production.Child.{Child}
-use Rattle.wb_resolved.specs.declared.production.Local.{Local}
-use Rattle.wb_resolved.specs.declared.production.Production.{Production}
+use Rattle.wb_syntax_resolved.specs.declared.production.Child.{Child}
+use Rattle.wb_syntax_resolved.specs.declared.production.Local.{Local}
+use Rattle.wb_syntax_resolved.specs.declared.production.Production.{Production}
 use Rattle.wb_syntax.specs.declared.expression.Equation as written
 use Rattle.wb_syntax.specs.declared.expression.Target.{Target}
 use Rattle.wb_syntax.specs.declared.expression.Target.TheVariants as g
 use Rattle.wb_syntax.specs.declared.item.PlainForm.{PlainForm}
 use Rattle.wb_syntax.specs.declared.item.PlainForm.TheVariants as i
 use Rattle.wb_syntax.specs.declared.production.Child as named
-use Rattle.wb_naming.specs.declared.declaration.Declaration.{Declaration}
-use Rattle.wb_naming.specs.declared.declaration.Declaration.TheVariants as d
-use Rattle.wb_naming.specs.declared.declaration.Labelled.{Labelled}
-use Rattle.wb_naming.specs.Declarations.{ProductionDeclaration, productions}
-use Rattle.wb_naming.specs.Declares.{declarations, plain_declaration, target_declaration}
-use Rattle.wb_naming.specs.Hold.{AreOnce}
-use Rattle.wb_numbering.specs.Files.{File, equations_on}
-use Rattle.wb_numbering.specs.Written.{local_equations, makes_local}
-use Rattle.wb_numbering.proofs.DeclaredBy.{IsDeclaredBy, declared_by}
-use Rattle.wb_numbering.proofs.DeclaredBy as by
-use Rattle.wb_numbering.proofs.OneProduction.{local_label}
-use Rattle.wb_numbering.proofs.RowLemmas.{map_contains}
-use Rattle.wb_numbering.proofs.Selected.{filter_contains, equations_of_block}
-use Rattle.wb_rows.specs.declared.moves.Moves.{Moves}
-use Rattle.wb_rows.specs.Moves.{IsChildNow, IsLocalNow}
+use Rattle.wb_names_theory.specs.declared.declaration.Declaration.{Declaration}
+use Rattle.wb_names_theory.specs.declared.declaration.Declaration.TheVariants as d
+use Rattle.wb_names_theory.specs.declared.declaration.Labelled.{Labelled}
+use Rattle.wb_names_theory.specs.Declarations.{ProductionDeclaration, productions}
+use Rattle.wb_names_theory.specs.Declares.{declarations, plain_declaration, target_declaration}
+use Rattle.wb_names_theory.specs.Hold.{AreOnce}
+use Rattle.wb_names_numbers_theory.specs.Files.{File, equations_on}
+use Rattle.wb_names_numbers_theory.specs.Written.{local_equations, makes_local}
+use Rattle.wb_names_numbers_theory.proofs.DeclaredBy.{IsDeclaredBy, declared_by}
+use Rattle.wb_names_numbers_theory.proofs.DeclaredBy as by
+use Rattle.wb_names_numbers_theory.proofs.OneProduction.{local_label}
+use Rattle.wb_names_numbers_theory.proofs.RowLemmas.{map_contains}
+use Rattle.wb_names_numbers_theory.proofs.Selected.{filter_contains, equations_of_block}
+use Rattle.wb_names_rows.specs.declared.moves.Moves.{Moves}
+use Rattle.wb_names_rows.specs.Moves.{IsChildNow, IsLocalNow}
 use Rattle.wb_names.specs.Inner.Bodies.{KnowsLabels, labels_with}
 use Rattle.wb_names.proofs.OnceLemmas.{one_base, one_own, not_both}
 

@@ -10,11 +10,11 @@ use Rattle.wb_lemmas.proofs.Elements.{all_from_places}
 use Rattle.wb_lemmas.proofs.Members.{contains_at, contains_first, contains_later, nothing_in}
 use Rattle.wb_lemmas.proofs.Places.{append_keeps}
 use Rattle.wb_lemmas.proofs.Zips.{beside}
-use Rattle.wb_numbering.specs.Sources.{sources, AreGrouped}
-use Rattle.wb_numbering.proofs.Grouped.{leads_below}
-use Rattle.wb_numbering.proofs.OwnDeclared.{flat_map_contains}
-use Rattle.wb_numbering.proofs.RowLemmas.{contains_split}
-use Rattle.wb_numbering.proofs.SourceLemmas.{one_split}
+use Rattle.wb_names_numbers_theory.specs.Sources.{sources, AreGrouped}
+use Rattle.wb_names_numbers_theory.proofs.Grouped.{leads_below}
+use Rattle.wb_names_numbers_theory.proofs.OwnDeclared.{flat_map_contains}
+use Rattle.wb_names_numbers_theory.proofs.RowLemmas.{contains_split}
+use Rattle.wb_names_numbers_theory.proofs.SourceLemmas.{one_split}
 
 -- images of images
 pub map_fuse : {X Y Z : Type 0} (g : Y → Z) (f : X → Y) (xs : List X) → map g (map f xs) ≡ map (λ (x : X). g (f x)) xs

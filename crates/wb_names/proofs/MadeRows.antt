@@ -1,14 +1,14 @@
 -- Lists that are joined are the rows of a file, and with what is made of them they make its value.
 use Rattle.std.proofs.Common.{◌≡◌, List, Option, map, sym, subst}
 use Rattle.wb_base.specs.Grammar.{GrammarView}
-use Rattle.wb_resolved.specs.Numbered.{signature_of}
+use Rattle.wb_syntax_resolved.specs.Numbered.{signature_of}
 use Rattle.wb_values.specs.Signature.{Signature}
-use Rattle.wb_numbering.specs.Files.{File}
-use Rattle.wb_numbering.specs.Resolves.{Resolves}
-use Rattle.wb_symbols.specs.declared.symbols.Symbols.{Symbols}
-use Rattle.wb_symbols.specs.Right.{IsRight}
-use Rattle.wb_symbols.specs.Symbols.{AreSymbols}
-use Rattle.wb_symbols.specs.declared.symbols.Counts.{Counts}
+use Rattle.wb_names_numbers_theory.specs.Files.{File}
+use Rattle.wb_names_numbers_theory.specs.Resolves.{Resolves}
+use Rattle.wb_names_symbols.specs.declared.symbols.Symbols.{Symbols}
+use Rattle.wb_names_symbols.specs.Right.{IsRight}
+use Rattle.wb_names_symbols.specs.Symbols.{AreSymbols}
+use Rattle.wb_names_symbols.specs.declared.symbols.Counts.{Counts}
 use Rattle.wb_names.specs.declared.rows.Written.{Written}
 use Rattle.wb_names.specs.Inner.Joined.{rows_with}
 use Rattle.wb_names.specs.Inner.Made.{value_with}

@@ -8,49 +8,50 @@ use Rattle.std.proofs.lemmas.Option.{slice_get_within}
 use Rattle.wb_lemmas.proofs.Members.{append_contains_left, append_contains_right, contains_at, contains_first, place_of}
 use Rattle.wb_lemmas.proofs.Places.{append_after, append_keeps, at_within}
 use Rattle.wb_lemmas.proofs.Zips.{zip_at}
-use Rattle.wb_resolved.specs.declared.attributes.Attribute.{Attribute}
-use Rattle.wb_resolved.specs.declared.attributes.Nonterminal.{Nonterminal}
-use Rattle.wb_resolved.specs.declared.attributes.Occurrence.{Occurrence}
-use Rattle.wb_resolved.specs.declared.production.Production.{Production}
-use Rattle.wb_resolved.specs.declared.resolved.ResolvedParts.{ResolvedParts}
-use Rattle.wb_resolved.specs.declared.terminal.Terminal.{Terminal}
-use Rattle.wb_resolved.specs.Once.{Entry}
+use Rattle.wb_syntax_resolved.specs.declared.attributes.Attribute.{Attribute}
+use Rattle.wb_syntax_resolved.specs.declared.attributes.Nonterminal.{Nonterminal}
+use Rattle.wb_syntax_resolved.specs.declared.attributes.Occurrence.{Occurrence}
+use Rattle.wb_syntax_resolved.specs.declared.production.Production.{Production}
+use Rattle.wb_syntax_resolved.specs.declared.resolved.ResolvedParts.{ResolvedParts}
+use Rattle.wb_syntax_resolved.specs.declared.terminal.Terminal.{Terminal}
+use Rattle.wb_syntax_resolved.specs.Once.{Entry}
 use Rattle.wb_syntax.specs.declared.item.Item.{Item}
 use Rattle.wb_syntax.specs.declared.item.ItemForm.{ItemForm}
 use Rattle.wb_syntax.specs.declared.item.ItemForm.TheVariants as f
 use Rattle.wb_syntax.specs.declared.item.PlainForm.{PlainForm}
 use Rattle.wb_syntax.specs.declared.item.PlainForm.TheVariants as i
 use Rattle.wb_syntax.specs.declared.pattern.Pattern.{Pattern}
-use Rattle.wb_naming.specs.declared.declaration.Declaration.{Declaration}
-use Rattle.wb_naming.specs.declared.declaration.Declaration.TheVariants as d
-use Rattle.wb_naming.specs.declared.declaration.Sort.{Sort}
-use Rattle.wb_naming.specs.declared.declaration.Sort.TheVariants as sort
-use Rattle.wb_naming.specs.Declarations.{Items, LexicalDeclaration, ProductionDeclaration, lexicals, nonterminals}
-use Rattle.wb_naming.specs.Declarations.{attributes, productions, plain_items, lexical_of, nonterminal_of, production_of}
-use Rattle.wb_naming.specs.Declares.{base_declarations, base_names, item_declarations, form_declarations, terminal_sort, role_sort}
-use Rattle.wb_naming.specs.Declares.{attribute_name, nonterminal_name, production_declarations, child_declaration, equation_declarations}
-use Rattle.wb_naming.specs.Duplicate.{AreSame, symbol}
-use Rattle.wb_naming.specs.Hold.{AreOnce, NamesHold}
-use Rattle.wb_numbering.specs.Files.{File}
-use Rattle.wb_numbering.specs.Given.{IsFile}
-use Rattle.wb_numbering.specs.Moved.{IsMovedNumber}
-use Rattle.wb_numbering.specs.Resolves.{IsScanned, IsInGrammarOf, IsConcrete, move_of}
-use Rattle.wb_numbering.specs.Sources.{sources, IsFrom}
-use Rattle.wb_numbering.proofs.Carrying.{name_at}
-use Rattle.wb_numbering.proofs.DeclaredBy.{production_declared}
-use Rattle.wb_numbering.proofs.Ground.{IsHosts, hosts}
-use Rattle.wb_numbering.proofs.OwnDeclared.{flat_map_contains}
-use Rattle.wb_numbering.proofs.RowLemmas.{map_contains, source_of, source_before, source_declared}
-use Rattle.wb_numbering.proofs.RowsOwned.{plain_declares}
-use Rattle.wb_numbering.proofs.Selected.{kept_from}
-use Rattle.wb_rows.specs.declared.moves.Moves.{Moves}
-use Rattle.wb_rows.specs.declared.scope.Scope.{Scope}
-use Rattle.wb_rows.specs.Base.{IsAttributeNow}
-use Rattle.wb_rows.specs.Plains.{IsFoundAttribute}
-use Rattle.wb_rows.proofs.BaseMoved.{Stays}
-use Rattle.wb_rows.proofs.MovedLemmas.{AreMoves}
-use Rattle.wb_symbols.specs.Symbols.{IsTable}
-use Rattle.wb_symbols.specs.Rows.{IsTerminalNow, IsNonterminalNow}
+use Rattle.wb_names_theory.specs.declared.declaration.Declaration.{Declaration}
+use Rattle.wb_names_theory.specs.declared.declaration.Declaration.TheVariants as d
+use Rattle.wb_names_theory.specs.declared.declaration.Sort.{Sort}
+use Rattle.wb_names_theory.specs.declared.declaration.Sort.TheVariants as sort
+use Rattle.wb_names_theory.specs.Declarations.{Items, LexicalDeclaration, ProductionDeclaration, lexicals, nonterminals}
+use Rattle.wb_names_theory.specs.Declarations.{attributes, productions, plain_items, lexical_of, nonterminal_of, production_of}
+use Rattle.wb_names_theory.specs.Declares.{base_declarations, base_names, item_declarations, form_declarations, terminal_sort, role_sort}
+use Rattle.wb_names_theory.specs.Declares.{attribute_name, nonterminal_name, production_declarations, child_declaration}
+use Rattle.wb_names_theory.specs.Declares.{equation_declarations}
+use Rattle.wb_names_theory.specs.Duplicate.{AreSame, symbol}
+use Rattle.wb_names_theory.specs.Hold.{AreOnce, NamesHold}
+use Rattle.wb_names_numbers_theory.specs.Files.{File}
+use Rattle.wb_names_numbers_theory.specs.Given.{IsFile}
+use Rattle.wb_names_numbers_theory.specs.Moved.{IsMovedNumber}
+use Rattle.wb_names_numbers_theory.specs.Resolves.{IsScanned, IsInGrammarOf, IsConcrete, move_of}
+use Rattle.wb_names_numbers_theory.specs.Sources.{sources, IsFrom}
+use Rattle.wb_names_numbers_theory.proofs.Carrying.{name_at}
+use Rattle.wb_names_numbers_theory.proofs.DeclaredBy.{production_declared}
+use Rattle.wb_names_numbers_theory.proofs.Ground.{IsHosts, hosts}
+use Rattle.wb_names_numbers_theory.proofs.OwnDeclared.{flat_map_contains}
+use Rattle.wb_names_numbers_theory.proofs.RowLemmas.{map_contains, source_of, source_before, source_declared}
+use Rattle.wb_names_numbers_theory.proofs.RowsOwned.{plain_declares}
+use Rattle.wb_names_numbers_theory.proofs.Selected.{kept_from}
+use Rattle.wb_names_rows.specs.declared.moves.Moves.{Moves}
+use Rattle.wb_names_rows.specs.declared.scope.Scope.{Scope}
+use Rattle.wb_names_rows.specs.Base.{IsAttributeNow}
+use Rattle.wb_names_rows.specs.Plains.{IsFoundAttribute}
+use Rattle.wb_names_rows.proofs.BaseMoved.{Stays}
+use Rattle.wb_names_rows.proofs.MovedLemmas.{AreMoves}
+use Rattle.wb_names_symbols.specs.Symbols.{IsTable}
+use Rattle.wb_names_symbols.specs.Rows.{IsTerminalNow, IsNonterminalNow}
 use Rattle.wb_names.specs.Resolving.{file_scope}
 use Rattle.wb_names.specs.Inner.Joined.{Rows}
 use Rattle.wb_names.specs.Inner.Now.{IsProductionNow}

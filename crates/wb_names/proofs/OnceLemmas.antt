@@ -5,25 +5,25 @@ use Rattle.std.specs.Prelude.{filter, flat_map}
 use Rattle.std.proofs.lemmas.Option.{slice_get_within}
 use Rattle.wb_lemmas.proofs.Members.{contains_at, contains_cases, contains_first, nothing_in, place_of}
 use Rattle.wb_lemmas.proofs.Places.{append_keeps, append_after}
-use Rattle.wb_resolved.specs.declared.attributes.Occurrence.{Occurrence}
-use Rattle.wb_resolved.specs.declared.production.Production.{Production}
-use Rattle.wb_resolved.specs.declared.resolved.ResolvedParts.{ResolvedParts}
+use Rattle.wb_syntax_resolved.specs.declared.attributes.Occurrence.{Occurrence}
+use Rattle.wb_syntax_resolved.specs.declared.production.Production.{Production}
+use Rattle.wb_syntax_resolved.specs.declared.resolved.ResolvedParts.{ResolvedParts}
 use Rattle.wb_syntax.specs.declared.item.Item.{Item}
 use Rattle.wb_syntax.specs.declared.item.ItemForm.{ItemForm}
 use Rattle.wb_syntax.specs.declared.item.ItemForm.TheVariants as f
 use Rattle.wb_syntax.specs.declared.pattern.Pattern.{Pattern}
-use Rattle.wb_naming.specs.declared.declaration.Declaration.{Declaration}
-use Rattle.wb_naming.specs.declared.declaration.Declaration.TheVariants as d
-use Rattle.wb_naming.specs.declared.declaration.Sort.TheVariants as sort
-use Rattle.wb_naming.specs.Declarations.{Items, ProductionDeclaration, productions, production_of}
-use Rattle.wb_naming.specs.Declares.{base_declarations, item_declarations, declarations, production_declarations, form_declarations}
-use Rattle.wb_naming.specs.Declares.{base_names, attribute_name, nonterminal_name}
-use Rattle.wb_naming.specs.Duplicate.{AreSame}
-use Rattle.wb_naming.specs.Duplicate as same
-use Rattle.wb_naming.specs.Hold.{AreOnce}
-use Rattle.wb_numbering.proofs.DeclaredBy.{production_declared}
-use Rattle.wb_numbering.proofs.OwnDeclared.{flat_map_contains}
-use Rattle.wb_numbering.proofs.Selected.{kept_from, contains_filter}
+use Rattle.wb_names_theory.specs.declared.declaration.Declaration.{Declaration}
+use Rattle.wb_names_theory.specs.declared.declaration.Declaration.TheVariants as d
+use Rattle.wb_names_theory.specs.declared.declaration.Sort.TheVariants as sort
+use Rattle.wb_names_theory.specs.Declarations.{Items, ProductionDeclaration, productions, production_of}
+use Rattle.wb_names_theory.specs.Declares.{base_declarations, item_declarations, declarations, production_declarations, form_declarations}
+use Rattle.wb_names_theory.specs.Declares.{base_names, attribute_name, nonterminal_name}
+use Rattle.wb_names_theory.specs.Duplicate.{AreSame}
+use Rattle.wb_names_theory.specs.Duplicate as same
+use Rattle.wb_names_theory.specs.Hold.{AreOnce}
+use Rattle.wb_names_numbers_theory.proofs.DeclaredBy.{production_declared}
+use Rattle.wb_names_numbers_theory.proofs.OwnDeclared.{flat_map_contains}
+use Rattle.wb_names_numbers_theory.proofs.Selected.{kept_from, contains_filter}
 
 -- declarations that are once, in parts
 pub once_left : (xs ys : List Declaration) → AreOnce (xs ++ ys) → AreOnce xs

@@ -10,40 +10,40 @@ use Rattle.wb_lemmas.proofs.Elements.{all_contained, all_weaker}
 use Rattle.wb_lemmas.proofs.Members.{contains_cases, contains_first, contains_later, nothing_in, place_of}
 use Rattle.wb_lemmas.proofs.Places.{append_before, at_within}
 use Rattle.wb_lemmas.proofs.Zips.{zip_at, zip_weaker}
-use Rattle.wb_resolved.specs.declared.equation.Equation.{Equation}
-use Rattle.wb_resolved.specs.declared.production.Child.{Child}
-use Rattle.wb_resolved.specs.declared.production.Forward.{Forward}
-use Rattle.wb_resolved.specs.declared.production.Local.{Local}
-use Rattle.wb_resolved.specs.declared.production.Production.{Production}
-use Rattle.wb_resolved.specs.Expression.{Node}
-use Rattle.wb_resolved.specs.Named.{IsNamedProduction, IsNamedLocal, IsNamedEquation, IsNamedExpression, IsNamedNode}
-use Rattle.wb_resolved.specs.Once.{Entry}
-use Rattle.wb_resolved.specs.Owners.{Sees}
+use Rattle.wb_syntax_resolved.specs.declared.equation.Equation.{Equation}
+use Rattle.wb_syntax_resolved.specs.declared.production.Child.{Child}
+use Rattle.wb_syntax_resolved.specs.declared.production.Forward.{Forward}
+use Rattle.wb_syntax_resolved.specs.declared.production.Local.{Local}
+use Rattle.wb_syntax_resolved.specs.declared.production.Production.{Production}
+use Rattle.wb_syntax_resolved.specs.Expression.{Node}
+use Rattle.wb_syntax_resolved.specs.Named.{IsNamedProduction, IsNamedLocal, IsNamedEquation, IsNamedExpression, IsNamedNode}
+use Rattle.wb_syntax_resolved.specs.Once.{Entry}
+use Rattle.wb_syntax_resolved.specs.Owners.{Sees}
 use Rattle.wb_syntax.specs.declared.expression.Equation as written
-use Rattle.wb_naming.specs.Declarations.{ProductionDeclaration, productions}
-use Rattle.wb_numbering.specs.Files.{File, equations_on}
-use Rattle.wb_numbering.specs.Given.{IsFile}
-use Rattle.wb_numbering.specs.Moved.{Move, IsMovedNumber, IsMovedChild, IsMovedLocal, IsMovedForward, IsMovedEquation}
-use Rattle.wb_numbering.specs.Numbering.{Numbering, labels_in}
-use Rattle.wb_numbering.specs.Resolves.{move_of, IsProduction}
-use Rattle.wb_numbering.specs.Rows.{IsProductionRow, IsExtendedProduction}
-use Rattle.wb_numbering.specs.Sources.{sources, IsFrom}
-use Rattle.wb_numbering.specs.Written.{local_equations, forward_equations, attribute_equations}
-use Rattle.wb_numbering.specs.Written.{IsWrittenChild, IsWrittenEquation, IsWrittenLocal, IsWrittenForward}
-use Rattle.wb_numbering.proofs.Ground.{hosts}
-use Rattle.wb_numbering.proofs.RowLemmas.{contains_map, source_before, source_of_zip}
-use Rattle.wb_rows.specs.declared.moves.Moves.{Moves}
-use Rattle.wb_rows.specs.declared.scope.Scope.{Scope}
-use Rattle.wb_rows.specs.declared.scope.ProductionLabels.{ProductionLabels}
-use Rattle.wb_rows.specs.Moves.{IsChildNow, IsLocalNow, IsForwardNow, IsEquationNow}
-use Rattle.wb_rows.specs.Nodes.{IsFoundEquation, IsFoundForward, IsFoundLocal}
-use Rattle.wb_rows.specs.Scope.{IsScope, AreLabels, IsFoundChild}
-use Rattle.wb_rows.proofs.BaseMoved.{Stays, IsNodeIn, moved_local, moved_forward, moved_equation}
-use Rattle.wb_rows.proofs.BaseWithin.{node_in, target_in}
-use Rattle.wb_rows.proofs.FoundLemmas.{found_equation, found_local, found_forward}
-use Rattle.wb_rows.proofs.MovedLemmas.{AreMoves, moved_child}
-use Rattle.wb_rows.proofs.ScopeLemmas.{is_number}
-use Rattle.wb_symbols.specs.Symbols.{AreNumbers}
+use Rattle.wb_names_theory.specs.Declarations.{ProductionDeclaration, productions}
+use Rattle.wb_names_numbers_theory.specs.Files.{File, equations_on}
+use Rattle.wb_names_numbers_theory.specs.Given.{IsFile}
+use Rattle.wb_names_numbers_theory.specs.Moved.{Move, IsMovedNumber, IsMovedChild, IsMovedLocal, IsMovedForward, IsMovedEquation}
+use Rattle.wb_names_numbers_theory.specs.Numbering.{Numbering, labels_in}
+use Rattle.wb_names_numbers_theory.specs.Resolves.{move_of, IsProduction}
+use Rattle.wb_names_numbers_theory.specs.Rows.{IsProductionRow, IsExtendedProduction}
+use Rattle.wb_names_numbers_theory.specs.Sources.{sources, IsFrom}
+use Rattle.wb_names_numbers_theory.specs.Written.{local_equations, forward_equations, attribute_equations}
+use Rattle.wb_names_numbers_theory.specs.Written.{IsWrittenChild, IsWrittenEquation, IsWrittenLocal, IsWrittenForward}
+use Rattle.wb_names_numbers_theory.proofs.Ground.{hosts}
+use Rattle.wb_names_numbers_theory.proofs.RowLemmas.{contains_map, source_before, source_of_zip}
+use Rattle.wb_names_rows.specs.declared.moves.Moves.{Moves}
+use Rattle.wb_names_rows.specs.declared.scope.Scope.{Scope}
+use Rattle.wb_names_rows.specs.declared.scope.ProductionLabels.{ProductionLabels}
+use Rattle.wb_names_rows.specs.Moves.{IsChildNow, IsLocalNow, IsForwardNow, IsEquationNow}
+use Rattle.wb_names_rows.specs.Nodes.{IsFoundEquation, IsFoundForward, IsFoundLocal}
+use Rattle.wb_names_rows.specs.Scope.{IsScope, AreLabels, IsFoundChild}
+use Rattle.wb_names_rows.proofs.BaseMoved.{Stays, IsNodeIn, moved_local, moved_forward, moved_equation}
+use Rattle.wb_names_rows.proofs.BaseWithin.{node_in, target_in}
+use Rattle.wb_names_rows.proofs.FoundLemmas.{found_equation, found_local, found_forward}
+use Rattle.wb_names_rows.proofs.MovedLemmas.{AreMoves, moved_child}
+use Rattle.wb_names_rows.proofs.ScopeLemmas.{is_number}
+use Rattle.wb_names_symbols.specs.Symbols.{AreNumbers}
 use Rattle.wb_names.specs.Inner.Now.{AreLabelsOf, IsExtendedNow, IsDeclaredNow, IsProductionNow}
 
 -- another relation holds, where it follows for each element

@@ -1,30 +1,31 @@
 -- Rows of productions that are kept in two lists are grouped rows, when concrete ones go before the others.
-use Rattle.std.proofs.Common.{◌≡◌, ◌<◌, ◌+◌, ◌++◌, ◌∷◌, ◌⊎◌, inl, inr, [], ℕ, Bool, true, false, not, cond, List, Option, Some, None, length}
+use Rattle.std.proofs.Common.{◌≡◌, ◌<◌, ◌+◌, ◌++◌, ◌∷◌, ◌⊎◌, inl, inr, [], ℕ, Bool, true, false, not, cond, List, Option, Some, None}
+use Rattle.std.proofs.Common.{length}
 use Rattle.std.proofs.Common.{take, get_or, ap, sym, refl, subst, ◌∙◌}
 use Rattle.std.specs.Prelude.{filter, filter_map, option_to_list}
 use Rattle.std.specs.List.{AllZip}
 use Rattle.std.proofs.lemmas.List.{take_more}
 use Rattle.std.proofs.lemmas.List.Elements.{filter_map-append}
-use Rattle.wb_resolved.specs.declared.production.Production.{Production}
-use Rattle.wb_resolved.specs.declared.production.ProductionRole.{ProductionRole}
-use Rattle.wb_resolved.specs.declared.production.ProductionRole.TheVariants.{Concrete, Abstract}
+use Rattle.wb_syntax_resolved.specs.declared.production.Production.{Production}
+use Rattle.wb_syntax_resolved.specs.declared.production.ProductionRole.{ProductionRole}
+use Rattle.wb_syntax_resolved.specs.declared.production.ProductionRole.TheVariants.{Concrete, Abstract}
 use Rattle.wb_syntax.specs.declared.item.Item.{Item}
 use Rattle.wb_syntax.specs.declared.item.ItemForm.{ItemForm}
 use Rattle.wb_syntax.specs.declared.item.ItemForm.TheVariants as f
 use Rattle.wb_syntax.specs.declared.pattern.Pattern.{Pattern}
 use Rattle.wb_syntax.specs.declared.production.Production as written
 use Rattle.wb_syntax.specs.declared.production.ProductionRole as declared
-use Rattle.wb_naming.specs.Declarations.{ProductionDeclaration, production_of, productions}
-use Rattle.wb_numbering.specs.Files.{File}
-use Rattle.wb_numbering.specs.Resolves.{IsConcrete}
-use Rattle.wb_numbering.specs.Rows.{production_role}
-use Rattle.wb_numbering.specs.Sources.{sources, IsFrom}
-use Rattle.wb_rows.specs.declared.moves.Moves.{Moves}
-use Rattle.wb_rows.specs.declared.scope.Scope.{Scope}
-use Rattle.wb_rows.proofs.AddsLemmas.{adds_nothing}
-use Rattle.wb_rows.proofs.BlockLemmas.{adds_append}
-use Rattle.wb_rows.proofs.GroupLemmas.{splits_filter, zip_filtered}
-use Rattle.wb_rows.proofs.ZipLemmas.{zip_append}
+use Rattle.wb_names_theory.specs.Declarations.{ProductionDeclaration, production_of, productions}
+use Rattle.wb_names_numbers_theory.specs.Files.{File}
+use Rattle.wb_names_numbers_theory.specs.Resolves.{IsConcrete}
+use Rattle.wb_names_numbers_theory.specs.Rows.{production_role}
+use Rattle.wb_names_numbers_theory.specs.Sources.{sources, IsFrom}
+use Rattle.wb_names_rows.specs.declared.moves.Moves.{Moves}
+use Rattle.wb_names_rows.specs.declared.scope.Scope.{Scope}
+use Rattle.wb_names_rows.proofs.AddsLemmas.{adds_nothing}
+use Rattle.wb_names_rows.proofs.BlockLemmas.{adds_append}
+use Rattle.wb_names_rows.proofs.GroupLemmas.{splits_filter, zip_filtered}
+use Rattle.wb_names_rows.proofs.ZipLemmas.{zip_append}
 use Rattle.wb_names.specs.declared.productions.Productions.{Productions}
 use Rattle.wb_names.specs.Inner.Now.{IsExtendedNow, IsDeclaredNow}
 use Rattle.wb_names.specs.Inner.Productions.{AreProductions}

@@ -5,17 +5,17 @@ use Rattle.std.proofs.lemmas.List.Elements.{All-cons, All-nil}
 use Rattle.std.proofs.lemmas.Option.{slice_get_within}
 use Rattle.std.proofs.lemmas.Result.{IfErr-weaker, IfOk-weaker}
 use Rattle.wb_base.specs.Identifiers.{IsName}
-use Rattle.wb_resolved.specs.declared.resolved.ResolvedParts.{ResolvedParts}
-use Rattle.wb_resolved.specs.Resolved.{IsResolved}
+use Rattle.wb_syntax_resolved.specs.declared.resolved.ResolvedParts.{ResolvedParts}
+use Rattle.wb_syntax_resolved.specs.Resolved.{IsResolved}
 use Rattle.wb_syntax.specs.Equations.{HasWholeEquations}
 use Rattle.wb_syntax.specs.Names.{HasNames}
 use Rattle.wb_syntax.specs.SpecText.{SpecView}
 use Rattle.wb_syntax.specs.declared.header.Header.TheVariants as h
-use Rattle.wb_naming.specs.Refusals.{IsTrueRefusal}
-use Rattle.wb_naming.specs.declared.refusal.NameRefusal.{NameRefusal}
-use Rattle.wb_naming.specs.declared.refusal.NameRefusal.TheVariants as n
-use Rattle.wb_numbering.specs.Files.{File}
-use Rattle.wb_numbering.specs.Given.{IsFile}
+use Rattle.wb_names_theory.specs.Refusals.{IsTrueRefusal}
+use Rattle.wb_names_theory.specs.declared.refusal.NameRefusal.{NameRefusal}
+use Rattle.wb_names_theory.specs.declared.refusal.NameRefusal.TheVariants as n
+use Rattle.wb_names_numbers_theory.specs.Files.{File}
+use Rattle.wb_names_numbers_theory.specs.Given.{IsFile}
 use Rattle.wb_names.specs.Resolving.{IsExtensionNameRefusal, IsHostNameRefusal, ResolvesExtension, ResolvesHost}
 use Rattle.wb_names.specs.Resolving.{extension_file, file_scope, host_file}
 use Rattle.wb_names.specs.Inner.Value.{IsValueOf}

@@ -8,37 +8,37 @@ use Rattle.std.proofs.lemmas.List.{length-map, append-nil, take_more}
 use Rattle.std.proofs.lemmas.Option.{slice_get_within}
 use Rattle.wb_lemmas.proofs.Elements.{all_from_contained, all_weaker}
 use Rattle.wb_base.specs.Grammar.{GrammarView}
-use Rattle.wb_resolved.specs.declared.attributes.Attribute.{Attribute}
-use Rattle.wb_resolved.specs.declared.attributes.Nonterminal.{Nonterminal}
-use Rattle.wb_resolved.specs.declared.attributes.Occurrence.{Occurrence}
-use Rattle.wb_resolved.specs.declared.production.Production.{Production}
-use Rattle.wb_resolved.specs.declared.resolved.ResolvedParts.{ResolvedParts}
-use Rattle.wb_resolved.specs.declared.terminal.Terminal.{Terminal}
-use Rattle.wb_resolved.specs.Named.{IsNamedAttribute, IsNamedOccurrence}
-use Rattle.wb_resolved.specs.Resolved.{IsResolved, IsNamedPreference}
-use Rattle.wb_resolved.specs.Visible.{SeesNonterminal}
+use Rattle.wb_syntax_resolved.specs.declared.attributes.Attribute.{Attribute}
+use Rattle.wb_syntax_resolved.specs.declared.attributes.Nonterminal.{Nonterminal}
+use Rattle.wb_syntax_resolved.specs.declared.attributes.Occurrence.{Occurrence}
+use Rattle.wb_syntax_resolved.specs.declared.production.Production.{Production}
+use Rattle.wb_syntax_resolved.specs.declared.resolved.ResolvedParts.{ResolvedParts}
+use Rattle.wb_syntax_resolved.specs.declared.terminal.Terminal.{Terminal}
+use Rattle.wb_syntax_resolved.specs.Named.{IsNamedAttribute, IsNamedOccurrence}
+use Rattle.wb_syntax_resolved.specs.Resolved.{IsResolved, IsNamedPreference}
+use Rattle.wb_syntax_resolved.specs.Visible.{SeesNonterminal}
 use Rattle.wb_syntax.specs.declared.item.Item.{Item}
 use Rattle.wb_syntax.specs.declared.pattern.Pattern.{Pattern}
-use Rattle.wb_naming.specs.Declarations.{attributes, occurrences, preferences, plain_items}
-use Rattle.wb_naming.specs.Declares.{declarations}
-use Rattle.wb_naming.specs.Hold.{NamesHold}
-use Rattle.wb_naming.specs.Uses.{uses, form_uses}
-use Rattle.wb_numbering.specs.Files.{File}
-use Rattle.wb_numbering.specs.Numbering.{Numbering, numbering_of}
-use Rattle.wb_numbering.specs.Sources.{sources, IsFrom}
-use Rattle.wb_numbering.proofs.OwnDeclared.{flat_map_contains}
-use Rattle.wb_rows.specs.declared.moves.Moves.{Moves}
-use Rattle.wb_rows.specs.declared.plains.Plains.{Plains}
-use Rattle.wb_rows.specs.declared.scope.Scope.{Scope}
-use Rattle.wb_rows.specs.Base.{IsAttributeNow, IsOccurrenceNow, IsPreferenceNow, PreferenceIsWithin}
-use Rattle.wb_rows.specs.Moves.{KindIsWithin}
-use Rattle.wb_rows.specs.Plains.{AddsEach, AddsPlains, FormIsThere, IsFoundAttribute, IsFoundOccurrence, IsFoundPreference}
-use Rattle.wb_rows.specs.There.{HasDeclared}
-use Rattle.wb_rows.proofs.BaseWithin.{kind_within, nonterminal_within}
-use Rattle.wb_rows.proofs.GroupLemmas.{zip_sources}
-use Rattle.wb_rows.proofs.UsesThere.{form_there}
-use Rattle.wb_rows.proofs.ZipLemmas.{zip_append}
-use Rattle.wb_symbols.specs.Symbols.{AreNumbers}
+use Rattle.wb_names_theory.specs.Declarations.{attributes, occurrences, preferences, plain_items}
+use Rattle.wb_names_theory.specs.Declares.{declarations}
+use Rattle.wb_names_theory.specs.Hold.{NamesHold}
+use Rattle.wb_names_theory.specs.Uses.{uses, form_uses}
+use Rattle.wb_names_numbers_theory.specs.Files.{File}
+use Rattle.wb_names_numbers_theory.specs.Numbering.{Numbering, numbering_of}
+use Rattle.wb_names_numbers_theory.specs.Sources.{sources, IsFrom}
+use Rattle.wb_names_numbers_theory.proofs.OwnDeclared.{flat_map_contains}
+use Rattle.wb_names_rows.specs.declared.moves.Moves.{Moves}
+use Rattle.wb_names_rows.specs.declared.plains.Plains.{Plains}
+use Rattle.wb_names_rows.specs.declared.scope.Scope.{Scope}
+use Rattle.wb_names_rows.specs.Base.{IsAttributeNow, IsOccurrenceNow, IsPreferenceNow, PreferenceIsWithin}
+use Rattle.wb_names_rows.specs.Moves.{KindIsWithin}
+use Rattle.wb_names_rows.specs.Plains.{AddsEach, AddsPlains, FormIsThere, IsFoundAttribute, IsFoundOccurrence, IsFoundPreference}
+use Rattle.wb_names_rows.specs.There.{HasDeclared}
+use Rattle.wb_names_rows.proofs.BaseWithin.{kind_within, nonterminal_within}
+use Rattle.wb_names_rows.proofs.GroupLemmas.{zip_sources}
+use Rattle.wb_names_rows.proofs.UsesThere.{form_there}
+use Rattle.wb_names_rows.proofs.ZipLemmas.{zip_append}
+use Rattle.wb_names_symbols.specs.Symbols.{AreNumbers}
 use Rattle.wb_names.specs.Resolving.{file_scope}
 use Rattle.wb_names.specs.Inner.Rest.{AddsBase, AreBasePlains, ArePlains, HasTables}
 

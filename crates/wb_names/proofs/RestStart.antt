@@ -5,18 +5,18 @@ use Rattle.std.specs.List.{AllZip}
 use Rattle.std.proofs.lemmas.List.{take_all}
 use Rattle.wb_lemmas.proofs.Elements.{all_contained, all_from_contained}
 use Rattle.wb_base.specs.Grammar.{GrammarView}
-use Rattle.wb_naming.specs.Declarations.{starts}
-use Rattle.wb_naming.specs.Hold.{NamesHold}
-use Rattle.wb_numbering.specs.Files.{File}
-use Rattle.wb_numbering.specs.Resolves.{starts_of}
-use Rattle.wb_numbering.specs.Sources.{sources}
-use Rattle.wb_numbering.proofs.OwnDeclared.{flat_map_contains}
-use Rattle.wb_rows.specs.declared.moves.Moves.{Moves}
-use Rattle.wb_rows.specs.declared.scope.Scope.{Scope}
-use Rattle.wb_rows.specs.Moves.{IsNow}
-use Rattle.wb_rows.specs.Nodes.{IsAt}
-use Rattle.wb_rows.specs.Plains.{AddsEach}
-use Rattle.wb_rows.proofs.GroupLemmas.{zip_sources}
+use Rattle.wb_names_theory.specs.Declarations.{starts}
+use Rattle.wb_names_theory.specs.Hold.{NamesHold}
+use Rattle.wb_names_numbers_theory.specs.Files.{File}
+use Rattle.wb_names_numbers_theory.specs.Resolves.{starts_of}
+use Rattle.wb_names_numbers_theory.specs.Sources.{sources}
+use Rattle.wb_names_numbers_theory.proofs.OwnDeclared.{flat_map_contains}
+use Rattle.wb_names_rows.specs.declared.moves.Moves.{Moves}
+use Rattle.wb_names_rows.specs.declared.scope.Scope.{Scope}
+use Rattle.wb_names_rows.specs.Moves.{IsNow}
+use Rattle.wb_names_rows.specs.Nodes.{IsAt}
+use Rattle.wb_names_rows.specs.Plains.{AddsEach}
+use Rattle.wb_names_rows.proofs.GroupLemmas.{zip_sources}
 use Rattle.wb_names.specs.Resolving.{file_scope}
 use Rattle.wb_names.specs.Inner.Rest.{BeginsAlone, IsNumberNow}
 use Rattle.wb_names.proofs.StartLemmas.{no_start}

@@ -4,25 +4,26 @@ use Rattle.std.specs.Prelude.{IfSome, option_to_list}
 use Rattle.std.specs.List.{AllZip}
 use Rattle.wb_lemmas.proofs.Zips.{zip_weaker}
 use Rattle.wb_base.specs.Grammar.{GrammarView}
-use Rattle.wb_resolved.specs.declared.production.Production.{Production}
-use Rattle.wb_naming.specs.Declarations.{ProductionDeclaration, attributes, extensibles, lexicals, nonterminals, occurrences, preferences}
-use Rattle.wb_naming.specs.Declarations.{productions, starts}
-use Rattle.wb_naming.specs.Hold.{NamesHold}
-use Rattle.wb_numbering.specs.Files.{File}
-use Rattle.wb_numbering.specs.Given.{IsFile}
-use Rattle.wb_numbering.specs.Numbering.{Numbering}
-use Rattle.wb_numbering.specs.Resolves.{Resolves, IsGrammarRow, IsScanned, IsInGrammarOf, IsConcrete}
-use Rattle.wb_numbering.specs.Resolves.{IsTerminal, IsNonterminal, IsAttribute}
-use Rattle.wb_numbering.specs.Resolves.{IsOccurrence, IsProduction, IsPreference, IsNonterminalNumber, move_of, starts_of}
-use Rattle.wb_numbering.specs.Sources.{sources, IsFrom}
-use Rattle.wb_rows.specs.declared.moves.Moves.{Moves}
-use Rattle.wb_rows.specs.declared.scope.Scope.{Scope}
-use Rattle.wb_rows.specs.Base.{IsAttributeNow, IsOccurrenceNow, IsPreferenceNow}
-use Rattle.wb_rows.specs.Plains.{IsFoundAttribute, IsFoundOccurrence, IsFoundPreference}
-use Rattle.wb_rows.specs.Scope.{IsScope}
-use Rattle.wb_rows.proofs.BaseMoved.{Stays}
-use Rattle.wb_rows.proofs.MovedLemmas.{AreMoves}
-use Rattle.wb_symbols.specs.Rows.{IsTerminalNow, IsNonterminalNow}
+use Rattle.wb_syntax_resolved.specs.declared.production.Production.{Production}
+use Rattle.wb_names_theory.specs.Declarations.{ProductionDeclaration, attributes, extensibles, lexicals, nonterminals, occurrences}
+use Rattle.wb_names_theory.specs.Declarations.{preferences}
+use Rattle.wb_names_theory.specs.Declarations.{productions, starts}
+use Rattle.wb_names_theory.specs.Hold.{NamesHold}
+use Rattle.wb_names_numbers_theory.specs.Files.{File}
+use Rattle.wb_names_numbers_theory.specs.Given.{IsFile}
+use Rattle.wb_names_numbers_theory.specs.Numbering.{Numbering}
+use Rattle.wb_names_numbers_theory.specs.Resolves.{Resolves, IsGrammarRow, IsScanned, IsInGrammarOf, IsConcrete}
+use Rattle.wb_names_numbers_theory.specs.Resolves.{IsTerminal, IsNonterminal, IsAttribute}
+use Rattle.wb_names_numbers_theory.specs.Resolves.{IsOccurrence, IsProduction, IsPreference, IsNonterminalNumber, move_of, starts_of}
+use Rattle.wb_names_numbers_theory.specs.Sources.{sources, IsFrom}
+use Rattle.wb_names_rows.specs.declared.moves.Moves.{Moves}
+use Rattle.wb_names_rows.specs.declared.scope.Scope.{Scope}
+use Rattle.wb_names_rows.specs.Base.{IsAttributeNow, IsOccurrenceNow, IsPreferenceNow}
+use Rattle.wb_names_rows.specs.Plains.{IsFoundAttribute, IsFoundOccurrence, IsFoundPreference}
+use Rattle.wb_names_rows.specs.Scope.{IsScope}
+use Rattle.wb_names_rows.proofs.BaseMoved.{Stays}
+use Rattle.wb_names_rows.proofs.MovedLemmas.{AreMoves}
+use Rattle.wb_names_symbols.specs.Rows.{IsTerminalNow, IsNonterminalNow}
 use Rattle.wb_names.specs.Resolving.{file_scope}
 use Rattle.wb_names.specs.Inner.Joined.{Rows}
 use Rattle.wb_names.specs.Inner.Now.{IsProductionNow}

@@ -2,13 +2,13 @@
 use Rattle.std.proofs.Common.{◌≡◌, ◌∷◌, inr, [], ℕ, List, map, ap, sym, refl}
 use Rattle.std.specs.List.{AllZip}
 use Rattle.wb_lemmas.proofs.Zips.{zip_map}
-use Rattle.wb_resolved.specs.declared.production.Child.{Child}
-use Rattle.wb_resolved.specs.Once.{Entry}
+use Rattle.wb_syntax_resolved.specs.declared.production.Child.{Child}
+use Rattle.wb_syntax_resolved.specs.Once.{Entry}
 use Rattle.wb_syntax.specs.declared.production.Child as named
-use Rattle.wb_numbering.specs.Numbering.{Numbering}
-use Rattle.wb_numbering.proofs.RowLemmas.{contains_map}
-use Rattle.wb_rows.specs.declared.scope.Scope.{Scope}
-use Rattle.wb_rows.specs.Scope.{AreNames, IsScope, IsFoundChild}
+use Rattle.wb_names_numbers_theory.specs.Numbering.{Numbering}
+use Rattle.wb_names_numbers_theory.proofs.RowLemmas.{contains_map}
+use Rattle.wb_names_rows.specs.declared.scope.Scope.{Scope}
+use Rattle.wb_names_rows.specs.Scope.{AreNames, IsScope, IsFoundChild}
 
 -- names, all of one owner
 abbrev entries_of : ℕ → List (List ℕ) → List Entry

@@ -2,28 +2,28 @@
 use Rattle.std.proofs.Common.{◌≡◌, ◌⊎◌, inl, inr, ℕ, List, Contains, map, ap, sym, subst, ◌∙◌}
 use Rattle.wb_lemmas.proofs.Members.{place_of}
 use Rattle.wb_lemmas.proofs.Zips.{zip_map}
-use Rattle.wb_resolved.specs.declared.attributes.Attribute.{Attribute}
-use Rattle.wb_resolved.specs.declared.attributes.Nonterminal.{Nonterminal}
-use Rattle.wb_resolved.specs.declared.production.Production.{Production}
-use Rattle.wb_resolved.specs.declared.terminal.Terminal.{Terminal}
-use Rattle.wb_resolved.specs.Once.{Entry}
-use Rattle.wb_resolved.specs.Owners.{Sees}
-use Rattle.wb_naming.specs.Declarations.{LexicalDeclaration, AttributeDeclaration, ProductionDeclaration, lexicals, nonterminals}
-use Rattle.wb_naming.specs.Declarations.{attributes, productions}
-use Rattle.wb_numbering.specs.Files.{File}
-use Rattle.wb_numbering.specs.Given.{IsFile}
-use Rattle.wb_numbering.specs.Numbering.{Numbering}
-use Rattle.wb_numbering.specs.Resolves.{IsScanned, IsInGrammarOf, IsConcrete}
-use Rattle.wb_numbering.specs.Sources.{sources, IsFrom}
-use Rattle.wb_numbering.proofs.Ground.{IsHosts, hosts}
-use Rattle.wb_numbering.proofs.RowLemmas.{contains_map, source_of, source_of_zip, source_before}
-use Rattle.wb_rows.specs.declared.moves.Moves.{Moves}
-use Rattle.wb_rows.specs.declared.scope.Scope.{Scope}
-use Rattle.wb_rows.specs.Base.{IsAttributeNow}
-use Rattle.wb_rows.specs.Plains.{IsFoundAttribute}
-use Rattle.wb_rows.specs.Scope.{AreNames, IsScope}
-use Rattle.wb_symbols.specs.Symbols.{IsNameOf}
-use Rattle.wb_symbols.specs.Rows.{IsTerminalNow, IsNonterminalNow}
+use Rattle.wb_syntax_resolved.specs.declared.attributes.Attribute.{Attribute}
+use Rattle.wb_syntax_resolved.specs.declared.attributes.Nonterminal.{Nonterminal}
+use Rattle.wb_syntax_resolved.specs.declared.production.Production.{Production}
+use Rattle.wb_syntax_resolved.specs.declared.terminal.Terminal.{Terminal}
+use Rattle.wb_syntax_resolved.specs.Once.{Entry}
+use Rattle.wb_syntax_resolved.specs.Owners.{Sees}
+use Rattle.wb_names_theory.specs.Declarations.{LexicalDeclaration, AttributeDeclaration, ProductionDeclaration, lexicals, nonterminals}
+use Rattle.wb_names_theory.specs.Declarations.{attributes, productions}
+use Rattle.wb_names_numbers_theory.specs.Files.{File}
+use Rattle.wb_names_numbers_theory.specs.Given.{IsFile}
+use Rattle.wb_names_numbers_theory.specs.Numbering.{Numbering}
+use Rattle.wb_names_numbers_theory.specs.Resolves.{IsScanned, IsInGrammarOf, IsConcrete}
+use Rattle.wb_names_numbers_theory.specs.Sources.{sources, IsFrom}
+use Rattle.wb_names_numbers_theory.proofs.Ground.{IsHosts, hosts}
+use Rattle.wb_names_numbers_theory.proofs.RowLemmas.{contains_map, source_of, source_of_zip, source_before}
+use Rattle.wb_names_rows.specs.declared.moves.Moves.{Moves}
+use Rattle.wb_names_rows.specs.declared.scope.Scope.{Scope}
+use Rattle.wb_names_rows.specs.Base.{IsAttributeNow}
+use Rattle.wb_names_rows.specs.Plains.{IsFoundAttribute}
+use Rattle.wb_names_rows.specs.Scope.{AreNames, IsScope}
+use Rattle.wb_names_symbols.specs.Symbols.{IsNameOf}
+use Rattle.wb_names_symbols.specs.Rows.{IsTerminalNow, IsNonterminalNow}
 use Rattle.wb_names.specs.Inner.Joined.{Rows}
 use Rattle.wb_names.specs.Inner.Now.{IsProductionNow}
 use Rattle.wb_names.specs.Inner.Value.{AreRows}

@@ -16,25 +16,25 @@ use Rattle.wb_syntax.specs.declared.item.ItemForm.TheVariants as f
 use Rattle.wb_syntax.specs.declared.item.PlainForm.{PlainForm}
 use Rattle.wb_syntax.specs.declared.item.PlainForm.TheVariants as i
 use Rattle.wb_syntax.specs.declared.pattern.Pattern.{Pattern}
-use Rattle.wb_naming.specs.declared.declaration.Declaration.{Declaration}
-use Rattle.wb_naming.specs.declared.declaration.Declaration.TheVariants as d
-use Rattle.wb_naming.specs.declared.usage.Usage.TheVariants as u
-use Rattle.wb_naming.specs.declared.usage.Wanted.TheVariants as w
-use Rattle.wb_naming.specs.Declarations.{Items, plain_items, start_of, starts, extensible_of, extensibles}
-use Rattle.wb_naming.specs.Declares.{declarations, item_declarations, form_declarations}
-use Rattle.wb_naming.specs.Duplicate.{AreSame, start as same_start}
-use Rattle.wb_naming.specs.Hold.{AreOnce, NamesHold}
-use Rattle.wb_naming.specs.Uses.{uses, plain_uses}
-use Rattle.wb_numbering.specs.Files.{File}
-use Rattle.wb_numbering.proofs.OwnDeclared.{flat_map_contains}
-use Rattle.wb_numbering.proofs.RowsOwned.{plain_declares}
-use Rattle.wb_numbering.proofs.Selected.{kept_from, contains_filter}
-use Rattle.wb_numbering.proofs.Used.{plain_used}
-use Rattle.wb_rows.specs.declared.scope.Scope.{Scope}
-use Rattle.wb_rows.specs.GrammarNames.{form_starts}
-use Rattle.wb_rows.specs.There.{HasDeclared}
-use Rattle.wb_rows.proofs.GrammarNameLemmas.{starts_flat}
-use Rattle.wb_rows.proofs.UsesThere.{nonterminal_there}
+use Rattle.wb_names_theory.specs.declared.declaration.Declaration.{Declaration}
+use Rattle.wb_names_theory.specs.declared.declaration.Declaration.TheVariants as d
+use Rattle.wb_names_theory.specs.declared.usage.Usage.TheVariants as u
+use Rattle.wb_names_theory.specs.declared.usage.Wanted.TheVariants as w
+use Rattle.wb_names_theory.specs.Declarations.{Items, plain_items, start_of, starts, extensible_of, extensibles}
+use Rattle.wb_names_theory.specs.Declares.{declarations, item_declarations, form_declarations}
+use Rattle.wb_names_theory.specs.Duplicate.{AreSame, start as same_start}
+use Rattle.wb_names_theory.specs.Hold.{AreOnce, NamesHold}
+use Rattle.wb_names_theory.specs.Uses.{uses, plain_uses}
+use Rattle.wb_names_numbers_theory.specs.Files.{File}
+use Rattle.wb_names_numbers_theory.proofs.OwnDeclared.{flat_map_contains}
+use Rattle.wb_names_numbers_theory.proofs.RowsOwned.{plain_declares}
+use Rattle.wb_names_numbers_theory.proofs.Selected.{kept_from, contains_filter}
+use Rattle.wb_names_numbers_theory.proofs.Used.{plain_used}
+use Rattle.wb_names_rows.specs.declared.scope.Scope.{Scope}
+use Rattle.wb_names_rows.specs.GrammarNames.{form_starts}
+use Rattle.wb_names_rows.specs.There.{HasDeclared}
+use Rattle.wb_names_rows.proofs.GrammarNameLemmas.{starts_flat}
+use Rattle.wb_names_rows.proofs.UsesThere.{nonterminal_there}
 use Rattle.wb_names.specs.Resolving.{file_scope}
 
 -- declarations of the same thing are one also in a part

@@ -1,12 +1,12 @@
 -- What a specification resolves to: a host by itself, and an extension on a resolved host; and why it doesn't.
 use Rattle.std.specs.Prelude.{◌≡◌, ◌≢◌, ◌⊎◌, ℕ, List, [], ◌∷◌, None}
-use Rattle.wb_naming.specs.NamesOk.{NamesOk, Scope, scope_of}
-use Rattle.wb_naming.specs.Refusals.{IsTrueRefusal}
-use Rattle.wb_naming.specs.declared.refusal.NameRefusal.{NameRefusal}
-use Rattle.wb_naming.specs.declared.refusal.NameRefusal.TheVariants as n
-use Rattle.wb_numbering.specs.Files.{File}
-use Rattle.wb_numbering.specs.Resolves.{Resolves}
-use Rattle.wb_resolved.specs.declared.resolved.ResolvedParts.{ResolvedParts}
+use Rattle.wb_names_theory.specs.NamesOk.{NamesOk, Scope, scope_of}
+use Rattle.wb_names_theory.specs.Refusals.{IsTrueRefusal}
+use Rattle.wb_names_theory.specs.declared.refusal.NameRefusal.{NameRefusal}
+use Rattle.wb_names_theory.specs.declared.refusal.NameRefusal.TheVariants as n
+use Rattle.wb_names_numbers_theory.specs.Files.{File}
+use Rattle.wb_names_numbers_theory.specs.Resolves.{Resolves}
+use Rattle.wb_syntax_resolved.specs.declared.resolved.ResolvedParts.{ResolvedParts}
 use Rattle.wb_syntax.specs.SpecText.{SpecView}
 use Rattle.wb_syntax.specs.declared.header.Header.{Header}
 use Rattle.wb_syntax.specs.declared.header.Header.TheVariants as h

@@ -2,12 +2,12 @@
 
 ghost use Rattle.std.specs.Prelude.{◌≡◌, [], None, IfOk};
 ghost use Rattle.wb_base.specs.Identifiers.{IsName};
-ghost use Rattle.wb_resolved.specs.declared.attribution.AttributionParts.{AttributionParts};
+ghost use Rattle.wb_syntax_resolved.specs.declared.attribution.AttributionParts.{AttributionParts};
 ghost use Rattle.wb_names.specs.Resolving.{empty_host};
 
 use std::alloc::{AllocError, Global};
 use wb_base::{Bytes, Sequence};
-use wb_resolved::{Attribution, AttributionParts, Resolved, ResolvedParts};
+use wb_syntax_resolved::{Attribution, AttributionParts, Resolved, ResolvedParts};
 use wb_values::Signatures;
 
 // Nothing, for a host of this name.

@@ -3,10 +3,10 @@
 //! All rows are made empty, filled and lent, so that nothing is owned where memory runs out; then the value takes their lists.
 
 ghost use Rattle.std.specs.Prelude.{◌≡◌, IfOk, IfSome};
-ghost use Rattle.wb_resolved.specs.Resolved.{IsResolved};
-ghost use Rattle.wb_numbering.specs.Resolves.{Resolves};
-ghost use Rattle.wb_symbols.specs.Empty.{IsEmpty};
-ghost use Rattle.wb_symbols.specs.Lent.{lent_file};
+ghost use Rattle.wb_syntax_resolved.specs.Resolved.{IsResolved};
+ghost use Rattle.wb_names_numbers_theory.specs.Resolves.{Resolves};
+ghost use Rattle.wb_names_symbols.specs.Empty.{IsEmpty};
+ghost use Rattle.wb_names_symbols.specs.Lent.{lent_file};
 ghost use Rattle.wb_names.specs.Inner.Made.{value_with};
 ghost use Rattle.wb_names.specs.Inner.Rest.{IsReady};
 ghost use Rattle.wb_names.specs.Inner.Unwritten.{IsUnwritten};
@@ -16,11 +16,11 @@ use crate::rows::{Written, add_rows, nothing_written};
 use std::alloc::{AllocError, Global};
 use std::mem::replace;
 use wb_base::{Grammar, Sequence};
-use wb_resolved::{Attribution, AttributionParts, Resolved, ResolvedParts};
-use wb_rows::grammar::grammar_of;
-use wb_rows::signatures::signatures_of;
-use wb_symbols::lent::Lent;
-use wb_symbols::symbols::{Counts, Symbols, fill, no_symbols};
+use wb_names_rows::grammar::grammar_of;
+use wb_names_rows::signatures::signatures_of;
+use wb_names_symbols::lent::Lent;
+use wb_names_symbols::symbols::{Counts, Symbols, fill, no_symbols};
+use wb_syntax_resolved::{Attribution, AttributionParts, Resolved, ResolvedParts};
 use wb_values::Signatures;
 
 // The numbered value.

@@ -1,28 +1,28 @@
 //! Builds the row of one production of a base or of a file.
 //!
 //! Its children and its locals give it labels, and then all that the file writes on it is numbered. Which items write on it is in
-//! `wb_symbols`.
+//! `wb_names_symbols`.
 
 ghost use Rattle.std.specs.Prelude.{◌∷◌, [], All, Contains, IfOk, OnOk, option_to_list};
 ghost use Rattle.std.specs.List.{AllZip};
-ghost use Rattle.wb_naming.specs.Declarations.{productions};
-ghost use Rattle.wb_numbering.specs.Files.{equations_on};
-ghost use Rattle.wb_rows.specs.Moves.{IsChildNow, IsForwardNow, NodeIsWithin};
+ghost use Rattle.wb_names_theory.specs.Declarations.{productions};
+ghost use Rattle.wb_names_numbers_theory.specs.Files.{equations_on};
+ghost use Rattle.wb_names_rows.specs.Moves.{IsChildNow, IsForwardNow, NodeIsWithin};
 ghost use Rattle.wb_names.specs.Inner.Bodies.{IsContext, IsExtendedBody, IsMovedHead, IsWritten, KnowsLabels, file_of, labels_with};
 ghost use Rattle.wb_names.specs.Inner.Now.{IsDeclaredNow, IsExtendedNow};
 ghost use Rattle.wb_names.specs.Inner.Rows.{AddsProductions, declares_concrete, has_concrete};
 
 use crate::productions::{Productions, add};
 use std::alloc::{AllocError, Global};
-use wb_resolved::{Child, Forward, Production};
-use wb_rows::body::{Body, add_all, labels_of};
-use wb_rows::child::written_children;
-use wb_rows::moves::{Moves, moved_children, moved_equations, moved_forward, moved_locals};
-use wb_rows::row::Head;
-use wb_rows::scope::{Scope, number_of};
-use wb_symbols::lent::Lent;
-use wb_symbols::names::numbered_role;
-use wb_symbols::writers::Writers;
+use wb_names_rows::body::{Body, add_all, labels_of};
+use wb_names_rows::child::written_children;
+use wb_names_rows::moves::{Moves, moved_children, moved_equations, moved_forward, moved_locals};
+use wb_names_rows::row::Head;
+use wb_names_rows::scope::{Scope, number_of};
+use wb_names_symbols::lent::Lent;
+use wb_names_symbols::names::numbered_role;
+use wb_names_symbols::writers::Writers;
+use wb_syntax_resolved::{Child, Forward, Production};
 
 // A file with what its names stand for, and with the items that write on each production.
 #[derive(Clone, Copy)]

@@ -3,8 +3,8 @@
 //! Concrete ones are kept apart, since they are numbered first. The row of one production is made in `production`.
 
 ghost use Rattle.std.specs.Prelude.{◌≡◌, [], IfOk, OnOk};
-ghost use Rattle.wb_naming.specs.Declarations.{productions};
-ghost use Rattle.wb_rows.specs.Row.{row_of};
+ghost use Rattle.wb_names_theory.specs.Declarations.{productions};
+ghost use Rattle.wb_names_rows.specs.Row.{row_of};
 ghost use Rattle.wb_names.specs.Inner.Bodies.{IsContext, file_of};
 ghost use Rattle.wb_names.specs.Inner.Now.{IsDeclaredNow, IsExtendedNow};
 ghost use Rattle.wb_names.specs.Inner.Productions.{AreProductions};
@@ -12,11 +12,11 @@ ghost use Rattle.wb_names.specs.Inner.Rows.{AddsProductions, AddsRow, declares_c
 
 use crate::production::{Context, add_extended, add_own};
 use std::alloc::{AllocError, Global};
-use wb_resolved::{Production, ProductionRole};
-use wb_rows::body::Body;
-use wb_rows::row::{Head, add_row};
-use wb_symbols::joined::join;
+use wb_names_rows::body::Body;
+use wb_names_rows::row::{Head, add_row};
+use wb_names_symbols::joined::join;
 use wb_syntax::ItemForm;
+use wb_syntax_resolved::{Production, ProductionRole};
 
 // The concrete ones, and the others.
 #[derive(Drop)]

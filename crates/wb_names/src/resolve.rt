@@ -1,11 +1,11 @@
 //! Which numbered value does a specification stand for, or why does it stand for none?
 //!
-//! The first line is tested here, names in `wb_name_rules`; then everything has a number.
+//! The first line is tested here, names in `wb_names_rules`; then everything has a number.
 
 ghost use Rattle.std.specs.Prelude.{◌≡◌, [], IfErr, IfOk};
-ghost use Rattle.wb_naming.specs.Refusals.{IsTrueRefusal};
-ghost use Rattle.wb_numbering.specs.Given.{IsFile};
-ghost use Rattle.wb_symbols.specs.Lent.{lent_file};
+ghost use Rattle.wb_names_theory.specs.Refusals.{IsTrueRefusal};
+ghost use Rattle.wb_names_numbers_theory.specs.Given.{IsFile};
+ghost use Rattle.wb_names_symbols.specs.Lent.{lent_file};
 ghost use Rattle.wb_names.specs.Resolving.{IsExtensionNameRefusal, IsHostNameRefusal, ResolvesExtension, ResolvesHost, file_scope};
 ghost use Rattle.wb_names.specs.Inner.Rest.{BeginsAlone};
 ghost use Rattle.wb_names.specs.Inner.Value.{IsValueOf};
@@ -16,11 +16,11 @@ use crate::numbered::numbered;
 use std::alloc::Global;
 use std::slice::from_ref;
 use wb_base::Bytes;
-use wb_name_rules::check_names;
-use wb_naming::NameRefusal;
-use wb_resolved::Resolved;
-use wb_symbols::lent::Lent;
+use wb_names_rules::check_names;
+use wb_names_symbols::lent::Lent;
+use wb_names_theory::NameRefusal;
 use wb_syntax::{Header, Spec};
+use wb_syntax_resolved::Resolved;
 
 /// The numbered value of a host, or the first name rule that fails.
 ///

@@ -4,27 +4,27 @@
 
 ghost use Rattle.std.specs.Prelude.{◌≤◌, ◌<◌, All, Contains, OnOk, length, option_to_list};
 ghost use Rattle.std.specs.List.{AllZip};
-ghost use Rattle.wb_resolved.specs.Resolved.{IsResolved};
-ghost use Rattle.wb_naming.specs.Declarations.{extensibles, starts};
-ghost use Rattle.wb_numbering.specs.Resolves.{starts_of};
-ghost use Rattle.wb_numbering.specs.Sources.{sources};
-ghost use Rattle.wb_rows.specs.GrammarNames.{form_extensibles, form_starts};
-ghost use Rattle.wb_rows.specs.Moves.{IsNow};
-ghost use Rattle.wb_rows.specs.Nodes.{IsAt};
-ghost use Rattle.wb_rows.specs.Plains.{AddsEach};
-ghost use Rattle.wb_symbols.specs.Lent.{lent_file};
-ghost use Rattle.wb_symbols.specs.Symbols.{AreNumbers};
+ghost use Rattle.wb_syntax_resolved.specs.Resolved.{IsResolved};
+ghost use Rattle.wb_names_theory.specs.Declarations.{extensibles, starts};
+ghost use Rattle.wb_names_numbers_theory.specs.Resolves.{starts_of};
+ghost use Rattle.wb_names_numbers_theory.specs.Sources.{sources};
+ghost use Rattle.wb_names_rows.specs.GrammarNames.{form_extensibles, form_starts};
+ghost use Rattle.wb_names_rows.specs.Moves.{IsNow};
+ghost use Rattle.wb_names_rows.specs.Nodes.{IsAt};
+ghost use Rattle.wb_names_rows.specs.Plains.{AddsEach};
+ghost use Rattle.wb_names_symbols.specs.Lent.{lent_file};
+ghost use Rattle.wb_names_symbols.specs.Symbols.{AreNumbers};
 ghost use Rattle.wb_names.specs.Inner.Rest.{AddsBase, AreRest, HasTables, IsBare, IsNumberNow, IsReady};
 
 use std::alloc::{AllocError, Global};
 use wb_base::push;
-use wb_resolved::ResolvedParts;
-use wb_rows::base::{add_attributes, add_occurrences, add_preferences};
-use wb_rows::moves::Moves;
-use wb_rows::plains::{Plains, add_plains};
-use wb_rows::scope::{Scope, number_of};
-use wb_symbols::lent::Lent;
+use wb_names_rows::base::{add_attributes, add_occurrences, add_preferences};
+use wb_names_rows::moves::Moves;
+use wb_names_rows::plains::{Plains, add_plains};
+use wb_names_rows::scope::{Scope, number_of};
+use wb_names_symbols::lent::Lent;
 use wb_syntax::{Item, ItemForm, Pattern, PlainForm};
+use wb_syntax_resolved::ResolvedParts;
 
 // Rows of attributes, occurrences and preferences, numbers of extensible nonterminals, and that of the start.
 #[derive(Drop)]

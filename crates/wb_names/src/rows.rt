@@ -4,8 +4,8 @@
 //! lent, so that nothing is owned where memory runs out.
 
 ghost use Rattle.std.specs.Prelude.{OnOk};
-ghost use Rattle.wb_symbols.specs.Lent.{lent_file};
-ghost use Rattle.wb_symbols.specs.Symbols.{AreNumbers};
+ghost use Rattle.wb_names_symbols.specs.Lent.{lent_file};
+ghost use Rattle.wb_names_symbols.specs.Symbols.{AreNumbers};
 ghost use Rattle.wb_names.specs.Inner.Rest.{IsReady};
 ghost use Rattle.wb_names.specs.Inner.Unwritten.{IsUnwritten};
 ghost use Rattle.wb_names.specs.Inner.Value.{AreWritten};
@@ -15,10 +15,10 @@ use crate::productions::{Productions, add_productions};
 use crate::rest::{Rest, add_rest};
 use std::alloc::{AllocError, Global};
 use wb_base::{Grammar, Names};
-use wb_rows::plains::Plains;
-use wb_symbols::lent::Lent;
-use wb_symbols::symbols::Symbols;
-use wb_symbols::writers::{Writers, add_items};
+use wb_names_rows::plains::Plains;
+use wb_names_symbols::lent::Lent;
+use wb_names_symbols::symbols::Symbols;
+use wb_names_symbols::writers::{Writers, add_items};
 use wb_values::Signatures;
 
 // Which items write on productions; productions, of which so many are concrete, their grammar and signatures; and what else is written.

@@ -3,26 +3,26 @@ use Rattle.std.proofs.Common.{◌≡◌, ◌<◌, ℕ, List, [], ◌∷◌, ◌+
 use Rattle.std.specs.Prelude.{All}
 use Rattle.wb_base.specs.declared.symbol.Symbol.{Symbol}
 use Rattle.wb_base.specs.declared.symbol.Symbol.TheVariants.{Terminal, Nonterminal}
-use Rattle.wb_grammars.specs.Productions.{end_of}
-use Rattle.wb_grammars.specs.Trees.{Forest, nothing, leaf, node, symbols}
-use Rattle.wb_grammars.specs.Lookaheads.{CanShift}
+use Rattle.wb_grammar_theory.specs.Productions.{end_of}
+use Rattle.wb_grammar_theory.specs.Trees.{Forest, nothing, leaf, node, symbols}
+use Rattle.wb_grammar_theory.specs.Lookaheads.{CanShift}
 use Rattle.wb_values.specs.Tree.{Tree, Values, empty, more, plain, text, tree}
 use Rattle.wb_values.specs.Tree as values
 use Rattle.wb_values.specs.ValuesIn.{tree_in, values_in, IsIn}
 use Rattle.wb_values.specs.declared.value.TreeId.{TreeId}
 use Rattle.wb_values.specs.declared.value.Value.{Value}
 use Rattle.wb_values.specs.declared.value.Value.TheVariants as stored
-use Rattle.wb_languages.specs.declared.stop_kind.StopKind.TheVariants.{Unexpected, NoToken}
-use Rattle.wb_languages.specs.Tokens.{Next, NextToken, token, over, missing}
-use Rattle.wb_languages.specs.Texts.{StopsAt}
-use Rattle.wb_languages.specs.Facts.{IsLanguage}
-use Rattle.wb_languages.specs.Shown.{values_of}
-use Rattle.wb_languages.specs.Parts.{AreTablesOf, IsPrefixOf}
-use Rattle.wb_languages.specs.Machine.{joined, Keeps}
-use Rattle.wb_languages.proofs.ForestLemmas.{symbols_joined}
-use Rattle.wb_languages.proofs.StepLemmas.{first_keeps, shift_keeps, accept_gives, nothing_stops}
-use Rattle.wb_languages.proofs.FactLemmas.{parsable}
-use Rattle.wb_languages.proofs.TokenLemmas.{taken}
+use Rattle.wb_scan_theory.specs.declared.stop_kind.StopKind.TheVariants.{Unexpected, NoToken}
+use Rattle.wb_scan_theory.specs.Tokens.{Next, NextToken, token, over, missing}
+use Rattle.wb_scan_theory.specs.Texts.{StopsAt}
+use Rattle.wb_scan_theory.specs.Facts.{IsLanguage}
+use Rattle.wb_scan_theory.specs.Shown.{values_of}
+use Rattle.wb_scan_theory.specs.Parts.{AreTablesOf, IsPrefixOf}
+use Rattle.wb_scan_theory.specs.Machine.{joined, Keeps}
+use Rattle.wb_scan_theory.proofs.ForestLemmas.{symbols_joined}
+use Rattle.wb_scan_theory.proofs.StepLemmas.{first_keeps, shift_keeps, accept_gives, nothing_stops}
+use Rattle.wb_scan_theory.proofs.FactLemmas.{parsable}
+use Rattle.wb_scan_theory.proofs.TokenLemmas.{taken}
 use Rattle.wb_scan.specs.Views.{LanguageParts}
 use Rattle.wb_parser.specs.declared.step.Outcome.{Outcome}
 use Rattle.wb_parser.specs.declared.step.Outcome.TheVariants.{Shifts, Accepts, Stops}

@@ -4,7 +4,7 @@ use Rattle.std.specs.Prelude.{slice_index_or}
 use Rattle.std.proofs.lemmas.Option.{slice_get-get_or}
 use Rattle.wb_base.specs.Grammar.{GrammarView}
 use Rattle.wb_lookahead.specs.Contents.{TablesView}
-use Rattle.wb_languages.specs.Parts.{AreTablesOf}
+use Rattle.wb_scan_theory.specs.Parts.{AreTablesOf}
 use Rattle.wb_parser.specs.declared.rules.Rule.{Rule}
 use Rattle.wb_parser.specs.Inner.Rules.{AreRules, IsRule}
 use Rattle.wb_parser.proofs.StateLemmas.{nonterminals_of}

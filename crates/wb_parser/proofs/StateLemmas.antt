@@ -6,23 +6,23 @@ use Rattle.std.proofs.lemmas.List.Elements.{All-head, All-tail, All-take, All-pu
 use Rattle.wb_base.specs.declared.symbol.Symbol.{Symbol}
 use Rattle.wb_base.specs.declared.symbol.Symbol.TheVariants.{Terminal, Nonterminal}
 use Rattle.wb_base.specs.Grammar.{GrammarView}
-use Rattle.wb_grammars.specs.Productions.{top_of, end_of}
-use Rattle.wb_grammars.specs.Trees.{Forest, nothing, leaf, node, symbols}
-use Rattle.wb_grammars.specs.Items.{IsViablePrefix, SameKernel, start, move, advance, start_item}
-use Rattle.wb_grammars.specs.Lookaheads.{CanShift, CanReduce}
-use Rattle.wb_grammars.proofs.KernelLemmas.{same_move, kernel_decides}
-use Rattle.wb_grammars.proofs.FlowLemmas.{same_then, same_back, same_itself}
-use Rattle.wb_grammars.proofs.ValidLemmas.{same_valid}
+use Rattle.wb_grammar_theory.specs.Productions.{top_of, end_of}
+use Rattle.wb_grammar_theory.specs.Trees.{Forest, nothing, leaf, node, symbols}
+use Rattle.wb_grammar_theory.specs.Items.{IsViablePrefix, SameKernel, start, move, advance, start_item}
+use Rattle.wb_grammar_theory.specs.Lookaheads.{CanShift, CanReduce}
+use Rattle.wb_grammar_theory.proofs.KernelLemmas.{same_move, kernel_decides}
+use Rattle.wb_grammar_theory.proofs.FlowLemmas.{same_then, same_back, same_itself}
+use Rattle.wb_grammar_theory.proofs.ValidLemmas.{same_valid}
 use Rattle.wb_items.specs.Kernels.{KernelsView, AreKernels, LeadsTo, count_of, prefix_of}
 use Rattle.wb_lookahead.specs.declared.action.Action.{Action}
 use Rattle.wb_lookahead.specs.declared.action.Action.TheVariants as act
 use Rattle.wb_lookahead.specs.declared.action.Action.TheVariants.{Shift, Reduce, Accept}
 use Rattle.wb_lookahead.specs.Contents.{TablesView, size_of, action_of, goto_of}
 use Rattle.wb_lookahead.specs.Tables.{AreTables, IsAction}
-use Rattle.wb_languages.specs.Parts.{AreTablesOf, IsPrefixOf}
-use Rattle.wb_languages.specs.Machine.{joined}
-use Rattle.wb_languages.proofs.ForestLemmas.{append_nil}
-use Rattle.wb_languages.proofs.FactLemmas.{shift_at, reduce_at}
+use Rattle.wb_scan_theory.specs.Parts.{AreTablesOf, IsPrefixOf}
+use Rattle.wb_scan_theory.specs.Machine.{joined}
+use Rattle.wb_scan_theory.proofs.ForestLemmas.{append_nil}
+use Rattle.wb_scan_theory.proofs.FactLemmas.{shift_at, reduce_at}
 use Rattle.wb_parser.specs.Inner.Stacks.{AreStates, IsMoved, last_or}
 
 -- an action of the tables, at a prefix of its state

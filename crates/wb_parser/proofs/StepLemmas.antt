@@ -6,11 +6,11 @@ use Rattle.wb_lemmas.proofs.Parts.{take_append, drop_append}
 use Rattle.wb_lemmas.proofs.Elements.{all_left}
 use Rattle.wb_base.specs.declared.symbol.Symbol.{Symbol}
 use Rattle.wb_base.specs.declared.symbol.Symbol.TheVariants.{Nonterminal}
-use Rattle.wb_grammars.specs.Productions.{end_of, top_of}
-use Rattle.wb_grammars.specs.Trees.{Forest, nothing, node, symbols}
-use Rattle.wb_grammars.specs.Items.{IsViablePrefix}
-use Rattle.wb_grammars.specs.Lookaheads.{CanReduce}
-use Rattle.wb_grammars.proofs.ProductionLemmas.{production_once, production_below}
+use Rattle.wb_grammar_theory.specs.Productions.{end_of, top_of}
+use Rattle.wb_grammar_theory.specs.Trees.{Forest, nothing, node, symbols}
+use Rattle.wb_grammar_theory.specs.Items.{IsViablePrefix}
+use Rattle.wb_grammar_theory.specs.Lookaheads.{CanReduce}
+use Rattle.wb_grammar_theory.proofs.ProductionLemmas.{production_once, production_below}
 use Rattle.wb_lookahead.specs.declared.action.Action.{Action}
 use Rattle.wb_lookahead.specs.declared.action.Action.TheVariants as act
 use Rattle.wb_lookahead.specs.declared.action.Action.TheVariants.{Shift, Reduce, Accept}
@@ -22,20 +22,20 @@ use Rattle.wb_values.specs.declared.value.Value.{Value}
 use Rattle.wb_values.specs.declared.value.Value.TheVariants as stored
 use Rattle.wb_values.proofs.CallerLemmas.{tree_in_push}
 use Rattle.wb_values.proofs.Grown.{values-stable}
-use Rattle.wb_languages.specs.declared.stop_kind.StopKind.TheVariants.{Unexpected}
-use Rattle.wb_languages.specs.Tokens.{Next, NextToken}
-use Rattle.wb_languages.specs.Readings.{Gives}
-use Rattle.wb_languages.specs.Texts.{StopsAt}
-use Rattle.wb_languages.specs.Facts.{IsLanguage}
-use Rattle.wb_languages.specs.Shown.{values_of}
-use Rattle.wb_languages.specs.Parts.{AreTablesOf, IsPrefixOf}
-use Rattle.wb_languages.specs.Machine.{joined}
-use Rattle.wb_languages.proofs.ForestLemmas.{symbols_joined}
-use Rattle.wb_languages.proofs.AgreeLemmas.{not_top}
-use Rattle.wb_languages.proofs.BackLemmas.{Reduced, reduction_finds}
-use Rattle.wb_languages.proofs.StepLemmas.{reduce_keeps, no_action_stops}
-use Rattle.wb_languages.proofs.FactLemmas.{parsable}
-use Rattle.wb_languages.proofs.TextLemmas.{is_one}
+use Rattle.wb_scan_theory.specs.declared.stop_kind.StopKind.TheVariants.{Unexpected}
+use Rattle.wb_scan_theory.specs.Tokens.{Next, NextToken}
+use Rattle.wb_scan_theory.specs.Readings.{Gives}
+use Rattle.wb_scan_theory.specs.Texts.{StopsAt}
+use Rattle.wb_scan_theory.specs.Facts.{IsLanguage}
+use Rattle.wb_scan_theory.specs.Shown.{values_of}
+use Rattle.wb_scan_theory.specs.Parts.{AreTablesOf, IsPrefixOf}
+use Rattle.wb_scan_theory.specs.Machine.{joined}
+use Rattle.wb_scan_theory.proofs.ForestLemmas.{symbols_joined}
+use Rattle.wb_scan_theory.proofs.AgreeLemmas.{not_top}
+use Rattle.wb_scan_theory.proofs.BackLemmas.{Reduced, reduction_finds}
+use Rattle.wb_scan_theory.proofs.StepLemmas.{reduce_keeps, no_action_stops}
+use Rattle.wb_scan_theory.proofs.FactLemmas.{parsable}
+use Rattle.wb_scan_theory.proofs.TextLemmas.{is_one}
 use Rattle.wb_scan.specs.Views.{LanguageParts}
 use Rattle.wb_parser.specs.Inner.Stacks.{AreStates, IsReduction, last_or}
 use Rattle.wb_parser.specs.Inner.Steps.{IsSound, IsAt, CanGo, IsWhole}

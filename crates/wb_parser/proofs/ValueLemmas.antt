@@ -1,12 +1,12 @@
 -- Values on a stack, and the trees that they stand for.
 use Rattle.std.proofs.Common.{◌≡◌, suc, List, [], ◌∷◌, ◌++◌, length, refl, ap}
-use Rattle.wb_grammars.specs.Trees.{Forest, nothing, leaf, node, symbols}
+use Rattle.wb_grammar_theory.specs.Trees.{Forest, nothing, leaf, node, symbols}
 use Rattle.wb_values.specs.Tree.{Tree, Value, Values, empty, more, plain, text, tree}
 use Rattle.wb_values.specs.Tree as values
 use Rattle.wb_values.specs.ValuesIn.{value_in, values_in}
 use Rattle.wb_values.specs.declared.value.Value.{Value as Stored}
-use Rattle.wb_languages.specs.Shown.{values_of}
-use Rattle.wb_languages.specs.Machine.{joined}
+use Rattle.wb_scan_theory.specs.Shown.{values_of}
+use Rattle.wb_scan_theory.specs.Machine.{joined}
 
 -- these values, and then those
 abbrev pub appended : Values → Values → Values

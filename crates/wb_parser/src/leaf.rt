@@ -4,7 +4,7 @@ ghost use Rattle.std.specs.Prelude.{◌≡◌, ◌<◌, ◌≤◌, ◌++◌, ◌
 ghost use Rattle.wb_base.specs.declared.symbol.Symbol.{Symbol};
 ghost use Rattle.wb_values.specs.declared.value.TreeId.{TreeId};
 ghost use Rattle.wb_values.specs.declared.value.Value.TheVariants.{Text, Tree as Stored};
-ghost use Rattle.wb_languages.specs.Tokens.{NextToken, over};
+ghost use Rattle.wb_scan_theory.specs.Tokens.{NextToken, over};
 ghost use Rattle.wb_parser.specs.declared.parsed.Parsed.TheVariants.{Tree};
 ghost use Rattle.wb_parser.specs.Parses.{Extends, IsParsed};
 ghost use Rattle.wb_parser.specs.Inner.Rules.{AreRules};
@@ -15,8 +15,8 @@ use crate::rules::Rule;
 use crate::stack::{Stack, top};
 use crate::step::{Outcome, reduce_all};
 use std::alloc::AllocError;
-use wb_languages::StopKind;
 use wb_scan::{Language, Scanned, scan};
+use wb_scan_theory::StopKind;
 use wb_values::{PackedValues, TreeStore};
 
 // What became of one leaf.

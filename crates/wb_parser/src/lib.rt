@@ -1,7 +1,7 @@
 //! An LR parser: the one tree or the one stop of a text, by the tables of a language.
 //!
 //! A text has exactly one of the two. The scanner is asked once for each leaf, at the state right after the shift before it; reductions
-//! come after that and change neither place nor kind of a stop. What a tree and a stop are lies in `wb_languages`.
+//! come after that and change neither place nor kind of a stop. What a tree and a stop are lies in `wb_scan_theory`.
 #![tactic(auto)]
 
 mod leaf;
@@ -14,4 +14,4 @@ mod step;
 
 pub use parsed::Parsed;
 pub use parser::parse;
-pub use wb_languages::StopKind;
+pub use wb_scan_theory::StopKind;

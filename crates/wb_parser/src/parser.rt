@@ -72,8 +72,8 @@ fn read_all(
     }
 }
 
-// Makes room for what a whole text needs, once a part of it is read, by what this part took: memory that grows step by step is moved at each
-// step. Answers how much is to be read before it is done again, which is all of the text.
+// Makes room for what a whole text needs, once a part of it is read, by what this part took: memory that grows step by step is moved at
+// each step. Answers how much is to be read before it is done again, which is all of the text.
 fn make_room(store: &mut TreeStore, before: usize, size: usize, at: usize, part: usize) -> usize
     requires { before ≤ length store.old }
     ensures { store.new ≡ store.old }

@@ -4,7 +4,7 @@ ghost use Rattle.std.specs.Prelude.{◌≡◌, ◌<◌, ◌≤◌, ◌+◌, ◌^
 ghost use Rattle.wb_base.specs.Grammar.{GrammarView};
 ghost use Rattle.wb_values.specs.ValuesIn.{IsIn};
 ghost use Rattle.wb_lookahead.specs.Contents.{size_of, goto_of};
-ghost use Rattle.wb_languages.specs.Parts.{AreTablesOf};
+ghost use Rattle.wb_scan_theory.specs.Parts.{AreTablesOf};
 ghost use Rattle.wb_parser.specs.Parses.{Extends};
 ghost use Rattle.wb_parser.specs.Inner.Rules.{AreRules};
 ghost use Rattle.wb_parser.specs.Inner.Stacks.{IsReduction, IsMoved, last_or};

@@ -1,15 +1,15 @@
 -- What a command is answered is the report of the words that ask for it.
 use Rattle.std.proofs.Common.{◌≡◌, inl, inr, ℕ, List, Option}
-use Rattle.wb_inputs.specs.declared.answer.Answer.{Answer}
-use Rattle.wb_inputs.specs.declared.status.Status.{Status}
-use Rattle.wb_inputs.specs.declared.status.Status.TheVariants.{Usage, WriteFault}
-use Rattle.wb_inputs.proofs.WrittenWhole.{differs}
+use Rattle.wb_program_inputs.specs.declared.answer.Answer.{Answer}
+use Rattle.wb_program_inputs.specs.declared.status.Status.{Status}
+use Rattle.wb_program_inputs.specs.declared.status.Status.TheVariants.{Usage, WriteFault}
+use Rattle.wb_program_inputs.proofs.WrittenWhole.{differs}
 use Rattle.wb_operations.specs.Operations.{Operations}
 use Rattle.wb_report.specs.Lines.{report_of}
 use Rattle.wb_report.specs.declared.outcome.Outcome.TheVariants as o
-use Rattle.wb_words.specs.Asked.{Asked}
-use Rattle.wb_words.specs.Words.{Asks, Given, Says, Verb, says_value, says_show, says_check, says_certify, says_compose, says_tree}
-use Rattle.wb_words.specs.Words.{says_run, says_generate}
+use Rattle.wb_program_words.specs.Asked.{Asked}
+use Rattle.wb_program_words.specs.Words.{Asks, Given, Says, Verb, says_value, says_show, says_check, says_certify, says_compose, says_tree}
+use Rattle.wb_program_words.specs.Words.{says_run, says_generate}
 use Rattle.wb_world.specs.Shelf.{Files}
 use Rattle.wb_program.specs.Inner.Answered.{HasFewLeaves, Replies}
 use Rattle.wb_program.specs.Report.{InCommandSet, IsReportOf}

@@ -1,13 +1,13 @@
 -- What is made for a command is made for what it asks.
 use Rattle.std.proofs.Common.{◌≡◌, Result, List, ℕ, subst, sym}
 use Rattle.wb_operations.specs.Operations.{Operations}
-use Rattle.wb_words.specs.Commands.{asked_by}
-use Rattle.wb_words.specs.declared.command.Command.{Command}
-use Rattle.wb_inputs.specs.Makes.{Answers, Makes}
-use Rattle.wb_inputs.specs.Stopped.{Outside, Stopped}
-use Rattle.wb_inputs.specs.declared.answer.Answer.{Answer}
-use Rattle.wb_inputs.specs.declared.reading.ReadFailure.{ReadFailure}
-use Rattle.wb_inputs.proofs.CauseLemmas.{on_err, on_ok, weaker_stop}
+use Rattle.wb_program_words.specs.Commands.{asked_by}
+use Rattle.wb_program_words.specs.declared.command.Command.{Command}
+use Rattle.wb_program_inputs.specs.Makes.{Answers, Makes}
+use Rattle.wb_program_inputs.specs.Stopped.{Outside, Stopped}
+use Rattle.wb_program_inputs.specs.declared.answer.Answer.{Answer}
+use Rattle.wb_program_inputs.specs.declared.reading.ReadFailure.{ReadFailure}
+use Rattle.wb_program_inputs.proofs.CauseLemmas.{on_err, on_ok, weaker_stop}
 use Rattle.wb_program.specs.Reads.{ReadsTo}
 use Rattle.wb_program.specs.Report.{IsReportOf}
 

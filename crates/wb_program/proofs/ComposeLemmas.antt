@@ -1,10 +1,10 @@
 -- The report of `tree` with extensions, and the files that it reads.
 use Rattle.std.proofs.Common.{◌≢◌, inr, ℕ, List, [], ◌∷◌, Option, refl}
 use Rattle.wb_operations.specs.Operations.{OperationSignature, Operations}
-use Rattle.wb_words.specs.Asked as a
+use Rattle.wb_program_words.specs.Asked as a
 use Rattle.wb_world.specs.Shelf.{Files}
-use Rattle.wb_inputs.specs.Reads.{StopsComposed}
-use Rattle.wb_inputs.specs.declared.status.Status.{Status}
+use Rattle.wb_program_inputs.specs.Reads.{StopsComposed}
+use Rattle.wb_program_inputs.specs.declared.status.Status.{Status}
 use Rattle.wb_program.specs.ComposeReport.{UnitedTreeReport}
 use Rattle.wb_program.specs.Reads.{ReadsTo}
 use Rattle.wb_program.specs.Report.{IsReportOf, united_tree_report}

@@ -2,11 +2,11 @@
 use Rattle.std.proofs.Common.{String, Global, string_bytes}
 use Rattle.std.proofs.Common.{◌≡◌, ◌<◌, ◌≤◌, ◌+◌, ◌++◌, inl, inr, ℕ, List, [], ◌∷◌, Option, length, map, drop, subst, sym, refl}
 use Rattle.std.proofs.lemmas.List.{length-map}
-use Rattle.wb_hosts.specs.ExtensionContents.{IsExtensionText, IsExtensionRefusal}
-use Rattle.wb_hosts.specs.declared.extension_refusal.FileRefusal.{FileRefusal}
-use Rattle.wb_hosts.specs.declared.extension_refusal.FileRefusal.TheVariants as f
-use Rattle.wb_hosts.specs.HostContents.{IsHostText, IsHostRefusal}
-use Rattle.wb_beside.specs.Extensions.{IsOneExtension}
+use Rattle.wb_certify_files.specs.ExtensionContents.{IsExtensionText, IsExtensionRefusal}
+use Rattle.wb_certify_files.specs.declared.extension_refusal.FileRefusal.{FileRefusal}
+use Rattle.wb_certify_files.specs.declared.extension_refusal.FileRefusal.TheVariants as f
+use Rattle.wb_certify_files.specs.HostContents.{IsHostText, IsHostRefusal}
+use Rattle.wb_certify.specs.Extensions.{IsOneExtension}
 use Rattle.wb_operations.specs.Operations.{OperationSignature}
 use Rattle.wb_reader.specs.declared.refusal.SpecRefusal.TheVariants as s
 use Rattle.wb_report.specs.Lines.{report_of}
@@ -14,20 +14,20 @@ use Rattle.wb_report.specs.declared.done.Done.TheVariants as done
 use Rattle.wb_report.specs.declared.outcome.Outcome.TheVariants as o
 use Rattle.wb_report.specs.declared.refusal.Refusal.TheVariants as r
 use Rattle.wb_report.specs.declared.spec_reason.SpecReason.TheVariants as t
-use Rattle.wb_resolved.specs.declared.resolved.ResolvedParts.{ResolvedParts}
+use Rattle.wb_syntax_resolved.specs.declared.resolved.ResolvedParts.{ResolvedParts}
 use Rattle.wb_world.specs.Shelf.{Files}
-use Rattle.wb_words.specs.Words.{texts}
-use Rattle.wb_inputs.specs.Reads.{Read, file_of, certified_extension, Passes, StopsAt}
-use Rattle.wb_inputs.specs.Files.{KnownFile}
-use Rattle.wb_inputs.specs.ExtensionChecks.{RefusedExtension}
-use Rattle.wb_inputs.specs.HostChecks.{IsHostFile, RefusesHost}
-use Rattle.wb_inputs.specs.Stopped.{Outside, Stopped}
-use Rattle.wb_inputs.specs.declared.reading.ReadFailure.{ReadFailure}
-use Rattle.wb_inputs.specs.declared.reading.ReadFailure.TheVariants.{Absent, ReadFault, NoMemory}
-use Rattle.wb_inputs.specs.declared.status.Status.{Status}
-use Rattle.wb_inputs.specs.declared.status.Status.TheVariants.{Done, TooManyExtensions}
-use Rattle.wb_inputs.proofs.CauseLemmas.{stops_first}
-use Rattle.wb_inputs.proofs.HostLemmas.{refused_checks}
+use Rattle.wb_program_words.specs.Words.{texts}
+use Rattle.wb_program_inputs.specs.Reads.{Read, file_of, certified_extension, Passes, StopsAt}
+use Rattle.wb_program_inputs.specs.Files.{KnownFile}
+use Rattle.wb_program_inputs.specs.ExtensionChecks.{RefusedExtension}
+use Rattle.wb_program_inputs.specs.HostChecks.{IsHostFile, RefusesHost}
+use Rattle.wb_program_inputs.specs.Stopped.{Outside, Stopped}
+use Rattle.wb_program_inputs.specs.declared.reading.ReadFailure.{ReadFailure}
+use Rattle.wb_program_inputs.specs.declared.reading.ReadFailure.TheVariants.{Absent, ReadFault, NoMemory}
+use Rattle.wb_program_inputs.specs.declared.status.Status.{Status}
+use Rattle.wb_program_inputs.specs.declared.status.Status.TheVariants.{Done, TooManyExtensions}
+use Rattle.wb_program_inputs.proofs.CauseLemmas.{stops_first}
+use Rattle.wb_program_inputs.proofs.HostLemmas.{refused_checks}
 use Rattle.wb_program.specs.CertifyReport.{CertifyReport, ExtensionsReport, IsExtensionNamed}
 use Rattle.wb_program.specs.Inner.Extensions.{EndsAtExtension, LeadsTo, StopsFrom, CertifyStops}
 

@@ -1,26 +1,26 @@
 -- What is made of the file of a host, and of a text or term of it, is their report.
 use Rattle.std.proofs.Common.{◌≡◌, inl, inr, ℕ, List, [], Option, Some}
 use Rattle.wb_base.specs.Grammar.{GrammarView}
-use Rattle.wb_hosts.specs.HostContents.{IsHostText, IsHostRefusal}
-use Rattle.wb_hosts.specs.WellDefined.{IsWellDefinedText, IsWellDefinedTextRefusal}
+use Rattle.wb_certify_files.specs.HostContents.{IsHostText, IsHostRefusal}
+use Rattle.wb_certify_files.specs.WellDefined.{IsWellDefinedText, IsWellDefinedTextRefusal}
 use Rattle.wb_operations.specs.Operations.{OperationSignature, Operations}
 use Rattle.wb_report.specs.Lines.{report_of}
 use Rattle.wb_report.specs.declared.done.Done.TheVariants as done
 use Rattle.wb_report.specs.declared.outcome.Outcome.TheVariants as o
-use Rattle.wb_resolved.specs.declared.resolved.ResolvedParts.{ResolvedParts}
-use Rattle.wb_trees.specs.Answers.{IsTextAnswer}
-use Rattle.wb_trees.specs.declared.answer.TextAnswer.{TextAnswer}
-use Rattle.wb_trees.specs.declared.answer.TextAnswer.TheVariants as a
+use Rattle.wb_syntax_resolved.specs.declared.resolved.ResolvedParts.{ResolvedParts}
+use Rattle.wb_compose_trees.specs.Answers.{IsTextAnswer}
+use Rattle.wb_compose_trees.specs.declared.answer.TextAnswer.{TextAnswer}
+use Rattle.wb_compose_trees.specs.declared.answer.TextAnswer.TheVariants as a
 use Rattle.wb_world.specs.Shelf.{Files}
-use Rattle.wb_inputs.specs.Checks.{Ends, Check}
-use Rattle.wb_inputs.specs.Texts.{IsText, IsTooLongText}
-use Rattle.wb_inputs.specs.HostChecks.{IsHostFile, IsWellDefinedFile, RefusesHost}
-use Rattle.wb_inputs.specs.declared.status.Status.{Status}
-use Rattle.wb_inputs.specs.declared.status.Status.TheVariants.{Done, TextTooLong}
+use Rattle.wb_program_inputs.specs.Checks.{Ends, Check}
+use Rattle.wb_program_inputs.specs.Texts.{IsText, IsTooLongText}
+use Rattle.wb_program_inputs.specs.HostChecks.{IsHostFile, IsWellDefinedFile, RefusesHost}
+use Rattle.wb_program_inputs.specs.declared.status.Status.{Status}
+use Rattle.wb_program_inputs.specs.declared.status.Status.TheVariants.{Done, TextTooLong}
 use Rattle.wb_program.specs.CheckReport.{CheckReport}
 use Rattle.wb_program.specs.TreeReport.{ShownText, TextReport, TreeReport}
 use Rattle.wb_program.specs.ValueReport.{TermReport, ValueReport}
-use Rattle.wb_inputs.proofs.HostLemmas.{refused_checks}
+use Rattle.wb_program_inputs.proofs.HostLemmas.{refused_checks}
 
 -- the answer of a text is its report
 pub text_report : (r : ResolvedParts) (g : GrammarView) (text : List ℕ) (answer : TextAnswer) (status : Status) (bytes : List ℕ)

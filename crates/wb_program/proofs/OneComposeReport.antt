@@ -1,27 +1,27 @@
 -- Two reports of `compose`, and of `tree` with extensions, have one status, and one text where nothing is refused.
 use Rattle.std.proofs.Common.{◌≡◌, ℕ, List, Some, length, ap, sym, ◌∙◌, subst}
 use Rattle.wb_base.specs.Different.{Differ}
-use Rattle.wb_united_texts.specs.Generated.{HasOneText}
+use Rattle.wb_compose_texts.specs.Generated.{HasOneText}
 use Rattle.wb_operations.specs.Operations.{Operations, OperationSignature}
 use Rattle.wb_report.specs.Lines.{report_of}
 use Rattle.wb_report.specs.declared.done.Done.TheVariants as done
 use Rattle.wb_report.specs.declared.outcome.Outcome.TheVariants as o
-use Rattle.wb_resolved.specs.declared.resolved.ResolvedParts.{ResolvedParts}
-use Rattle.wb_trees.specs.declared.answer.TextAnswer.{TextAnswer}
-use Rattle.wb_united_texts.specs.Answers.{HasSameAnswer}
-use Rattle.wb_united_texts.specs.Withdrawn.{HasOneWithdrawn}
-use Rattle.wb_united_texts.specs.Roots.{HasOneRootAttribute}
-use Rattle.wb_united_texts.specs.Values.{HasOneTextValue}
+use Rattle.wb_syntax_resolved.specs.declared.resolved.ResolvedParts.{ResolvedParts}
+use Rattle.wb_compose_trees.specs.declared.answer.TextAnswer.{TextAnswer}
+use Rattle.wb_compose_texts.specs.Answers.{HasSameAnswer}
+use Rattle.wb_compose_texts.specs.Withdrawn.{HasOneWithdrawn}
+use Rattle.wb_compose_texts.specs.Roots.{HasOneRootAttribute}
+use Rattle.wb_compose_texts.specs.Values.{HasOneTextValue}
 use Rattle.wb_world.specs.Shelf.{Files}
-use Rattle.wb_inputs.specs.Checks.{Ends, Check}
-use Rattle.wb_inputs.specs.SeveralChecks.{names_of}
-use Rattle.wb_inputs.specs.Texts.{IsText, IsTooLongText}
-use Rattle.wb_inputs.specs.declared.status.Status.{Status}
-use Rattle.wb_inputs.specs.declared.status.Status.TheVariants.{Done, TextTooLong}
-use Rattle.wb_inputs.proofs.OneCheck.{AreOne}
-use Rattle.wb_inputs.proofs.Excludes.{ExcludesExtensions, ExcludesHeaders}
-use Rattle.wb_inputs.proofs.OneHostReport.{AreAlike, are_alike, one_short_report}
-use Rattle.wb_inputs.proofs.OneSeveralReport.{one_several_report}
+use Rattle.wb_program_inputs.specs.Checks.{Ends, Check}
+use Rattle.wb_program_inputs.specs.SeveralChecks.{names_of}
+use Rattle.wb_program_inputs.specs.Texts.{IsText, IsTooLongText}
+use Rattle.wb_program_inputs.specs.declared.status.Status.{Status}
+use Rattle.wb_program_inputs.specs.declared.status.Status.TheVariants.{Done, TextTooLong}
+use Rattle.wb_program_inputs.proofs.OneCheck.{AreOne}
+use Rattle.wb_program_inputs.proofs.Excludes.{ExcludesExtensions, ExcludesHeaders}
+use Rattle.wb_program_inputs.proofs.OneHostReport.{AreAlike, are_alike, one_short_report}
+use Rattle.wb_program_inputs.proofs.OneSeveralReport.{one_several_report}
 use Rattle.wb_program.specs.ComposeReport.{ComposeReport, ComposedLines, UnitedReport, UnitedTreeReport}
 use Rattle.wb_program.specs.TreeReport.{ShownText}
 use Rattle.wb_program.proofs.OneHostReport.{one_shown}

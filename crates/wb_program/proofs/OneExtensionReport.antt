@@ -1,22 +1,22 @@
 -- Two reports of extensions in their order have one status, and one text where no extension is refused.
 use Rattle.std.proofs.Common.{◌≡◌, ◌++◌, inl, inr, ℕ, List, [], ◌∷◌, Some, ap, sym, ◌∙◌, subst}
-use Rattle.wb_beside.specs.Extensions.{IsOneExtension}
-use Rattle.wb_hosts.specs.ExtensionContents.{IsExtensionText, IsExtensionRefusal}
-use Rattle.wb_hosts.specs.declared.extension_refusal.FileRefusal.{FileRefusal}
-use Rattle.wb_hosts.specs.declared.extension_refusal.FileRefusal.TheVariants as f
+use Rattle.wb_certify.specs.Extensions.{IsOneExtension}
+use Rattle.wb_certify_files.specs.ExtensionContents.{IsExtensionText, IsExtensionRefusal}
+use Rattle.wb_certify_files.specs.declared.extension_refusal.FileRefusal.{FileRefusal}
+use Rattle.wb_certify_files.specs.declared.extension_refusal.FileRefusal.TheVariants as f
 use Rattle.wb_operations.specs.Operations.{OperationSignature}
 use Rattle.wb_report.specs.Lines.{report_of}
 use Rattle.wb_report.specs.declared.outcome.Outcome.TheVariants as o
 use Rattle.wb_report.specs.declared.refusal.Refusal.{Refusal}
-use Rattle.wb_resolved.specs.declared.resolved.ResolvedParts.{ResolvedParts}
+use Rattle.wb_syntax_resolved.specs.declared.resolved.ResolvedParts.{ResolvedParts}
 use Rattle.wb_world.specs.Shelf.{Files}
-use Rattle.wb_inputs.specs.ExtensionChecks.{IsForOtherHost}
-use Rattle.wb_inputs.specs.Files.{FileIs}
-use Rattle.wb_inputs.specs.declared.status.Status.{Status}
-use Rattle.wb_inputs.proofs.OneCheck.{on_file}
-use Rattle.wb_inputs.proofs.OneHostReport.{AreAlike, one_certified_report}
+use Rattle.wb_program_inputs.specs.ExtensionChecks.{IsForOtherHost}
+use Rattle.wb_program_inputs.specs.Files.{FileIs}
+use Rattle.wb_program_inputs.specs.declared.status.Status.{Status}
+use Rattle.wb_program_inputs.proofs.OneCheck.{on_file}
+use Rattle.wb_program_inputs.proofs.OneHostReport.{AreAlike, one_certified_report}
 use Rattle.wb_program.specs.CertifyReport.{IsExtensionNamed, ExtensionsReport, CertifyReport}
-use Rattle.wb_inputs.proofs.Excludes.{ExcludesExtensions, not_few}
+use Rattle.wb_program_inputs.proofs.Excludes.{ExcludesExtensions, not_few}
 
 module _ (excludes : ExcludesExtensions) (operations : List OperationSignature) (files : Files) (host : ResolvedParts) where
   -- the contents are refused so

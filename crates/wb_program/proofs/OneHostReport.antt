@@ -6,20 +6,20 @@ use Rattle.wb_operations.specs.Operations.{OperationSignature}
 use Rattle.wb_report.specs.Lines.{report_of}
 use Rattle.wb_report.specs.declared.done.Done.TheVariants as done
 use Rattle.wb_report.specs.declared.outcome.Outcome.TheVariants as o
-use Rattle.wb_resolved.specs.declared.resolved.ResolvedParts.{ResolvedParts}
-use Rattle.wb_trees.proofs.OneAnswer.{one_answer as one_tree}
-use Rattle.wb_trees.specs.Answers.{IsTextAnswer}
-use Rattle.wb_trees.specs.declared.answer.TextAnswer.{TextAnswer}
-use Rattle.wb_trees.specs.declared.answer.TextAnswer.TheVariants as reply
+use Rattle.wb_syntax_resolved.specs.declared.resolved.ResolvedParts.{ResolvedParts}
+use Rattle.wb_compose_trees.proofs.OneAnswer.{one_answer as one_tree}
+use Rattle.wb_compose_trees.specs.Answers.{IsTextAnswer}
+use Rattle.wb_compose_trees.specs.declared.answer.TextAnswer.{TextAnswer}
+use Rattle.wb_compose_trees.specs.declared.answer.TextAnswer.TheVariants as reply
 use Rattle.wb_world.specs.Shelf.{Files}
-use Rattle.wb_inputs.specs.Checks.{Ends, Check}
-use Rattle.wb_inputs.specs.Texts.{IsText, IsTooLongText}
-use Rattle.wb_inputs.specs.declared.status.Status.{Status}
-use Rattle.wb_inputs.specs.declared.status.Status.TheVariants.{Done, TextTooLong}
-use Rattle.wb_inputs.proofs.OneCheck.{AreOne, one_end}
+use Rattle.wb_program_inputs.specs.Checks.{Ends, Check}
+use Rattle.wb_program_inputs.specs.Texts.{IsText, IsTooLongText}
+use Rattle.wb_program_inputs.specs.declared.status.Status.{Status}
+use Rattle.wb_program_inputs.specs.declared.status.Status.TheVariants.{Done, TextTooLong}
+use Rattle.wb_program_inputs.proofs.OneCheck.{AreOne, one_end}
 use Rattle.wb_program.specs.CheckReport.{CheckReport}
 use Rattle.wb_program.specs.TreeReport.{ShownText, TextReport, TreeReport}
-use Rattle.wb_inputs.proofs.OneHostReport.{AreAlike, are_alike, one_certified_report, one_short_report}
+use Rattle.wb_program_inputs.proofs.OneHostReport.{AreAlike, are_alike, one_certified_report, one_short_report}
 
 -- two reports of `check`
 pub one_check_report : (operations : List OperationSignature) (files : Files) (host : List ℕ) (s t : Status) (bytes others : List ℕ)

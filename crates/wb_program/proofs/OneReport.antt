@@ -2,25 +2,25 @@
 use Rattle.std.proofs.Common.{◌≡◌, ◌≢◌, ◌⊎◌, inl, inr, ℕ, List, [], ◌∷◌, Option, Some, ap, sym, ◌∙◌, subst}
 use Rattle.wb_world.specs.Shelf.{Files}
 use Rattle.wb_syntax.specs.Canonical.{IsCanonical}
-use Rattle.wb_hosts.specs.HostContents.{IsBadText}
+use Rattle.wb_certify_files.specs.HostContents.{IsBadText}
 use Rattle.wb_reader.specs.Refusals.{IsAcceptedText}
 use Rattle.wb_reader.proofs.OneText.{one_text as one_read}
-use Rattle.wb_printer.proofs.CallerLemmas.{one_canonical}
+use Rattle.wb_reader_printer.proofs.CallerLemmas.{one_canonical}
 use Rattle.wb_operations.specs.Operations.{Operations}
 use Rattle.wb_report.specs.Lines.{report_of}
 use Rattle.wb_report.specs.declared.outcome.Outcome.TheVariants as o
 use Rattle.wb_report.specs.declared.refusal.Refusal.{Refusal}
-use Rattle.wb_words.proofs.OneAsked.{one_asked}
-use Rattle.wb_words.specs.Asked.{Asked}
-use Rattle.wb_words.specs.Asked as a
-use Rattle.wb_words.specs.Words.{Asks}
-use Rattle.wb_inputs.specs.Checks.{Ends}
-use Rattle.wb_inputs.specs.Files.{KnownFile}
-use Rattle.wb_inputs.specs.declared.status.Status.{Status}
-use Rattle.wb_inputs.specs.declared.status.Status.TheVariants.{Done, SpecRefused, NotCertified}
-use Rattle.wb_inputs.proofs.OneCheck.{AreOne, on_file, one_check, one_end}
-use Rattle.wb_inputs.proofs.OneHostReport.{AreAlike}
-use Rattle.wb_runs.proofs.OneReport.{RunAnswers, one_run_report, one_generate_report}
+use Rattle.wb_program_words.proofs.OneAsked.{one_asked}
+use Rattle.wb_program_words.specs.Asked.{Asked}
+use Rattle.wb_program_words.specs.Asked as a
+use Rattle.wb_program_words.specs.Words.{Asks}
+use Rattle.wb_program_inputs.specs.Checks.{Ends}
+use Rattle.wb_program_inputs.specs.Files.{KnownFile}
+use Rattle.wb_program_inputs.specs.declared.status.Status.{Status}
+use Rattle.wb_program_inputs.specs.declared.status.Status.TheVariants.{Done, SpecRefused, NotCertified}
+use Rattle.wb_program_inputs.proofs.OneCheck.{AreOne, on_file, one_check, one_end}
+use Rattle.wb_program_inputs.proofs.OneHostReport.{AreAlike}
+use Rattle.wb_program_runs.proofs.OneReport.{RunAnswers, one_run_report, one_generate_report}
 use Rattle.wb_program.specs.Laws.{HasOneRefusal, show_refuses, HaveOneStatus, HaveOneText, EndAsReported}
 use Rattle.wb_program.specs.Report.{InCommandSet, IsReportOf, IsAnswered, IsReport, value_report, show_report, check_report, certify_report}
 use Rattle.wb_program.specs.Report.{compose_report, tree_report, united_tree_report, run_report, generate_report}

@@ -1,21 +1,21 @@
 -- Two reports of `value` have one status, and one text where the attributes of the host are well defined.
 use Rattle.std.proofs.Common.{◌≡◌, ℕ, List, Option, Some, None, sym, ◌∙◌, subst}
-use Rattle.wb_hosts.specs.WellDefined.{IsWellDefinedText}
+use Rattle.wb_certify_files.specs.WellDefined.{IsWellDefinedText}
 use Rattle.wb_operations.specs.Operations.{OperationSignature, Operations}
-use Rattle.wb_resolved.specs.Attribution.{IsAttribution}
-use Rattle.wb_resolved.specs.declared.attribution.AttributionParts.{AttributionParts}
-use Rattle.wb_resolved.specs.declared.resolved.ResolvedParts.{ResolvedParts}
-use Rattle.wb_root_values.proofs.OneAnswer.{one_answer as one_root}
-use Rattle.wb_root_values.specs.declared.answer.RootAnswer.{RootAnswer}
-use Rattle.wb_root_values.specs.declared.answer.RootAnswer.TheVariants as answered
+use Rattle.wb_syntax_resolved.specs.Attribution.{IsAttribution}
+use Rattle.wb_syntax_resolved.specs.declared.attribution.AttributionParts.{AttributionParts}
+use Rattle.wb_syntax_resolved.specs.declared.resolved.ResolvedParts.{ResolvedParts}
+use Rattle.wb_eval_root.proofs.OneAnswer.{one_answer as one_root}
+use Rattle.wb_eval_root.specs.declared.answer.RootAnswer.{RootAnswer}
+use Rattle.wb_eval_root.specs.declared.answer.RootAnswer.TheVariants as answered
 use Rattle.wb_world.specs.Shelf.{Files}
-use Rattle.wb_inputs.specs.Checks.{Check}
-use Rattle.wb_inputs.specs.Files.{FileIs}
-use Rattle.wb_inputs.specs.Texts.{IsText, IsTooLongText}
-use Rattle.wb_inputs.specs.declared.status.Status.{Status}
-use Rattle.wb_inputs.specs.declared.status.Status.TheVariants.{TextTooLong}
-use Rattle.wb_inputs.proofs.OneCheck.{AreOne}
-use Rattle.wb_inputs.proofs.OneHostReport.{AreAlike, are_alike, one_short_report, one_well_defined_report}
+use Rattle.wb_program_inputs.specs.Checks.{Check}
+use Rattle.wb_program_inputs.specs.Files.{FileIs}
+use Rattle.wb_program_inputs.specs.Texts.{IsText, IsTooLongText}
+use Rattle.wb_program_inputs.specs.declared.status.Status.{Status}
+use Rattle.wb_program_inputs.specs.declared.status.Status.TheVariants.{TextTooLong}
+use Rattle.wb_program_inputs.proofs.OneCheck.{AreOne}
+use Rattle.wb_program_inputs.proofs.OneHostReport.{AreAlike, are_alike, one_short_report, one_well_defined_report}
 use Rattle.wb_program.specs.ValueReport.{RootReport, TermReport, ValueReport}
 
 -- an answer has one report

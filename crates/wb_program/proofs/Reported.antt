@@ -1,29 +1,29 @@
 -- A report has a status with which it is written whole, and which isn't that of words that ask for nothing.
 use Rattle.std.proofs.Common.{◌≡◌, inl, inr, ℕ, Option, List, [], ◌∷◌, ◌++◌, subst, sym}
-use Rattle.wb_hosts.specs.HostContents.{IsHostText, IsHostRefusal}
-use Rattle.wb_hosts.specs.WellDefined.{IsWellDefinedText, IsWellDefinedTextRefusal}
+use Rattle.wb_certify_files.specs.HostContents.{IsHostText, IsHostRefusal}
+use Rattle.wb_certify_files.specs.WellDefined.{IsWellDefinedText, IsWellDefinedTextRefusal}
 use Rattle.wb_operations.specs.Operations.{OperationSignature, Operations}
 use Rattle.wb_reader.specs.Refusals.{IsAcceptedText}
 use Rattle.wb_report.specs.Lines.{report_of}
 use Rattle.wb_report.specs.declared.done.Done.TheVariants as done
 use Rattle.wb_report.specs.declared.outcome.Outcome.TheVariants as o
-use Rattle.wb_resolved.specs.declared.resolved.ResolvedParts.{ResolvedParts}
-use Rattle.wb_root_values.specs.declared.answer.RootAnswer.{RootAnswer}
-use Rattle.wb_root_values.specs.declared.answer.RootAnswer.TheVariants as answered
+use Rattle.wb_syntax_resolved.specs.declared.resolved.ResolvedParts.{ResolvedParts}
+use Rattle.wb_eval_root.specs.declared.answer.RootAnswer.{RootAnswer}
+use Rattle.wb_eval_root.specs.declared.answer.RootAnswer.TheVariants as answered
 use Rattle.wb_syntax.specs.Canonical.{IsCanonical}
-use Rattle.wb_trees.specs.declared.answer.TextAnswer.{TextAnswer}
-use Rattle.wb_trees.specs.declared.answer.TextAnswer.TheVariants as text
-use Rattle.wb_words.specs.Asked.{Asked}
+use Rattle.wb_compose_trees.specs.declared.answer.TextAnswer.{TextAnswer}
+use Rattle.wb_compose_trees.specs.declared.answer.TextAnswer.TheVariants as text
+use Rattle.wb_program_words.specs.Asked.{Asked}
 use Rattle.wb_world.specs.Shelf.{Files}
-use Rattle.wb_inputs.specs.Checks.{Ends, Check}
-use Rattle.wb_inputs.specs.Files.{KnownFile}
-use Rattle.wb_inputs.specs.Texts.{IsText, IsTooLongText}
-use Rattle.wb_inputs.specs.declared.status.Status.{Status}
-use Rattle.wb_inputs.specs.declared.status.Status.TheVariants.{Done, SpecRefused, TextTooLong, Absent, ReadFault, NoMemory}
+use Rattle.wb_program_inputs.specs.Checks.{Ends, Check}
+use Rattle.wb_program_inputs.specs.Files.{KnownFile}
+use Rattle.wb_program_inputs.specs.Texts.{IsText, IsTooLongText}
+use Rattle.wb_program_inputs.specs.declared.status.Status.{Status}
+use Rattle.wb_program_inputs.specs.declared.status.Status.TheVariants.{Done, SpecRefused, TextTooLong, Absent, ReadFault, NoMemory}
 use Rattle.wb_program.specs.CertifyReport.{ExtensionsReport, CertifyReport}
 use Rattle.wb_program.specs.CheckReport.{CheckReport}
 use Rattle.wb_program.specs.ComposeReport.{ComposeReport, ComposedLines, UnitedReport, UnitedTreeReport}
-use Rattle.wb_runs.proofs.Reported.{run_reported, generate_reported}
+use Rattle.wb_program_runs.proofs.Reported.{run_reported, generate_reported}
 use Rattle.wb_program.specs.Report.{run_report, generate_report}
 use Rattle.wb_program.specs.Report.{IsReportOf, value_report, show_report, check_report, certify_report, compose_report, tree_report}
 use Rattle.wb_program.specs.Report.{united_tree_report}
@@ -31,7 +31,7 @@ use Rattle.wb_program.specs.ShowReport.{RefusesSpec, ShowReport}
 use Rattle.wb_program.specs.TreeReport.{ShownText, TextReport, TreeReport}
 use Rattle.wb_program.specs.ValueReport.{RootReport, TermReport, ValueReport}
 use Rattle.wb_program.specs.Written.{WritesNothing}
-use Rattle.wb_inputs.proofs.WrittenWhole.{IsReported, differs, by_check, by_end, by_host, by_text, several_reported}
+use Rattle.wb_program_inputs.proofs.WrittenWhole.{IsReported, differs, by_check, by_end, by_host, by_text, several_reported}
 
 -- it writes a report
 pub writes : (s : Status) → IsReported s → ¬ WritesNothing s

@@ -1,21 +1,21 @@
 -- What `show` makes of a file is its report, and a file is refused in one way.
 use Rattle.std.proofs.Common.{◌≡◌, inl, inr, ℕ, List, Option, Some, sym, ◌∙◌, ap}
 use Rattle.std.proofs.lemmas.Option.{same_Some}
-use Rattle.wb_hosts.specs.HostContents.{IsBadText}
+use Rattle.wb_certify_files.specs.HostContents.{IsBadText}
 use Rattle.wb_reader.proofs.Excluding.{none_refused, one_refusal}
 use Rattle.wb_reader.specs.OneAnswer.{IsNoMemory}
 use Rattle.wb_reader.specs.Refusals.{HasCause, IsAcceptedText}
 use Rattle.wb_reader.specs.declared.refusal.SpecRefusal.{SpecRefusal}
 use Rattle.wb_reader.specs.declared.refusal.SpecRefusal.TheVariants as s
 use Rattle.wb_report.specs.declared.refusal.Refusal.{Refusal}
-use Rattle.wb_shown.specs.Shows.{written_reason, of_spec}
+use Rattle.wb_certify_shown.specs.Shows.{written_reason, of_spec}
 use Rattle.wb_syntax.specs.SpecText.{SpecView}
 use Rattle.wb_world.specs.Shelf.{Files}
-use Rattle.wb_inputs.specs.Contents.{ContentsAre, ReadIs}
-use Rattle.wb_inputs.specs.declared.reading.Contents.{Contents}
-use Rattle.wb_inputs.specs.declared.reading.Contents.TheVariants.{Whole, TooLong}
-use Rattle.wb_inputs.specs.declared.status.Status.{Status}
-use Rattle.wb_inputs.proofs.HostLemmas.{read_is}
+use Rattle.wb_program_inputs.specs.Contents.{ContentsAre, ReadIs}
+use Rattle.wb_program_inputs.specs.declared.reading.Contents.{Contents}
+use Rattle.wb_program_inputs.specs.declared.reading.Contents.TheVariants.{Whole, TooLong}
+use Rattle.wb_program_inputs.specs.declared.status.Status.{Status}
+use Rattle.wb_program_inputs.proofs.HostLemmas.{read_is}
 use Rattle.wb_program.specs.ShowReport.{ShowReport}
 use Rattle.wb_program.specs.Inner.Shown.{ContentsShow, RefusesRead, ShowsRefusal}
 

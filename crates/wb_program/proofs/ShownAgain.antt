@@ -4,8 +4,8 @@ use Rattle.wb_syntax.specs.Canonical.{IsCanonical}
 use Rattle.wb_reader.specs.declared.refusal.SpecRefusal.TheVariants.{TooLong}
 use Rattle.wb_reader.specs.Refusals.{HasCause}
 use Rattle.wb_reader.proofs.Excluding.{one_refusal}
-use Rattle.wb_printer.proofs.CallerLemmas.{one_canonical}
-use Rattle.wb_printer.proofs.ReadsLemmas.{reads_back, canonical_again}
+use Rattle.wb_reader_printer.proofs.CallerLemmas.{one_canonical}
+use Rattle.wb_reader_printer.proofs.ReadsLemmas.{reads_back, canonical_again}
 use Rattle.wb_program.specs.ShownAgain.{IsStable}
 
 -- the canonical text of a specification is taken again, or too long

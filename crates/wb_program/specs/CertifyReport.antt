@@ -1,21 +1,21 @@
 -- What `certify HOST EXT..` reports.
 use Rattle.std.specs.Prelude.{◌≡◌, ◌≤◌, ◌⊎◌, ◌++◌, ℕ, Option, List, [], ◌∷◌, length}
-use Rattle.wb_beside.specs.Extensions.{IsOneExtension}
-use Rattle.wb_hosts.specs.ExtensionContents.{IsExtensionText, IsExtensionRefusal}
-use Rattle.wb_hosts.specs.declared.extension_refusal.FileRefusal.{FileRefusal}
-use Rattle.wb_hosts.specs.declared.extension_refusal.FileRefusal.TheVariants as f
+use Rattle.wb_certify.specs.Extensions.{IsOneExtension}
+use Rattle.wb_certify_files.specs.ExtensionContents.{IsExtensionText, IsExtensionRefusal}
+use Rattle.wb_certify_files.specs.declared.extension_refusal.FileRefusal.{FileRefusal}
+use Rattle.wb_certify_files.specs.declared.extension_refusal.FileRefusal.TheVariants as f
 use Rattle.wb_operations.specs.Operations.{OperationSignature}
 use Rattle.wb_report.specs.Lines.{report_of}
 use Rattle.wb_report.specs.declared.done.Done.TheVariants as done
 use Rattle.wb_report.specs.declared.outcome.Outcome.TheVariants as o
 use Rattle.wb_report.specs.declared.refusal.Refusal.{Refusal}
-use Rattle.wb_resolved.specs.declared.resolved.ResolvedParts.{ResolvedParts}
+use Rattle.wb_syntax_resolved.specs.declared.resolved.ResolvedParts.{ResolvedParts}
 use Rattle.wb_world.specs.Shelf.{Files}
-use Rattle.wb_inputs.specs.Checks.{Report, Ends}
-use Rattle.wb_inputs.specs.HostChecks.{CertifiedChecks}
-use Rattle.wb_inputs.specs.Files.{KnownFile}
-use Rattle.wb_inputs.specs.declared.status.Status.TheVariants.{Done, SpecRefused, NotCertified, TooManyExtensions, WrongHost}
-use Rattle.wb_inputs.specs.ExtensionChecks.{AreTooMany, IsForOtherHost}
+use Rattle.wb_program_inputs.specs.Checks.{Report, Ends}
+use Rattle.wb_program_inputs.specs.HostChecks.{CertifiedChecks}
+use Rattle.wb_program_inputs.specs.Files.{KnownFile}
+use Rattle.wb_program_inputs.specs.declared.status.Status.TheVariants.{Done, SpecRefused, NotCertified, TooManyExtensions, WrongHost}
+use Rattle.wb_program_inputs.specs.ExtensionChecks.{AreTooMany, IsForOtherHost}
 
 module _ (operations : List OperationSignature) (known : Option Files) (host : ResolvedParts) where
   -- the file is no certified extension of the host by a refusal of this sort, and the line says why

@@ -4,16 +4,16 @@ use Rattle.wb_operations.specs.Operations.{OperationSignature}
 use Rattle.wb_report.specs.Lines.{report_of}
 use Rattle.wb_report.specs.declared.done.Done.TheVariants as done
 use Rattle.wb_report.specs.declared.outcome.Outcome.TheVariants as o
-use Rattle.wb_resolved.specs.declared.resolved.ResolvedParts.{ResolvedParts}
-use Rattle.wb_trees.specs.declared.answer.TextAnswer.{TextAnswer}
-use Rattle.wb_united_texts.specs.Answers.{IsUnitedTextAnswer}
-use Rattle.wb_united_texts.specs.Withdrawn.{AreWithdrawnNames}
+use Rattle.wb_syntax_resolved.specs.declared.resolved.ResolvedParts.{ResolvedParts}
+use Rattle.wb_compose_trees.specs.declared.answer.TextAnswer.{TextAnswer}
+use Rattle.wb_compose_texts.specs.Answers.{IsUnitedTextAnswer}
+use Rattle.wb_compose_texts.specs.Withdrawn.{AreWithdrawnNames}
 use Rattle.wb_world.specs.Shelf.{Files}
-use Rattle.wb_inputs.specs.Checks.{Report, Ends, Check}
-use Rattle.wb_inputs.specs.SeveralChecks.{SeveralChecks}
-use Rattle.wb_inputs.specs.Texts.{IsText, IsTooLongText}
-use Rattle.wb_inputs.specs.declared.status.Status.{Status}
-use Rattle.wb_inputs.specs.declared.status.Status.TheVariants.{Done, TextTooLong}
+use Rattle.wb_program_inputs.specs.Checks.{Report, Ends, Check}
+use Rattle.wb_program_inputs.specs.SeveralChecks.{SeveralChecks}
+use Rattle.wb_program_inputs.specs.Texts.{IsText, IsTooLongText}
+use Rattle.wb_program_inputs.specs.declared.status.Status.{Status}
+use Rattle.wb_program_inputs.specs.declared.status.Status.TheVariants.{Done, TextTooLong}
 use Rattle.wb_program.specs.TreeReport.{ShownText}
 
 -- the host with its extensions has these markers without a bare form, and the lines say so

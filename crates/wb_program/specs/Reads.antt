@@ -2,12 +2,13 @@
 use Rattle.std.specs.Prelude.{◌⊎◌, ◌≤◌, ℕ, Option, List, [], ◌∷◌, length, map}
 use Rattle.wb_world.specs.Shelf.{Files}
 use Rattle.wb_operations.specs.Operations.{OperationSignature}
-use Rattle.wb_words.specs.Asked.{Asked}
-use Rattle.wb_words.specs.Asked as a
-use Rattle.wb_words.specs.Words.{Asks}
-use Rattle.wb_inputs.specs.Reads.{Read, specification, certified_host, well_defined_host, certified_extension, parsed_text, written_term}
-use Rattle.wb_inputs.specs.Reads.{StopsAt, StopsComposed, IsMissing, IsFaulty}
-use Rattle.wb_runs.specs.RunReport.{RunStops}
+use Rattle.wb_program_words.specs.Asked.{Asked}
+use Rattle.wb_program_words.specs.Asked as a
+use Rattle.wb_program_words.specs.Words.{Asks}
+use Rattle.wb_program_inputs.specs.Reads.{Read, specification, certified_host, well_defined_host, certified_extension, parsed_text}
+use Rattle.wb_program_inputs.specs.Reads.{written_term}
+use Rattle.wb_program_inputs.specs.Reads.{StopsAt, StopsComposed, IsMissing, IsFaulty}
+use Rattle.wb_program_runs.specs.RunReport.{RunStops}
 
 -- the files that a command reads, in their order; of a command that composes extensions none is said here
 pub data AreReads : Asked → List Read → Type 0 where

@@ -4,13 +4,13 @@ use Rattle.wb_world.specs.Shelf.{Files}
 use Rattle.wb_operations.specs.Operations.{Operations}
 use Rattle.wb_report.specs.Lines.{report_of}
 use Rattle.wb_report.specs.declared.outcome.Outcome.TheVariants as o
-use Rattle.wb_words.specs.Asked.{Asked}
-use Rattle.wb_words.specs.Asked as a
-use Rattle.wb_words.specs.Words.{Asks}
-use Rattle.wb_inputs.specs.declared.status.Status.{Status}
-use Rattle.wb_inputs.specs.declared.status.Status.TheVariants.{Usage}
-use Rattle.wb_runs.specs.GenerateReport.{GenerateReport}
-use Rattle.wb_runs.specs.RunReport.{RunReport}
+use Rattle.wb_program_words.specs.Asked.{Asked}
+use Rattle.wb_program_words.specs.Asked as a
+use Rattle.wb_program_words.specs.Words.{Asks}
+use Rattle.wb_program_inputs.specs.declared.status.Status.{Status}
+use Rattle.wb_program_inputs.specs.declared.status.Status.TheVariants.{Usage}
+use Rattle.wb_program_runs.specs.GenerateReport.{GenerateReport}
+use Rattle.wb_program_runs.specs.RunReport.{RunReport}
 use Rattle.wb_program.specs.CertifyReport.{CertifyReport}
 use Rattle.wb_program.specs.CheckReport.{CheckReport}
 use Rattle.wb_program.specs.ComposeReport.{ComposeReport, UnitedTreeReport}

@@ -6,15 +6,15 @@ use Rattle.wb_report.specs.Lines.{report_of}
 use Rattle.wb_report.specs.declared.done.Done.TheVariants as done
 use Rattle.wb_report.specs.declared.outcome.Outcome.TheVariants as o
 use Rattle.wb_report.specs.declared.shown.ShownStop.{ShownStop}
-use Rattle.wb_resolved.specs.declared.resolved.ResolvedParts.{ResolvedParts}
-use Rattle.wb_trees.specs.Answers.{HasPrintedTree, HasTooLongTree, StopsShown}
-use Rattle.wb_trees.specs.declared.answer.TextAnswer.{TextAnswer}
-use Rattle.wb_trees.specs.declared.answer.TextAnswer.TheVariants as t
+use Rattle.wb_syntax_resolved.specs.declared.resolved.ResolvedParts.{ResolvedParts}
+use Rattle.wb_compose_trees.specs.Answers.{HasPrintedTree, HasTooLongTree, StopsShown}
+use Rattle.wb_compose_trees.specs.declared.answer.TextAnswer.{TextAnswer}
+use Rattle.wb_compose_trees.specs.declared.answer.TextAnswer.TheVariants as t
 use Rattle.wb_world.specs.Shelf.{Files}
-use Rattle.wb_inputs.specs.Checks.{Report, Ends, Check}
-use Rattle.wb_inputs.specs.HostChecks.{CertifiedChecks}
-use Rattle.wb_inputs.specs.declared.status.Status.TheVariants.{Done, TextStopped, TextTooLong, TooLongToPrint}
-use Rattle.wb_inputs.specs.Texts.{IsTooLongText, IsText}
+use Rattle.wb_program_inputs.specs.Checks.{Report, Ends, Check}
+use Rattle.wb_program_inputs.specs.HostChecks.{CertifiedChecks}
+use Rattle.wb_program_inputs.specs.declared.status.Status.TheVariants.{Done, TextStopped, TextTooLong, TooLongToPrint}
+use Rattle.wb_program_inputs.specs.Texts.{IsTooLongText, IsText}
 
 -- the status and the line of the answer of a text
 abbrev pub ShownText : TextAnswer → Report

@@ -1,32 +1,32 @@
 //! What does `certify HOST EXT..` answer, and which certified extension of a host is in a file?
 //!
 //! The host comes first, by the checks in `check`, and then each extension in order. What a certified extension is, and why contents aren't
-//! one, is found by `wb_hosts`.
+//! one, is found by `wb_certify_files`.
 
 ghost use Rattle.std.specs.Prelude.{◌≡◌, ◌++◌, IfOk, IfErr, OnOk, List, ℕ, [], ◌∷◌, map};
-ghost use Rattle.wb_beside.specs.Extensions.{IsOneExtension};
-ghost use Rattle.wb_hosts.specs.ExtensionContents.{IsExtensionText, IsExtensionRefusal};
-ghost use Rattle.wb_hosts.specs.HostContents.{IsHostText};
+ghost use Rattle.wb_certify.specs.Extensions.{IsOneExtension};
+ghost use Rattle.wb_certify_files.specs.ExtensionContents.{IsExtensionText, IsExtensionRefusal};
+ghost use Rattle.wb_certify_files.specs.HostContents.{IsHostText};
 ghost use Rattle.wb_report.specs.Lines.{report_of};
-ghost use Rattle.wb_words.specs.Words.{texts};
-ghost use Rattle.wb_inputs.specs.Contents.{ReadIs};
-ghost use Rattle.wb_inputs.specs.Files.{KnownFile};
-ghost use Rattle.wb_inputs.specs.Reads.{certified_extension, StopsAt};
-ghost use Rattle.wb_inputs.specs.Stopped.{outside};
-ghost use Rattle.wb_inputs.specs.Makes.{Answers, Makes};
+ghost use Rattle.wb_program_words.specs.Words.{texts};
+ghost use Rattle.wb_program_inputs.specs.Contents.{ReadIs};
+ghost use Rattle.wb_program_inputs.specs.Files.{KnownFile};
+ghost use Rattle.wb_program_inputs.specs.Reads.{certified_extension, StopsAt};
+ghost use Rattle.wb_program_inputs.specs.Stopped.{outside};
+ghost use Rattle.wb_program_inputs.specs.Makes.{Answers, Makes};
 ghost use Rattle.wb_program.specs.CertifyReport.{CertifyReport, ExtensionsReport};
 ghost use Rattle.wb_program.specs.Inner.Extensions.{CertifyStops, IsFound};
 
 use std::alloc::{AllocError, Global};
 use wb_base::{Bytes, Sequence};
-use wb_beside::CertifiedExtension;
-use wb_certify::CertifiedHost;
-use wb_hosts::{FileRefusal, extension_of};
-use wb_inputs::{
+use wb_certify::CertifiedExtension;
+use wb_certify_files::{FileRefusal, extension_of};
+use wb_certify_host::CertifiedHost;
+use wb_operations::{Meaning, OperationTable};
+use wb_program_inputs::{
     Answer, Contents, MOST_EXTENSIONS, ReadFailure, Status, named_contents, read_host,
     refused_extension, reported,
 };
-use wb_operations::{Meaning, OperationTable};
 use wb_report::{Done, Outcome, Refusal, SpecReason};
 use wb_world::Shelf;
 

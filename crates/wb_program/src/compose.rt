@@ -1,27 +1,27 @@
 //! What does `compose HOST EXT..` answer?
 //!
-//! The host and the extensions come first, by the checks of `wb_inputs`, and then the language that `wb_composition` composes of them.
+//! The host and the extensions come first, by the checks of `wb_program_inputs`, and then the language that `wb_compose` composes of them.
 
 ghost use Rattle.std.specs.Prelude.{IfOk};
-ghost use Rattle.wb_composition.specs.Composed.{IsComposed};
-ghost use Rattle.wb_united_texts.specs.Unions.{all_resolved};
-ghost use Rattle.wb_words.specs.Words.{texts};
-ghost use Rattle.wb_inputs.specs.Checks.{Ends};
-ghost use Rattle.wb_inputs.specs.ExtensionChecks.{AreApart};
-ghost use Rattle.wb_inputs.specs.Reads.{StopsComposed};
-ghost use Rattle.wb_inputs.specs.Stopped.{outside};
-ghost use Rattle.wb_inputs.specs.Makes.{Answers};
+ghost use Rattle.wb_compose.specs.Composed.{IsComposed};
+ghost use Rattle.wb_compose_texts.specs.Unions.{all_resolved};
+ghost use Rattle.wb_program_words.specs.Words.{texts};
+ghost use Rattle.wb_program_inputs.specs.Checks.{Ends};
+ghost use Rattle.wb_program_inputs.specs.ExtensionChecks.{AreApart};
+ghost use Rattle.wb_program_inputs.specs.Reads.{StopsComposed};
+ghost use Rattle.wb_program_inputs.specs.Stopped.{outside};
+ghost use Rattle.wb_program_inputs.specs.Makes.{Answers};
 ghost use Rattle.wb_program.specs.ComposeReport.{ComposeReport, ComposedLines};
 
 use std::alloc::{AllocError, Global};
 use wb_base::Bytes;
-use wb_beside::CertifiedExtension;
-use wb_certify::CertifiedHost;
-use wb_composition::{Composed, compose};
-use wb_inputs::{Answer, ReadFailure, Status, read_composable, reported};
+use wb_certify::CertifiedExtension;
+use wb_certify_host::CertifiedHost;
+use wb_compose::{Composed, compose};
+use wb_compose_texts::withdrawn_names;
 use wb_operations::{Meaning, OperationTable};
+use wb_program_inputs::{Answer, ReadFailure, Status, read_composable, reported};
 use wb_report::{Done, Outcome};
-use wb_united_texts::withdrawn_names;
 use wb_world::Shelf;
 
 // The answer to `compose HOST EXT..`.

@@ -5,33 +5,33 @@
 ghost use Rattle.wb_program.specs.Laws.{EndAsReported, HaveOneStatus, HaveOneText};
 ghost use Rattle.wb_program.specs.ShownAgain.{IsStable};
 
-use wb_united_texts::tree_laws::{one_answer_law, withdrawn_law};
-use wb_united_texts::value_laws::{one_root_law, one_value_law};
+use wb_compose_texts::tree_laws::{one_answer_law, withdrawn_law};
+use wb_compose_texts::value_laws::{one_root_law, one_value_law};
 
 /// Words and files have at most one status that is reported.
 pub fn one_status_law()
     ensures { HaveOneStatus }
 {
-    wb_hosts::one_answer_law();
-    wb_hosts::header_law();
+    wb_certify_files::one_answer_law();
+    wb_certify_files::header_law();
     withdrawn_law();
     one_answer_law();
     one_root_law();
     one_value_law();
-    wb_united_texts::generated_laws::one_text_law();
+    wb_compose_texts::generated_laws::one_text_law();
 }
 
 /// Words and files have at most one text with a status, but where a refusal may show any true example.
 pub fn one_text_law()
     ensures { HaveOneText }
 {
-    wb_hosts::one_answer_law();
-    wb_hosts::header_law();
+    wb_certify_files::one_answer_law();
+    wb_certify_files::header_law();
     withdrawn_law();
     one_answer_law();
     one_root_law();
     one_value_law();
-    wb_united_texts::generated_laws::one_text_law();
+    wb_compose_texts::generated_laws::one_text_law();
 }
 
 /// Where words and known files have a report, a run ends with its status: with 0 where everything is in order. Else it ends at a file or at
@@ -39,13 +39,13 @@ pub fn one_text_law()
 pub fn complete_law()
     ensures { EndAsReported }
 {
-    wb_hosts::one_answer_law();
-    wb_hosts::header_law();
+    wb_certify_files::one_answer_law();
+    wb_certify_files::header_law();
     withdrawn_law();
     one_answer_law();
     one_root_law();
     one_value_law();
-    wb_united_texts::generated_laws::one_text_law();
+    wb_compose_texts::generated_laws::one_text_law();
 }
 
 /// The canonical text of a specification is read as the same one but for places, and is the one canonical text of that, so that

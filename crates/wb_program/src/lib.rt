@@ -1,7 +1,7 @@
 //! Which status and which report do words and files give?
 //!
-//! One call, `workbench`, over any shelf and sink, so that its contract is the whole program's. Which words ask what is in `wb_words`, and
-//! what is in the files that they name in `wb_inputs`.
+//! One call, `workbench`, over any shelf and sink, so that its contract is the whole program's. Which words ask what is in
+//! `wb_program_words`, and what is in the files that they name in `wb_program_inputs`.
 #![tactic(auto)]
 
 mod certify;

@@ -1,22 +1,22 @@
 //! What does `show SPEC` answer?
 //!
-//! The canonical text comes from `wb_printer`, why a file isn't a specification from `wb_reader`.
+//! The canonical text comes from `wb_reader_printer`, why a file isn't a specification from `wb_reader`.
 
 ghost use Rattle.std.specs.Prelude.{IfOk};
 ghost use Rattle.wb_reader.specs.OneAnswer.{IsNoMemory};
-ghost use Rattle.wb_inputs.specs.Checks.{Ends};
-ghost use Rattle.wb_inputs.specs.Stopped.{outside};
-ghost use Rattle.wb_inputs.specs.Makes.{Answers};
+ghost use Rattle.wb_program_inputs.specs.Checks.{Ends};
+ghost use Rattle.wb_program_inputs.specs.Stopped.{outside};
+ghost use Rattle.wb_program_inputs.specs.Makes.{Answers};
 ghost use Rattle.wb_program.specs.ShowReport.{ShowReport};
 ghost use Rattle.wb_program.specs.Inner.Shown.{ContentsShow, ShowsRefusal};
 
 use std::alloc::{AllocError, Global};
 use wb_base::{Bytes, FILE_LIMIT};
-use wb_inputs::{Answer, Contents, ReadFailure, Status, read_file, reported};
-use wb_printer::print_spec;
+use wb_certify_shown::written_rule;
+use wb_program_inputs::{Answer, Contents, ReadFailure, Status, read_file, reported};
 use wb_reader::{SpecRefusal, read_spec};
+use wb_reader_printer::print_spec;
 use wb_report::{Outcome, Refusal};
-use wb_shown::written_rule;
 use wb_world::Shelf;
 
 // The answer to `show SPEC`.

@@ -1,23 +1,23 @@
 //! What does `tree --text FILE HOST` answer?
 //!
-//! The host comes first, by the checks in `check`, and then the text, whose answer in the host's language is found by `wb_trees`.
+//! The host comes first, by the checks in `check`, and then the text, whose answer in the host's language is found by `wb_compose_trees`.
 
 ghost use Rattle.std.specs.Prelude.{◌≡◌, List, ℕ, Some, IfOk, [], ◌∷◌};
 ghost use Rattle.wb_base.specs.Grammar.{GrammarView};
-ghost use Rattle.wb_inputs.specs.Checks.{Check};
-ghost use Rattle.wb_inputs.specs.Reads.{certified_host, parsed_text, StopsAt};
-ghost use Rattle.wb_inputs.specs.Stopped.{outside};
-ghost use Rattle.wb_inputs.specs.Makes.{Answers};
-ghost use Rattle.wb_inputs.specs.Texts.{IsText, IsTooLongText, ReadText};
+ghost use Rattle.wb_program_inputs.specs.Checks.{Check};
+ghost use Rattle.wb_program_inputs.specs.Reads.{certified_host, parsed_text, StopsAt};
+ghost use Rattle.wb_program_inputs.specs.Stopped.{outside};
+ghost use Rattle.wb_program_inputs.specs.Makes.{Answers};
+ghost use Rattle.wb_program_inputs.specs.Texts.{IsText, IsTooLongText, ReadText};
 ghost use Rattle.wb_program.specs.TreeReport.{ShownText, TextReport, TreeReport};
 
 use std::alloc::{AllocError, Global};
 use wb_base::{Bytes, FILE_LIMIT, Sequence};
-use wb_certify::CertifiedHost;
-use wb_inputs::{Answer, Contents, ReadFailure, Status, read_file, read_host, reported};
+use wb_certify_host::CertifiedHost;
+use wb_compose_trees::{TextAnswer, text_answer};
 use wb_operations::{Meaning, OperationTable};
+use wb_program_inputs::{Answer, Contents, ReadFailure, Status, read_file, read_host, reported};
 use wb_report::{Done, Outcome};
-use wb_trees::{TextAnswer, text_answer};
 use wb_world::Shelf;
 
 // The answer to `tree --text FILE HOST`.

@@ -1,29 +1,31 @@
 //! What does `tree --text FILE HOST EXT..` answer where there are extensions?
 //!
-//! The host and the extensions come as in `compose`, and then the text, whose answer in their language is found by `wb_united_texts`.
+//! The host and the extensions come as in `compose`, and then the text, whose answer in their language is found by `wb_compose_texts`.
 
 ghost use Rattle.std.specs.Prelude.{IfOk, ℕ, List};
-ghost use Rattle.wb_composition.specs.Composed.{IsComposed};
-ghost use Rattle.wb_united_texts.specs.Unions.{all_resolved};
-ghost use Rattle.wb_words.specs.Words.{texts};
-ghost use Rattle.wb_inputs.specs.Checks.{Check};
-ghost use Rattle.wb_inputs.specs.ExtensionChecks.{AreApart};
-ghost use Rattle.wb_inputs.specs.Reads.{StopsComposed};
-ghost use Rattle.wb_inputs.specs.Stopped.{outside};
-ghost use Rattle.wb_inputs.specs.Makes.{Answers};
-ghost use Rattle.wb_inputs.specs.Texts.{IsText, IsTooLongText, ReadText};
+ghost use Rattle.wb_compose.specs.Composed.{IsComposed};
+ghost use Rattle.wb_compose_texts.specs.Unions.{all_resolved};
+ghost use Rattle.wb_program_words.specs.Words.{texts};
+ghost use Rattle.wb_program_inputs.specs.Checks.{Check};
+ghost use Rattle.wb_program_inputs.specs.ExtensionChecks.{AreApart};
+ghost use Rattle.wb_program_inputs.specs.Reads.{StopsComposed};
+ghost use Rattle.wb_program_inputs.specs.Stopped.{outside};
+ghost use Rattle.wb_program_inputs.specs.Makes.{Answers};
+ghost use Rattle.wb_program_inputs.specs.Texts.{IsText, IsTooLongText, ReadText};
 ghost use Rattle.wb_program.specs.ComposeReport.{UnitedReport, UnitedTreeReport};
 
 use crate::tree::shown_text;
 use std::alloc::{AllocError, Global};
 use wb_base::FILE_LIMIT;
-use wb_beside::CertifiedExtension;
-use wb_certify::CertifiedHost;
-use wb_composition::{Composed, compose};
-use wb_inputs::{Answer, Contents, ReadFailure, Status, read_composable, read_file, reported};
+use wb_certify::CertifiedExtension;
+use wb_certify_host::CertifiedHost;
+use wb_compose::{Composed, compose};
+use wb_compose_texts::united_text_answer;
 use wb_operations::{Meaning, OperationTable};
+use wb_program_inputs::{
+    Answer, Contents, ReadFailure, Status, read_composable, read_file, reported,
+};
 use wb_report::Outcome;
-use wb_united_texts::united_text_answer;
 use wb_world::Shelf;
 
 // The answer to `tree --text FILE HOST EXT..`.

@@ -1,26 +1,28 @@
 //! What does `value HOST TERM ATTR` answer?
 //!
-//! The host comes first, whose attributes must be well defined, and then the term, whose answer is found by `wb_root_values`.
+//! The host comes first, whose attributes must be well defined, and then the term, whose answer is found by `wb_eval_root`.
 
 ghost use Rattle.std.specs.Prelude.{IfOk, List, ℕ, [], ◌∷◌};
-ghost use Rattle.wb_attributes.specs.Modular.{EachProduction};
-ghost use Rattle.wb_attributes.specs.WellDefined.{IsWellDefinedProduction};
+ghost use Rattle.wb_flow_theory.specs.Modular.{EachProduction};
+ghost use Rattle.wb_flow_theory.specs.WellDefined.{IsWellDefinedProduction};
 ghost use Rattle.wb_operations.specs.Kept.{IsKept};
 ghost use Rattle.wb_types.specs.Rules.{KindsOk};
-ghost use Rattle.wb_inputs.specs.Checks.{Check};
-ghost use Rattle.wb_inputs.specs.Reads.{well_defined_host, written_term, StopsAt};
-ghost use Rattle.wb_inputs.specs.Stopped.{outside};
-ghost use Rattle.wb_inputs.specs.Makes.{Answers};
-ghost use Rattle.wb_inputs.specs.Texts.{IsText, IsTooLongText, ReadText};
+ghost use Rattle.wb_program_inputs.specs.Checks.{Check};
+ghost use Rattle.wb_program_inputs.specs.Reads.{well_defined_host, written_term, StopsAt};
+ghost use Rattle.wb_program_inputs.specs.Stopped.{outside};
+ghost use Rattle.wb_program_inputs.specs.Makes.{Answers};
+ghost use Rattle.wb_program_inputs.specs.Texts.{IsText, IsTooLongText, ReadText};
 ghost use Rattle.wb_program.specs.ValueReport.{RootReport, TermReport, ValueReport};
 
 use std::alloc::{AllocError, Global};
 use wb_base::{Bytes, FILE_LIMIT, Sequence};
-use wb_inputs::{Answer, Contents, ReadFailure, Status, read_file, read_well_defined, reported};
+use wb_eval_root::{RootAnswer, root_value};
 use wb_operations::{Meaning, OperationRefusal, OperationTable};
+use wb_program_inputs::{
+    Answer, Contents, ReadFailure, Status, read_file, read_well_defined, reported,
+};
 use wb_report::{Done, Outcome, Refusal, TermReason};
-use wb_resolved::Attribution;
-use wb_root_values::{RootAnswer, root_value};
+use wb_syntax_resolved::Attribution;
 use wb_values::Value;
 use wb_world::Shelf;
 

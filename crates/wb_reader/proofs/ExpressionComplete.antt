@@ -3,25 +3,25 @@ use Rattle.std.proofs.Common.{◌≡◌, ◌+◌, ◌-◌, ℕ, ℤ, pos, negsuc
 use Rattle.std.proofs.Common.{length, arith}
 use Rattle.std.specs.Prelude.{◌==◌}
 use Rattle.std.proofs.lemmas.List.{append_assoc, append-nil}
-use Rattle.wb_predictive.specs.declared.symbol.Symbol.TheVariants.{Token, Nonterminal}
-use Rattle.wb_predictive.specs.Grammar.{expand, act as acts}
-use Rattle.wb_tokens.specs.declared.word.Word.TheVariants as word
-use Rattle.wb_tokens.specs.declared.punctuation.Punctuation.TheVariants as p
+use Rattle.wb_text_predictive.specs.declared.symbol.Symbol.TheVariants.{Token, Nonterminal}
+use Rattle.wb_text_predictive.specs.Grammar.{expand, act as acts}
+use Rattle.wb_text_tokens.specs.declared.word.Word.TheVariants as word
+use Rattle.wb_text_tokens.specs.declared.punctuation.Punctuation.TheVariants as p
 use Rattle.wb_syntax.specs.Expression.{Node}
-use Rattle.wb_expressions.specs.declared.node.Node.TheVariants as n
+use Rattle.wb_syntax_expressions.specs.declared.node.Node.TheVariants as n
 use Rattle.wb_syntax.specs.Tokens.{Lexeme, IsInt}
 use Rattle.wb_syntax.specs.Expression.{Expression, Expressions}
-use Rattle.wb_expressions.specs.Expression.{Build, Call, If, size, nodes_from, all_nodes_from, places_from}
+use Rattle.wb_syntax_expressions.specs.Expression.{Build, Call, If, size, nodes_from, all_nodes_from, places_from}
 use Rattle.wb_syntax.specs.ExpressionGrammar as grammar
 use Rattle.wb_syntax.specs.ExpressionGrammar.{IsExpression, AreArguments, AreFurther}
-use Rattle.wb_tokens.specs.declared.kind.TokenKind.TheVariants as kind
+use Rattle.wb_text_tokens.specs.declared.kind.TokenKind.TheVariants as kind
 use Rattle.wb_reader.specs.declared.part.Part.{Part}
-use Rattle.wb_builder.specs.declared.builder.SpecBuilder.{SpecBuilder}
+use Rattle.wb_reader_builder.specs.declared.builder.SpecBuilder.{SpecBuilder}
 use Rattle.wb_reader.specs.Inner.RightSides.{right_sides}
-use Rattle.wb_builder.specs.Builder.{with_name, with_integer}
+use Rattle.wb_reader_builder.specs.Builder.{with_name, with_integer}
 use Rattle.wb_reader.proofs.Taking.{Row, Makes}
 use Rattle.wb_reader.proofs.Giving.{word_given, mark_given, name_given, integer_given, string_given}
-use Rattle.wb_expressions.proofs.AppendLemmas.{all_behind_len, more_nodes, more_places, if_nodes, if_root}
+use Rattle.wb_syntax_expressions.proofs.AppendLemmas.{all_behind_len, more_nodes, more_places, if_nodes, if_root}
 use Rattle.wb_reader.proofs.ExpressionSound.{begun, grown, collecting, collected, recollect, rooted}
 
 -- an integer of either kind

@@ -1,26 +1,26 @@
 -- Expressions that the table's grammar derives are in the grammar of specifications.
 use Rattle.std.proofs.Common.{◌≡◌, ◌<◌, ◌+◌, ◌-◌, ℕ, zero, suc, List, [], ◌∷◌, ◌++◌, inl, inr, refl, sym, ap, ◌∙◌, subst, length, arith}
 use Rattle.std.proofs.lemmas.List.{append_assoc, append-nil, length-append}
-use Rattle.wb_predictive.specs.declared.symbol.Symbol.TheVariants.{Token, Nonterminal, Act}
-use Rattle.wb_tokens.specs.declared.word.Word.TheVariants as word
-use Rattle.wb_tokens.specs.declared.punctuation.Punctuation.TheVariants as p
+use Rattle.wb_text_predictive.specs.declared.symbol.Symbol.TheVariants.{Token, Nonterminal, Act}
+use Rattle.wb_text_tokens.specs.declared.word.Word.TheVariants as word
+use Rattle.wb_text_tokens.specs.declared.punctuation.Punctuation.TheVariants as p
 use Rattle.wb_syntax.specs.Expression.{Node}
-use Rattle.wb_expressions.specs.declared.node.Node.TheVariants as n
+use Rattle.wb_syntax_expressions.specs.declared.node.Node.TheVariants as n
 use Rattle.wb_syntax.specs.Tokens.{Lexeme, IsMark, IsName}
 use Rattle.wb_syntax.specs.Expression.{Expression, Expressions}
-use Rattle.wb_expressions.specs.Expression.{Label, Read, Lexeme as LexemeOf, Build, none, more, size, nodes_from, all_nodes_from}
-use Rattle.wb_expressions.specs.Expression.{places_from}
+use Rattle.wb_syntax_expressions.specs.Expression.{Label, Read, Lexeme as LexemeOf, Build, none, more, size, nodes_from, all_nodes_from}
+use Rattle.wb_syntax_expressions.specs.Expression.{places_from}
 use Rattle.wb_syntax.specs.ExpressionGrammar as grammar
 use Rattle.wb_syntax.specs.ExpressionGrammar.{IsExpression, AreArguments, AreFurther}
-use Rattle.wb_tokens.specs.declared.kind.TokenKind.TheVariants as kind
+use Rattle.wb_text_tokens.specs.declared.kind.TokenKind.TheVariants as kind
 use Rattle.wb_reader.specs.declared.part.Part.{Part}
-use Rattle.wb_builder.specs.declared.actions.Action.{Action}
-use Rattle.wb_builder.specs.declared.expressions.ExpressionAction.{ExpressionAction}
-use Rattle.wb_builder.specs.declared.builder.SpecBuilder.{SpecBuilder}
+use Rattle.wb_reader_builder.specs.declared.actions.Action.{Action}
+use Rattle.wb_reader_builder.specs.declared.expressions.ExpressionAction.{ExpressionAction}
+use Rattle.wb_reader_builder.specs.declared.builder.SpecBuilder.{SpecBuilder}
 use Rattle.wb_reader.specs.Inner.RightSides.{right_sides}
-use Rattle.wb_builder.specs.Builder.{with_name}
+use Rattle.wb_reader_builder.specs.Builder.{with_name}
 use Rattle.wb_reader.proofs.Taking.{Row, Makes, Split, OneOf, chosen, acted, word_taken, mark_taken, name_taken}
-use Rattle.wb_expressions.proofs.AppendLemmas.{all_behind_len, more_nodes, more_places}
+use Rattle.wb_syntax_expressions.proofs.AppendLemmas.{all_behind_len, more_nodes, more_places}
 use Rattle.wb_lemmas.proofs.Parts.{joined, joined_one}
 
 -- the parts with these nodes at the top

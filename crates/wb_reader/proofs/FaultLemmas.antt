@@ -1,21 +1,21 @@
 -- The bytes before a first error begin some specification's text: its completion has a text.
 use Rattle.std.proofs.Common.{◌≡◌, ℕ, ◌≤◌, List, ◌++◌, length, get_or, take, drop, refl, sym, ap, ◌∙◌, subst, arith, length-take}
 use Rattle.std.proofs.lemmas.List.{take-append-drop, get_or_at}
-use Rattle.wb_predictive.specs.declared.table.Next.{Next}
-use Rattle.wb_predictive.specs.declared.table.Next.TheVariants.{Found, End, NoToken}
-use Rattle.wb_predictive.specs.Reading.{Spells, place_of}
-use Rattle.wb_predictive.proofs.ByKind.{same_before, derives_kinds}
-use Rattle.wb_predictive.proofs.Readings.{spells_append}
-use Rattle.wb_tokens.specs.Kinds.{kind_of}
-use Rattle.wb_tokens.specs.NextToken.{IsNextIn}
-use Rattle.wb_tokens.specs.Skipping.{SkipsLayout}
-use Rattle.wb_tokens.specs.declared.token.Layout.TheVariants.{WithComments}
-use Rattle.wb_tokens.specs.declared.token.Token.{Token}
-use Rattle.wb_tokens.proofs.AgreementLemmas.{EndsLine, kept_layout, kept_tokens}
-use Rattle.wb_tokens.proofs.LinesLemmas.{first_line, lines_read}
-use Rattle.wb_tokens.proofs.PlacedLaws.{layout_forward}
-use Rattle.wb_tokens.proofs.SampleLemmas.{samples, lines_of, lines_sampled, lines_bytes, samples_kinds}
-use Rattle.wb_builder.specs.Builder.{empty}
+use Rattle.wb_text_predictive.specs.declared.table.Next.{Next}
+use Rattle.wb_text_predictive.specs.declared.table.Next.TheVariants.{Found, End, NoToken}
+use Rattle.wb_text_predictive.specs.Reading.{Spells, place_of}
+use Rattle.wb_text_predictive.proofs.ByKind.{same_before, derives_kinds}
+use Rattle.wb_text_predictive.proofs.Readings.{spells_append}
+use Rattle.wb_text_tokens.specs.Kinds.{kind_of}
+use Rattle.wb_text_tokens.specs.NextToken.{IsNextIn}
+use Rattle.wb_text_tokens.specs.Skipping.{SkipsLayout}
+use Rattle.wb_text_tokens.specs.declared.token.Layout.TheVariants.{WithComments}
+use Rattle.wb_text_tokens.specs.declared.token.Token.{Token}
+use Rattle.wb_text_tokens.proofs.AgreementLemmas.{EndsLine, kept_layout, kept_tokens}
+use Rattle.wb_text_tokens.proofs.LinesLemmas.{first_line, lines_read}
+use Rattle.wb_text_tokens.proofs.PlacedLaws.{layout_forward}
+use Rattle.wb_text_tokens.proofs.SampleLemmas.{samples, lines_of, lines_sampled, lines_bytes, samples_kinds}
+use Rattle.wb_reader_builder.specs.Builder.{empty}
 use Rattle.wb_reader.specs.Inner.Table.{spec_grammar}
 use Rattle.wb_reader.specs.Refusals.{IsSyntaxFault}
 use Rattle.wb_reader.specs.FirstFault.{BeginsText}

@@ -1,19 +1,19 @@
 -- Fields, one after another: the row of their symbols, what it reads, and what reading it makes of the parts.
 use Rattle.std.proofs.Common.{◌≡◌, ℕ, List, [], ◌∷◌, ◌++◌, refl, sym, ap, ◌∙◌, subst, Option}
 use Rattle.std.proofs.lemmas.List.{append_assoc}
-use Rattle.wb_predictive.specs.declared.symbol.Symbol.{Symbol}
-use Rattle.wb_predictive.specs.declared.symbol.Symbol.TheVariants.{Token, Nonterminal}
-use Rattle.wb_tokens.specs.declared.kind.TokenKind.{TokenKind}
-use Rattle.wb_tokens.specs.declared.kind.TokenKind.TheVariants as kind
+use Rattle.wb_text_predictive.specs.declared.symbol.Symbol.{Symbol}
+use Rattle.wb_text_predictive.specs.declared.symbol.Symbol.TheVariants.{Token, Nonterminal}
+use Rattle.wb_text_tokens.specs.declared.kind.TokenKind.{TokenKind}
+use Rattle.wb_text_tokens.specs.declared.kind.TokenKind.TheVariants as kind
 use Rattle.wb_syntax.specs.declared.production.NamedKind.{NamedKind}
 use Rattle.wb_syntax.specs.Tokens.{Lexeme}
 use Rattle.wb_syntax.specs.Fields.{Field, AreFields, no_field, then_word, then_mark, then_name, then_kind, then_needs, then_optional_needs}
 use Rattle.wb_syntax.specs.Fields as field
-use Rattle.wb_builder.specs.declared.actions.Action.{Action}
-use Rattle.wb_builder.specs.declared.builder.SpecBuilder.{SpecBuilder}
-use Rattle.wb_builder.specs.Builder.{with_name}
-use Rattle.wb_builder.specs.Items.{word_shift}
-use Rattle.wb_builder.specs.Parts.{with_kind}
+use Rattle.wb_reader_builder.specs.declared.actions.Action.{Action}
+use Rattle.wb_reader_builder.specs.declared.builder.SpecBuilder.{SpecBuilder}
+use Rattle.wb_reader_builder.specs.Builder.{with_name}
+use Rattle.wb_reader_builder.specs.Items.{word_shift}
+use Rattle.wb_reader_builder.specs.Parts.{with_kind}
 use Rattle.wb_reader.specs.declared.part.Part.{Part}
 use Rattle.wb_reader.proofs.Taking.{Row, Makes, word_taken, mark_taken, name_taken}
 use Rattle.wb_reader.proofs.Giving.{word_given, mark_given, name_given}

@@ -1,15 +1,15 @@
 -- How the table's grammar derives tokens and right sides.
 use Rattle.std.proofs.Common.{ℕ, ℤ, List, ◌∷◌, refl, sym, ap, subst}
-use Rattle.wb_predictive.specs.declared.symbol.Symbol.TheVariants.{Token}
-use Rattle.wb_predictive.specs.Grammar.{token}
-use Rattle.wb_tokens.specs.declared.word.Word.{Word}
-use Rattle.wb_tokens.specs.declared.punctuation.Punctuation.{Punctuation}
+use Rattle.wb_text_predictive.specs.declared.symbol.Symbol.TheVariants.{Token}
+use Rattle.wb_text_predictive.specs.Grammar.{token}
+use Rattle.wb_text_tokens.specs.declared.word.Word.{Word}
+use Rattle.wb_text_tokens.specs.declared.punctuation.Punctuation.{Punctuation}
 use Rattle.wb_syntax.specs.Tokens.{Lexeme, IsWord, IsMark, IsName, IsInt, IsString, IsRegex}
-use Rattle.wb_tokens.specs.declared.kind.TokenKind.TheVariants as kind
-use Rattle.wb_builder.specs.declared.builder.SpecBuilder.{SpecBuilder}
-use Rattle.wb_tokens.specs.Kinds.{kind_of, integer_kind}
-use Rattle.wb_builder.specs.Builder.{with_name, with_integer, with_text, with_pattern}
-use Rattle.wb_builder.specs.Items.{word_shift}
+use Rattle.wb_text_tokens.specs.declared.kind.TokenKind.TheVariants as kind
+use Rattle.wb_reader_builder.specs.declared.builder.SpecBuilder.{SpecBuilder}
+use Rattle.wb_text_tokens.specs.Kinds.{kind_of, integer_kind}
+use Rattle.wb_reader_builder.specs.Builder.{with_name, with_integer, with_text, with_pattern}
+use Rattle.wb_reader_builder.specs.Items.{word_shift}
 use Rattle.wb_reader.specs.Inner.Table.{shift}
 use Rattle.wb_reader.proofs.Taking.{Row, Makes}
 

@@ -3,18 +3,18 @@ use Rattle.std.proofs.Common.{◌≡◌, ℕ, ◌<◌, ◌≤◌, List, [], ◌�
 use Rattle.std.proofs.Common.{length-append, append_assoc, get_or, refl, inl, inr, ⊎_elim, ◌+◌}
 use Rattle.std.proofs.lemmas.Bool.{cases_lt}
 use Rattle.std.proofs.lemmas.List.{take-append-drop, get_or_at}
-use Rattle.wb_predictive.specs.declared.table.Next.{Next}
-use Rattle.wb_predictive.specs.declared.table.Next.TheVariants.{Found, End, NoToken}
-use Rattle.wb_predictive.specs.Reading.{Spells, none, next, place_of}
-use Rattle.wb_tokens.specs.NextToken.{IsTokenAt, NextToken, IsNoToken, IsNextIn, GoesOver}
-use Rattle.wb_tokens.specs.Skipping.{IsLayoutPiece, blank, comment, SkipsLayout, stop, skip}
-use Rattle.wb_tokens.specs.declared.token.Layout.TheVariants.{WithComments}
-use Rattle.wb_tokens.specs.declared.token.Token.{Token}
-use Rattle.wb_tokens.proofs.AgreementLemmas.{EndsLine, kept_piece, kept_token, stops, passed}
-use Rattle.wb_tokens.proofs.CallerLemmas.{token_only}
-use Rattle.wb_tokens.proofs.LineFeedLemmas.{crosses_none}
-use Rattle.wb_tokens.proofs.OverLemmas.{same_or_over, no_end, GoesOn, begun_before, same_tokens, none_over}
-use Rattle.wb_tokens.proofs.PlacedLaws.{layout_forward}
+use Rattle.wb_text_predictive.specs.declared.table.Next.{Next}
+use Rattle.wb_text_predictive.specs.declared.table.Next.TheVariants.{Found, End, NoToken}
+use Rattle.wb_text_predictive.specs.Reading.{Spells, none, next, place_of}
+use Rattle.wb_text_tokens.specs.NextToken.{IsTokenAt, NextToken, IsNoToken, IsNextIn, GoesOver}
+use Rattle.wb_text_tokens.specs.Skipping.{IsLayoutPiece, blank, comment, SkipsLayout, stop, skip}
+use Rattle.wb_text_tokens.specs.declared.token.Layout.TheVariants.{WithComments}
+use Rattle.wb_text_tokens.specs.declared.token.Token.{Token}
+use Rattle.wb_text_tokens.proofs.AgreementLemmas.{EndsLine, kept_piece, kept_token, stops, passed}
+use Rattle.wb_text_tokens.proofs.CallerLemmas.{token_only}
+use Rattle.wb_text_tokens.proofs.LineFeedLemmas.{crosses_none}
+use Rattle.wb_text_tokens.proofs.OverLemmas.{same_or_over, no_end, GoesOn, begun_before, same_tokens, none_over}
+use Rattle.wb_text_tokens.proofs.PlacedLaws.{layout_forward}
 use Rattle.wb_syntax.specs.declared.written.WrittenSpec.{WrittenSpec}
 use Rattle.wb_syntax.specs.Tokens.{Lexeme}
 use Rattle.wb_syntax.specs.ItemGrammar.{IsSpecification}

@@ -1,21 +1,21 @@
 -- Bytes have one outcome as a specification.
 use Rattle.std.proofs.Common.{◌≡◌, ℕ, List, sym, ap, ◌∙◌, subst}
-use Rattle.wb_predictive.specs.declared.reading.Outcome.{Outcome}
-use Rattle.wb_predictive.specs.declared.reading.Outcome.TheVariants.{Whole, Stopped}
-use Rattle.wb_predictive.specs.Reading.{IsOutcome}
-use Rattle.wb_predictive.proofs.CallerLemmas.{one_outcome}
-use Rattle.wb_tokens.specs.declared.token.Layout.TheVariants.{WithComments}
-use Rattle.wb_tokens.specs.NextToken.{IsNextIn}
-use Rattle.wb_tokens.proofs.PlacedLaws.{one_next}
+use Rattle.wb_text_predictive.specs.declared.reading.Outcome.{Outcome}
+use Rattle.wb_text_predictive.specs.declared.reading.Outcome.TheVariants.{Whole, Stopped}
+use Rattle.wb_text_predictive.specs.Reading.{IsOutcome}
+use Rattle.wb_text_predictive.proofs.CallerLemmas.{one_outcome}
+use Rattle.wb_text_tokens.specs.declared.token.Layout.TheVariants.{WithComments}
+use Rattle.wb_text_tokens.specs.NextToken.{IsNextIn}
+use Rattle.wb_text_tokens.proofs.PlacedLaws.{one_next}
 use Rattle.wb_syntax.specs.declared.written.WrittenSpec.{WrittenSpec}
 use Rattle.wb_syntax.specs.SpecText.{SpecView, IsWrittenText, IsSpecText, IsReadSpec}
-use Rattle.wb_tokens.specs.declared.kind.TokenKind.TheVariants.{End}
-use Rattle.wb_tokens.specs.Inner.SameKind.{same_kind}
-use Rattle.wb_tokens.proofs.KindLaws.{kinds_same}
-use Rattle.wb_builder.specs.declared.builder.SpecBuilder.{SpecBuilder}
+use Rattle.wb_text_tokens.specs.declared.kind.TokenKind.TheVariants.{End}
+use Rattle.wb_text_tokens.specs.Inner.SameKind.{same_kind}
+use Rattle.wb_text_tokens.proofs.KindLaws.{kinds_same}
+use Rattle.wb_reader_builder.specs.declared.builder.SpecBuilder.{SpecBuilder}
 use Rattle.wb_reader.specs.Inner.LookaheadTable.{lookahead_table}
 use Rattle.wb_reader.specs.Inner.Laws.{spec_decided, spec_ends}
-use Rattle.wb_builder.specs.Builder.{empty, written_of}
+use Rattle.wb_reader_builder.specs.Builder.{empty, written_of}
 use Rattle.wb_reader.specs.Inner.Table.{spec_grammar}
 use Rattle.wb_reader.specs.Refusals.{IsSyntaxFault}
 use Rattle.wb_reader.proofs.ItemSound.{finished}

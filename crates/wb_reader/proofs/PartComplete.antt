@@ -1,19 +1,19 @@
 -- Kinds, flow types and children of the grammar of specifications are derived by the table's grammar.
 use Rattle.std.proofs.Common.{◌≡◌, ℕ, List, [], ◌∷◌, ◌++◌, refl, sym, ap, ◌∙◌, subst, Option}
 use Rattle.std.proofs.lemmas.List.{append_assoc, append-nil}
-use Rattle.wb_predictive.specs.declared.symbol.Symbol.TheVariants.{Nonterminal}
-use Rattle.wb_predictive.specs.Grammar.{expand, act as acts}
-use Rattle.wb_tokens.specs.declared.word.Word.TheVariants as word
-use Rattle.wb_tokens.specs.declared.punctuation.Punctuation.TheVariants as p
+use Rattle.wb_text_predictive.specs.declared.symbol.Symbol.TheVariants.{Nonterminal}
+use Rattle.wb_text_predictive.specs.Grammar.{expand, act as acts}
+use Rattle.wb_text_tokens.specs.declared.word.Word.TheVariants as word
+use Rattle.wb_text_tokens.specs.declared.punctuation.Punctuation.TheVariants as p
 use Rattle.wb_syntax.specs.declared.production.NamedKind.{NamedKind}
 use Rattle.wb_syntax.specs.declared.production.Child.{Child}
 use Rattle.wb_syntax.specs.Tokens.{Lexeme}
 use Rattle.wb_syntax.specs.PartGrammar as grammar
 use Rattle.wb_syntax.specs.PartGrammar.{IsKind, AreFurtherNames, AreNames, AreNeeds, AreOptionalNeeds, AreChildren}
 use Rattle.wb_reader.specs.declared.part.Part.{Part}
-use Rattle.wb_builder.specs.declared.builder.SpecBuilder.{SpecBuilder}
+use Rattle.wb_reader_builder.specs.declared.builder.SpecBuilder.{SpecBuilder}
 use Rattle.wb_reader.specs.Inner.RightSides.{right_sides}
-use Rattle.wb_builder.specs.Parts.{with_kind}
+use Rattle.wb_reader_builder.specs.Parts.{with_kind}
 use Rattle.wb_reader.proofs.Taking.{Row, Makes}
 use Rattle.wb_reader.proofs.Giving.{word_given, mark_given, name_given}
 

@@ -5,12 +5,12 @@ use Rattle.std.specs.Result.{IsErrAnd}
 use Rattle.std.proofs.lemmas.List.{length-append, length-take, length-drop}
 use Rattle.std.specs.Prelude.{drop, ◌-◌, min}
 use Rattle.std.proofs.lemmas.List.Elements.{All-nil, All-cons}
-use Rattle.wb_predictive.specs.Reading.{Spells, next}
-use Rattle.wb_tokens.specs.declared.token.Layout.TheVariants.{WithComments}
-use Rattle.wb_tokens.specs.declared.token.Token.TheVariants as t
-use Rattle.wb_tokens.specs.NextToken.{NextToken}
-use Rattle.wb_tokens.specs.Spelling.{Spells as SpellsToken}
-use Rattle.wb_tokens.specs.NextToken.{IsNextIn}
+use Rattle.wb_text_predictive.specs.Reading.{Spells, next}
+use Rattle.wb_text_tokens.specs.declared.token.Layout.TheVariants.{WithComments}
+use Rattle.wb_text_tokens.specs.declared.token.Token.TheVariants as t
+use Rattle.wb_text_tokens.specs.NextToken.{NextToken}
+use Rattle.wb_text_tokens.specs.Spelling.{Spells as SpellsToken}
+use Rattle.wb_text_tokens.specs.NextToken.{IsNextIn}
 use Rattle.wb_regex.proofs.CallerLemmas.{one}
 use Rattle.wb_syntax.specs.declared.item.Item.{Item}
 use Rattle.wb_syntax.specs.declared.item.ItemForm.{ItemForm}

@@ -1,7 +1,7 @@
 -- Items of names alone: each has a right side of its fields, whose action makes it of what the fields hold.
 use Rattle.std.proofs.Common.{◌≡◌, ℕ, List, [], ◌∷◌, ◌++◌, inl, inr, refl, sym, ap, ◌∙◌, subst, length, arith, Some, None, slice_get}
-use Rattle.wb_predictive.specs.declared.symbol.Symbol.TheVariants.{Nonterminal, Act}
-use Rattle.wb_predictive.specs.Grammar.{expand, act as acts}
+use Rattle.wb_text_predictive.specs.declared.symbol.Symbol.TheVariants.{Nonterminal, Act}
+use Rattle.wb_text_predictive.specs.Grammar.{expand, act as acts}
 use Rattle.wb_syntax.specs.declared.item.Item.{Item}
 use Rattle.wb_syntax.specs.declared.item.ItemForm.TheVariants as form
 use Rattle.wb_syntax.specs.declared.item.PlainForm.{PlainForm}
@@ -11,10 +11,10 @@ use Rattle.wb_syntax.specs.declared.production.NamedKind.TheVariants as k
 use Rattle.wb_syntax.specs.Tokens.{Lexeme}
 use Rattle.wb_syntax.specs.Fields.{AreFields}
 use Rattle.wb_syntax.specs.ItemGrammar.{IsItem, IsPlain, plain_fields, plain as is_plain}
-use Rattle.wb_builder.specs.declared.actions.Action.{Action}
-use Rattle.wb_builder.specs.declared.items.ItemAction.{ItemAction}
-use Rattle.wb_builder.specs.declared.builder.SpecBuilder.{SpecBuilder}
-use Rattle.wb_builder.specs.Items.{item_act}
+use Rattle.wb_reader_builder.specs.declared.actions.Action.{Action}
+use Rattle.wb_reader_builder.specs.declared.items.ItemAction.{ItemAction}
+use Rattle.wb_reader_builder.specs.declared.builder.SpecBuilder.{SpecBuilder}
+use Rattle.wb_reader_builder.specs.Items.{item_act}
 use Rattle.wb_reader.specs.declared.part.Part.{Part}
 use Rattle.wb_reader.specs.Inner.RightSides.{right_sides}
 use Rattle.wb_reader.specs.Inner.ItemRules.{plain_right_sides}

@@ -1,22 +1,23 @@
 -- How the table's grammar takes tokens, chooses right sides and acts.
 use Rattle.std.proofs.Common.{◌≡◌, ℕ, ℤ, zero, suc, pos, List, [], ◌∷◌, ◌++◌, ◌⊎◌, inl, inr, sym, subst, Some, slice_get}
-use Rattle.wb_predictive.specs.declared.symbol.Symbol.{Symbol}
-use Rattle.wb_predictive.specs.declared.symbol.Symbol.TheVariants.{Token, Nonterminal, Act}
-use Rattle.wb_predictive.specs.Grammar.{Derives, token, expand, act as acts}
-use Rattle.wb_tokens.specs.declared.word.Word.{Word}
-use Rattle.wb_tokens.specs.declared.punctuation.Punctuation.{Punctuation}
+use Rattle.wb_text_predictive.specs.declared.symbol.Symbol.{Symbol}
+use Rattle.wb_text_predictive.specs.declared.symbol.Symbol.TheVariants.{Token, Nonterminal, Act}
+use Rattle.wb_text_predictive.specs.Grammar.{Derives, token, expand, act as acts}
+use Rattle.wb_text_tokens.specs.declared.word.Word.{Word}
+use Rattle.wb_text_tokens.specs.declared.punctuation.Punctuation.{Punctuation}
 use Rattle.wb_syntax.specs.Tokens.{Lexeme, IsWord, IsMark, IsName, IsInt, IsString, IsRegex}
-use Rattle.wb_tokens.specs.declared.kind.TokenKind.{TokenKind}
-use Rattle.wb_tokens.specs.declared.kind.TokenKind.TheVariants as kind
+use Rattle.wb_text_tokens.specs.declared.kind.TokenKind.{TokenKind}
+use Rattle.wb_text_tokens.specs.declared.kind.TokenKind.TheVariants as kind
 use Rattle.wb_reader.specs.declared.part.Part.{Part}
-use Rattle.wb_builder.specs.declared.actions.Action.{Action}
-use Rattle.wb_builder.specs.declared.builder.SpecBuilder.{SpecBuilder}
-use Rattle.wb_tokens.specs.Kinds.{kind_of}
-use Rattle.wb_tokens.proofs.KindLaws.{word_by_kind, mark_by_kind, name_by_kind, number_by_kind, one_by_kind, string_by_kind, regex_by_kind}
+use Rattle.wb_reader_builder.specs.declared.actions.Action.{Action}
+use Rattle.wb_reader_builder.specs.declared.builder.SpecBuilder.{SpecBuilder}
+use Rattle.wb_text_tokens.specs.Kinds.{kind_of}
+use Rattle.wb_text_tokens.proofs.KindLaws.{word_by_kind, mark_by_kind, name_by_kind, number_by_kind, one_by_kind, string_by_kind}
+use Rattle.wb_text_tokens.proofs.KindLaws.{regex_by_kind}
 use Rattle.wb_reader.specs.Inner.RightSides.{right_sides}
-use Rattle.wb_builder.specs.Builder.{with_name, with_integer, with_text, with_pattern}
-use Rattle.wb_builder.specs.Items.{word_shift}
-use Rattle.wb_builder.specs.Actions.{act}
+use Rattle.wb_reader_builder.specs.Builder.{with_name, with_integer, with_text, with_pattern}
+use Rattle.wb_reader_builder.specs.Items.{word_shift}
+use Rattle.wb_reader_builder.specs.Actions.{act}
 use Rattle.wb_reader.specs.Inner.Table.{spec_grammar, shift}
 
 -- a row of symbols

@@ -1,23 +1,23 @@
 -- What the table's outcomes say of bytes as specifications.
 use Rattle.std.proofs.Common.{◌≡◌, ℕ, List, [], ◌∷◌, ◌++◌, refl, sym, ap, ◌∙◌, subst}
 use Rattle.std.proofs.lemmas.List.{append-nil}
-use Rattle.wb_predictive.specs.declared.table.Next.{Next}
-use Rattle.wb_predictive.specs.declared.table.Next.TheVariants.{Found, End, NoToken}
-use Rattle.wb_predictive.specs.declared.symbol.Symbol.TheVariants.{Nonterminal}
-use Rattle.wb_predictive.specs.Grammar.{done, CanStart as CanStartTable}
-use Rattle.wb_predictive.specs.declared.reading.Outcome.{Outcome}
-use Rattle.wb_predictive.specs.declared.reading.Outcome.TheVariants.{Whole, Stopped}
-use Rattle.wb_predictive.specs.Reading.{IsOutcome, IsReading, IsFirstFault as IsTableFault, CannotFollow as CannotFollowTable}
-use Rattle.wb_tokens.specs.declared.token.Layout.TheVariants.{WithComments}
-use Rattle.wb_tokens.specs.declared.token.Token.{Token}
-use Rattle.wb_tokens.specs.NextToken.{IsNextIn}
+use Rattle.wb_text_predictive.specs.declared.table.Next.{Next}
+use Rattle.wb_text_predictive.specs.declared.table.Next.TheVariants.{Found, End, NoToken}
+use Rattle.wb_text_predictive.specs.declared.symbol.Symbol.TheVariants.{Nonterminal}
+use Rattle.wb_text_predictive.specs.Grammar.{done, CanStart as CanStartTable}
+use Rattle.wb_text_predictive.specs.declared.reading.Outcome.{Outcome}
+use Rattle.wb_text_predictive.specs.declared.reading.Outcome.TheVariants.{Whole, Stopped}
+use Rattle.wb_text_predictive.specs.Reading.{IsOutcome, IsReading, IsFirstFault as IsTableFault, CannotFollow as CannotFollowTable}
+use Rattle.wb_text_tokens.specs.declared.token.Layout.TheVariants.{WithComments}
+use Rattle.wb_text_tokens.specs.declared.token.Token.{Token}
+use Rattle.wb_text_tokens.specs.NextToken.{IsNextIn}
 use Rattle.wb_syntax.specs.declared.written.WrittenSpec.{WrittenSpec}
 use Rattle.wb_syntax.specs.Tokens.{Lexeme}
 use Rattle.wb_syntax.specs.ItemGrammar.{IsSpecification, whole}
 use Rattle.wb_syntax.specs.SpecText.{IsWrittenText}
 use Rattle.wb_reader.specs.declared.part.Part.{Part}
-use Rattle.wb_builder.specs.declared.builder.SpecBuilder.{SpecBuilder}
-use Rattle.wb_builder.specs.Builder.{empty, written_of}
+use Rattle.wb_reader_builder.specs.declared.builder.SpecBuilder.{SpecBuilder}
+use Rattle.wb_reader_builder.specs.Builder.{empty, written_of}
 use Rattle.wb_reader.specs.Inner.Table.{spec_grammar}
 use Rattle.wb_reader.specs.Refusals.{CanBegin, CannotFollow, IsSyntaxFault}
 use Rattle.wb_reader.proofs.Taking.{Makes, Row}

@@ -2,25 +2,25 @@
 use Rattle.std.proofs.Common.{◌≡◌, ◌<◌, ◌+◌, ◌-◌, ℕ, zero, suc, List, [], ◌∷◌, ◌++◌, inl, inr, refl, sym, ap, ◌∙◌, subst, length, arith}
 use Rattle.std.proofs.Common.{true, false, pos}
 use Rattle.std.proofs.lemmas.List.{append_assoc, length-append}
-use Rattle.wb_predictive.specs.declared.symbol.Symbol.TheVariants.{Token, Nonterminal, Act}
-use Rattle.wb_tokens.specs.declared.word.Word.TheVariants as word
-use Rattle.wb_tokens.specs.declared.punctuation.Punctuation.TheVariants as p
+use Rattle.wb_text_predictive.specs.declared.symbol.Symbol.TheVariants.{Token, Nonterminal, Act}
+use Rattle.wb_text_tokens.specs.declared.word.Word.TheVariants as word
+use Rattle.wb_text_tokens.specs.declared.punctuation.Punctuation.TheVariants as p
 use Rattle.wb_syntax.specs.Expression.{Node}
-use Rattle.wb_expressions.specs.declared.node.Node.TheVariants as n
+use Rattle.wb_syntax_expressions.specs.declared.node.Node.TheVariants as n
 use Rattle.wb_syntax.specs.Tokens.{Lexeme, IsInt, IsWord}
-use Rattle.wb_expressions.specs.Expression.{Int, Text, Truth, Top, Forward, Call, If, size, nodes_from, all_nodes_from, places_from}
+use Rattle.wb_syntax_expressions.specs.Expression.{Int, Text, Truth, Top, Forward, Call, If, size, nodes_from, all_nodes_from, places_from}
 use Rattle.wb_syntax.specs.ExpressionGrammar as grammar
 use Rattle.wb_syntax.specs.ExpressionGrammar.{IsExpression}
-use Rattle.wb_tokens.specs.declared.kind.TokenKind.TheVariants as kind
+use Rattle.wb_text_tokens.specs.declared.kind.TokenKind.TheVariants as kind
 use Rattle.wb_reader.specs.declared.part.Part.{Part}
-use Rattle.wb_builder.specs.declared.actions.Action.{Action}
-use Rattle.wb_builder.specs.declared.expressions.ExpressionAction.{ExpressionAction}
-use Rattle.wb_builder.specs.declared.builder.SpecBuilder.{SpecBuilder}
+use Rattle.wb_reader_builder.specs.declared.actions.Action.{Action}
+use Rattle.wb_reader_builder.specs.declared.expressions.ExpressionAction.{ExpressionAction}
+use Rattle.wb_reader_builder.specs.declared.builder.SpecBuilder.{SpecBuilder}
 use Rattle.wb_reader.specs.Inner.RightSides.{right_sides}
-use Rattle.wb_builder.specs.Builder.{with_name, with_integer}
+use Rattle.wb_reader_builder.specs.Builder.{with_name, with_integer}
 use Rattle.wb_reader.proofs.Taking.{Row, Makes, Split, OneOf, chosen, acted, word_taken, mark_taken, name_taken, number_taken, one_taken}
 use Rattle.wb_reader.proofs.Taking.{string_taken}
-use Rattle.wb_expressions.proofs.AppendLemmas.{all_behind_len, if_nodes, if_root}
+use Rattle.wb_syntax_expressions.proofs.AppendLemmas.{all_behind_len, if_nodes, if_root}
 use Rattle.wb_reader.proofs.ExpressionSound.{begun, grown, ExpressionBelow, rooted, arguments_of_rows, tail_of_rows}
 use Rattle.wb_lemmas.proofs.Parts.{joined_one}
 

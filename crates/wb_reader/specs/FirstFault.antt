@@ -1,8 +1,8 @@
 -- What the place of a first error says of bytes.
 use Rattle.std.specs.Prelude.{◌≡◌, ◌≤◌, ◌<◌, ◌⊎◌, ℕ, List, [], ◌∷◌, ◌++◌, All, length, slice_index, take}
-use Rattle.wb_tokens.specs.declared.token.Token.{Token}
-use Rattle.wb_tokens.specs.NextToken.{IsTokenAt, GoesOver}
-use Rattle.wb_tokens.specs.Skipping.{IsComment}
+use Rattle.wb_text_tokens.specs.declared.token.Token.{Token}
+use Rattle.wb_text_tokens.specs.NextToken.{IsTokenAt, GoesOver}
+use Rattle.wb_text_tokens.specs.Skipping.{IsComment}
 use Rattle.wb_syntax.specs.declared.written.WrittenSpec.{WrittenSpec}
 use Rattle.wb_syntax.specs.SpecText.{IsWrittenText}
 use Rattle.wb_reader.specs.declared.refusal.SpecRefusal.TheVariants.{Syntax}

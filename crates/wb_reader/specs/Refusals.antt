@@ -1,14 +1,14 @@
 -- Why bytes are no specification that is taken.
 use Rattle.std.specs.Prelude.{◌≡◌, ◌≢◌, ◌≤◌, ◌<◌, ◌+◌, ℕ, ℤ, pos, List, [], ◌∷◌, ◌++◌, All, length}
-use Rattle.wb_predictive.specs.declared.table.Next.{Next}
-use Rattle.wb_predictive.specs.declared.table.Next.TheVariants.{Found, End, NoToken}
-use Rattle.wb_predictive.specs.Reading.{Spells, place_of}
-use Rattle.wb_tokens.specs.declared.token.Layout.TheVariants.{WithComments}
-use Rattle.wb_tokens.specs.declared.token.Token.{Token}
-use Rattle.wb_tokens.specs.declared.token.Token.TheVariants as t
-use Rattle.wb_tokens.specs.declared.word.Word.TheVariants as w
-use Rattle.wb_tokens.specs.declared.punctuation.Punctuation.TheVariants as p
-use Rattle.wb_tokens.specs.NextToken.{IsNextIn}
+use Rattle.wb_text_predictive.specs.declared.table.Next.{Next}
+use Rattle.wb_text_predictive.specs.declared.table.Next.TheVariants.{Found, End, NoToken}
+use Rattle.wb_text_predictive.specs.Reading.{Spells, place_of}
+use Rattle.wb_text_tokens.specs.declared.token.Layout.TheVariants.{WithComments}
+use Rattle.wb_text_tokens.specs.declared.token.Token.{Token}
+use Rattle.wb_text_tokens.specs.declared.token.Token.TheVariants as t
+use Rattle.wb_text_tokens.specs.declared.word.Word.TheVariants as w
+use Rattle.wb_text_tokens.specs.declared.punctuation.Punctuation.TheVariants as p
+use Rattle.wb_text_tokens.specs.NextToken.{IsNextIn}
 use Rattle.wb_regex.specs.Text.{IsFirstFault}
 use Rattle.wb_regex.specs.Answer.{IsEmptyRegex}
 use Rattle.wb_syntax.specs.declared.pattern.Role.{Role}

@@ -3,15 +3,15 @@
 //! It does by its first three tokens, whatever comes after. Each is let go before the next is read.
 
 ghost use Rattle.std.specs.Prelude.{◌≡◌, ◌≤◌, ◌↔◌, IfOk, IsTrue, length, MatchOption};
-ghost use Rattle.wb_tokens.specs.declared.token.Token.TheVariants as t;
-ghost use Rattle.wb_tokens.specs.declared.word.Word.TheVariants as w;
-ghost use Rattle.wb_tokens.specs.declared.punctuation.Punctuation.TheVariants as p;
+ghost use Rattle.wb_text_tokens.specs.declared.token.Token.TheVariants as t;
+ghost use Rattle.wb_text_tokens.specs.declared.word.Word.TheVariants as w;
+ghost use Rattle.wb_text_tokens.specs.declared.punctuation.Punctuation.TheVariants as p;
 ghost use Rattle.wb_reader.specs.Refusals.{IsOtherNumber, IsOtherFormat};
 ghost use Rattle.wb_reader.specs.Inner.Format.{IsWanted, IsEndWhere, IsNextEnd};
 
 use std::alloc::{AllocError, Global};
-use wb_predictive::{Next, Placed};
-use wb_tokens::{Layout, Punctuation, Token, Word, next_token};
+use wb_text_predictive::{Next, Placed};
+use wb_text_tokens::{Layout, Punctuation, Token, Word, next_token};
 
 // What the three tokens are, in their order.
 #[derive(Clone, Copy)]

@@ -15,11 +15,11 @@
 //! ```
 
 use crate::part::{Part, SpecRule};
-use wb_builder::{Action, ItemAction};
-use wb_predictive::Rule;
-use wb_predictive::Symbol::{Act, Nonterminal, Token};
+use wb_reader_builder::{Action, ItemAction};
 use wb_syntax::{ProductionRole, Role};
-use wb_tokens::{Punctuation, TokenKind, Word};
+use wb_text_predictive::Rule;
+use wb_text_predictive::Symbol::{Act, Nonterminal, Token};
+use wb_text_tokens::{Punctuation, TokenKind, Word};
 
 pub(crate) static FILE: [SpecRule; 1] = [Rule {
     kinds: &[TokenKind::Word(Word::Format)],

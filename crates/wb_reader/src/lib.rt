@@ -1,7 +1,7 @@
 //! Reads bytes as a specification, or says why they aren't one.
 //!
 //! A table decides by one token of lookahead, so nothing recurses; regular expressions are read after all else. What is read so far is
-//! in `wb_builder`, what a specification is in `wb_syntax`.
+//! in `wb_reader_builder`, what a specification is in `wb_syntax`.
 #![tactic(auto)]
 
 mod expression_rules;
@@ -21,3 +21,4 @@ pub use first_fault::first_fault_law;
 pub use laws::one_answer_law;
 pub use refusal::SpecRefusal;
 pub use spec::read_spec;
+pub use wb_reader_printer::print_spec;

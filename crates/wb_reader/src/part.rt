@@ -1,10 +1,10 @@
 //! What are the nonterminals of the grammar of specifications?
 //!
-//! Their rules are in `item_rules`, `part_rules` and `expression_rules`, the actions in `wb_builder`.
+//! Their rules are in `item_rules`, `part_rules` and `expression_rules`, the actions in `wb_reader_builder`.
 
-use wb_builder::Action;
-use wb_predictive::Rule;
-use wb_tokens::TokenKind;
+use wb_reader_builder::Action;
+use wb_text_predictive::Rule;
+use wb_text_tokens::TokenKind;
 
 // The parts of a text, the grammar's nonterminals.
 #[derive(Clone, Copy)]

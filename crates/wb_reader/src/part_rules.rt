@@ -14,10 +14,10 @@
 //! ```
 
 use crate::part::{Part, SpecRule};
-use wb_builder::{Action, PartAction};
-use wb_predictive::Rule;
-use wb_predictive::Symbol::{Act, Nonterminal, Token};
-use wb_tokens::{Punctuation, TokenKind, Word};
+use wb_reader_builder::{Action, PartAction};
+use wb_text_predictive::Rule;
+use wb_text_predictive::Symbol::{Act, Nonterminal, Token};
+use wb_text_tokens::{Punctuation, TokenKind, Word};
 
 pub(crate) static KIND: [SpecRule; 4] = [
     Rule {

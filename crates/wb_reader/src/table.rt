@@ -1,16 +1,16 @@
 //! How is a specification read?
 //!
-//! By a table of `wb_predictive`, of the rules of this crate and of what `wb_builder` makes of tokens and actions.
+//! By a table of `wb_text_predictive`, of the rules of this crate and of what `wb_reader_builder` makes of tokens and actions.
 
 ghost use Rattle.std.specs.Prelude.{◌≡◌, OnOk};
 ghost use Rattle.wb_reader.specs.Inner.LookaheadTable.{lookahead_table};
-ghost use Rattle.wb_builder.specs.Items.{word_shift};
-ghost use Rattle.wb_builder.specs.Actions.{act};
+ghost use Rattle.wb_reader_builder.specs.Items.{word_shift};
+ghost use Rattle.wb_reader_builder.specs.Actions.{act};
 ghost use Rattle.wb_reader.specs.Inner.Table.{spec_grammar};
 ghost use Rattle.wb_reader.specs.Inner.Laws.{spec_decided, spec_ends};
-ghost use Rattle.wb_tokens.proofs.KindLaws.{kinds_same, kinds_sampled};
-ghost use Rattle.wb_tokens.specs.NextToken.{IsNextIn};
-ghost use Rattle.wb_tokens.proofs.PlacedLaws.{one_next, advances};
+ghost use Rattle.wb_text_tokens.proofs.KindLaws.{kinds_same, kinds_sampled};
+ghost use Rattle.wb_text_tokens.specs.NextToken.{IsNextIn};
+ghost use Rattle.wb_text_tokens.proofs.PlacedLaws.{one_next, advances};
 
 use crate::expression_rules::{ARGUMENTS, EXPRESSION, FURTHER_ARGUMENTS, INTEGER, READ, TAIL};
 use crate::item_rules::{FILE, HEADER, ITEM, ITEMS, PRODUCTION};
@@ -19,9 +19,9 @@ use crate::part_rules::{
     BLOCK, CHILDREN, EQUATION, EQUATIONS, FURTHER_NAMES, KIND, NAMES, NEEDS, OPTIONAL_NEEDS, VALUE,
 };
 use std::alloc::{AllocError, Global};
-use wb_builder::{Action, SpecBuilder, act};
-use wb_predictive::{Next, Rule, Table};
-use wb_tokens::{Layout, Token, TokenKind, next_token};
+use wb_reader_builder::{Action, SpecBuilder, act};
+use wb_text_predictive::{Next, Rule, Table};
+use wb_text_tokens::{Layout, Token, TokenKind, next_token};
 
 // The table of specifications.
 pub(crate) struct SpecTable;
@@ -37,8 +37,8 @@ impl Table for SpecTable {
 
     type Values = SpecBuilder;
 
-    ghost use Rattle.wb_tokens.specs.declared.kind.TokenKind.TheVariants.{End};
-    ghost use Rattle.wb_tokens.specs.declared.token.Layout.TheVariants.{WithComments};
+    ghost use Rattle.wb_text_tokens.specs.declared.kind.TokenKind.TheVariants.{End};
+    ghost use Rattle.wb_text_tokens.specs.declared.token.Layout.TheVariants.{WithComments};
 
     ghost grammar = { spec_grammar };
 

@@ -9,9 +9,9 @@ ghost use Rattle.wb_reader.specs.Inner.Patterns.{OnSyntax};
 use crate::refusal::SpecRefusal;
 use crate::table::SpecTable;
 use std::alloc::Global;
-use wb_builder::SpecBuilder;
-use wb_predictive::{Outcome, read_all};
+use wb_reader_builder::SpecBuilder;
 use wb_syntax::WrittenSpec;
+use wb_text_predictive::{Outcome, read_all};
 
 // The specification that bytes are written as. The refusals are `Syntax` and out of memory.
 pub(crate) fn read_written(alloc: Global, bytes: &[u8]) -> Result<WrittenSpec, SpecRefusal>

@@ -3,7 +3,7 @@ use Rattle.std.specs.Prelude.{ℕ, List, ◌++◌}
 use Rattle.std.specs.List.{flat_map}
 use Rattle.std.specs.Fmt.{decimal}
 use lib.Chars.{codes}
-use Rattle.wb_tokens.specs.Printing.{printed_text}
+use Rattle.wb_text_tokens.specs.Printing.{printed_text}
 use Rattle.wb_report.specs.declared.shown.ShownAction.{ShownAction}
 use Rattle.wb_report.specs.declared.shown.ShownAction.TheVariants as act
 use Rattle.wb_report.specs.declared.shown.ShownConflict.{ShownConflict}

@@ -12,7 +12,7 @@ use crate::{ShownAction, ShownConflict, ShownItem, ShownVertex};
 use itoa::Buffer;
 use std::alloc::AllocError;
 use wb_base::{Bytes, Sequence};
-use wb_tokens::print_text;
+use wb_text_tokens::print_text;
 
 // A piece of a line.
 #[derive(Clone, Copy)]

@@ -6,10 +6,10 @@ use Rattle.std.proofs.Math.Bool.{beq}
 use Rattle.std.proofs.lemmas.List.{get_or_default}
 use Rattle.std.proofs.lemmas.Option.{slice_get_within}
 use Rattle.wb_lemmas.proofs.Places.{at_within, at_append}
-use Rattle.wb_languages.specs.declared.form.Form.{Form}
-use Rattle.wb_languages.specs.Languages.{LanguageView, forms_of, bare}
-use Rattle.wb_languages.specs.Winners.{Beats, by_prefix, both_bare, both_prefixed, BeatsAt}
-use Rattle.wb_languages.proofs.BareLemmas.{layout_bare}
+use Rattle.wb_scan_theory.specs.declared.form.Form.{Form}
+use Rattle.wb_scan_theory.specs.Languages.{LanguageView, forms_of, bare}
+use Rattle.wb_scan_theory.specs.Winners.{Beats, by_prefix, both_bare, both_prefixed, BeatsAt}
+use Rattle.wb_scan_theory.proofs.BareLemmas.{layout_bare}
 use Rattle.wb_scan.specs.Inner.Found.{IsChampion}
 
 -- the form of a layout terminal has no prefix

@@ -7,14 +7,14 @@ use Rattle.wb_lemmas.proofs.Members.{contains_cases, contains_first, contains_la
 use Rattle.wb_automata.specs.Automata.{IsConsidered}
 use Rattle.wb_base.specs.declared.symbol.Symbol.{Symbol}
 use Rattle.wb_base.specs.Grammar.{GrammarView}
-use Rattle.wb_grammars.specs.Items.{IsViablePrefix}
+use Rattle.wb_grammar_theory.specs.Items.{IsViablePrefix}
 use Rattle.wb_items.specs.Kernels.{KernelsView, AreKernels, count_of, prefix_of}
-use Rattle.wb_grammars.proofs.FlowLemmas.{same_itself}
-use Rattle.wb_languages.specs.Facts.{IsWritten}
-use Rattle.wb_languages.specs.Languages.{LanguageView}
-use Rattle.wb_languages.specs.Parts.{AreTablesOf, IsPrefixOf}
-use Rattle.wb_languages.specs.Winners.{IsConsideredForm}
-use Rattle.wb_languages.proofs.PartLemmas.{considered_at, state_of}
+use Rattle.wb_grammar_theory.proofs.FlowLemmas.{same_itself}
+use Rattle.wb_scan_theory.specs.Facts.{IsWritten}
+use Rattle.wb_scan_theory.specs.Languages.{LanguageView}
+use Rattle.wb_scan_theory.specs.Parts.{AreTablesOf, IsPrefixOf}
+use Rattle.wb_scan_theory.specs.Winners.{IsConsideredForm}
+use Rattle.wb_scan_theory.proofs.PartLemmas.{considered_at, state_of}
 use Rattle.wb_lexical.specs.Clash.{AreOrdered, IsClash, HasNoClash}
 use Rattle.wb_lookahead.specs.Contents.{TablesView}
 use Rattle.wb_lookahead.specs.Tables.{AreTables}

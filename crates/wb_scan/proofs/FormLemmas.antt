@@ -7,8 +7,8 @@ use Rattle.std.proofs.lemmas.List.FromFn.{length-range_with_len, get_or-range_wi
 use Rattle.std.proofs.lemmas.Option.{slice_get-map, slice_get_within, slice_get-get_or, same_Some, get_or_from_slice_get}
 use Rattle.wb_lemmas.proofs.Places.{at_append}
 use Rattle.wb_base.specs.Grammar.{GrammarView}
-use Rattle.wb_languages.specs.declared.form.Form.{Form}
-use Rattle.wb_languages.specs.Languages.{bare, forms_of}
+use Rattle.wb_scan_theory.specs.declared.form.Form.{Form}
+use Rattle.wb_scan_theory.specs.Languages.{bare, forms_of}
 use Rattle.wb_regex.specs.Tree.{Tree}
 use Rattle.wb_scan.specs.Bare.{bare_forms, language_with, AreWrittenFor}
 

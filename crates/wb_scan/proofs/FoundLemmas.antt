@@ -11,13 +11,13 @@ use Rattle.wb_lemmas.proofs.Parts.{append_same_left, take_append}
 use Rattle.wb_base.specs.declared.symbol.Symbol.{Symbol}
 use Rattle.wb_automata.specs.Automata.{AutomatonView, LeadsTo, MatchesIn, IsMatch}
 use Rattle.wb_lookahead.specs.Contents.{TablesView, size_of}
-use Rattle.wb_languages.specs.declared.form.Form.{Form}
-use Rattle.wb_languages.specs.Languages.{LanguageView, forms_of}
-use Rattle.wb_languages.specs.Winners.{MatchesAt, Wins}
-use Rattle.wb_languages.specs.Parts.{AreLanguageParts, IsPrefixOf}
-use Rattle.wb_languages.proofs.PartLemmas.{considered_at}
-use Rattle.wb_languages.proofs.BareLemmas.{forms_count}
-use Rattle.wb_languages.proofs.TokenLemmas.{piece_some}
+use Rattle.wb_scan_theory.specs.declared.form.Form.{Form}
+use Rattle.wb_scan_theory.specs.Languages.{LanguageView, forms_of}
+use Rattle.wb_scan_theory.specs.Winners.{MatchesAt, Wins}
+use Rattle.wb_scan_theory.specs.Parts.{AreLanguageParts, IsPrefixOf}
+use Rattle.wb_scan_theory.proofs.PartLemmas.{considered_at}
+use Rattle.wb_scan_theory.proofs.BareLemmas.{forms_count}
+use Rattle.wb_scan_theory.proofs.TokenLemmas.{piece_some}
 use Rattle.wb_scan.specs.Inner.Longest.{IsLongest}
 use Rattle.wb_scan.specs.Inner.Found.{IsChampion, IsFound, IsNotFound}
 

@@ -3,14 +3,14 @@ use Rattle.std.proofs.Common.{◌≡◌, ◌+◌, ◌<◌, ◌∙◌, ℕ, List,
 use Rattle.wb_automata.specs.Automata.{AutomatonView, IsMatch}
 use Rattle.wb_base.specs.declared.symbol.Symbol.{Symbol}
 use Rattle.wb_base.specs.Grammar.{GrammarView, IsGrammar}
-use Rattle.wb_contexts.specs.Parts.{ArePartsOf}
-use Rattle.wb_contexts.specs.declared.parts.Parts.{Parts}
+use Rattle.wb_determinism_contexts.specs.Parts.{ArePartsOf}
+use Rattle.wb_determinism_contexts.specs.declared.parts.Parts.{Parts}
 use Rattle.wb_grammar.specs.Facts.{FactsView, AreFacts}
-use Rattle.wb_languages.specs.declared.form.Form.{Form}
-use Rattle.wb_languages.specs.Facts.{IsWritten, AreOrderedForms}
-use Rattle.wb_languages.specs.Parts.{AreTablesOf, AreLanguageParts}
-use Rattle.wb_languages.proofs.BareLemmas.{bare_decided}
-use Rattle.wb_languages.proofs.HasOneLemmas.{has_one}
+use Rattle.wb_scan_theory.specs.declared.form.Form.{Form}
+use Rattle.wb_scan_theory.specs.Facts.{IsWritten, AreOrderedForms}
+use Rattle.wb_scan_theory.specs.Parts.{AreTablesOf, AreLanguageParts}
+use Rattle.wb_scan_theory.proofs.BareLemmas.{bare_decided}
+use Rattle.wb_scan_theory.proofs.HasOneLemmas.{has_one}
 use Rattle.wb_lexical.specs.Clash.{AreOrdered}
 use Rattle.wb_regex.specs.Tree.{Tree}
 use Rattle.wb_scan.specs.Bare.{language_with, AreWrittenFor}

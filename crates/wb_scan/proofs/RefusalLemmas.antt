@@ -1,6 +1,6 @@
 -- A true refusal other than out of memory rules a language out.
-use Rattle.wb_contexts.proofs.ConflictLemmas.{shown_conflict}
-use Rattle.wb_languages.specs.Languages.{LanguageView}
+use Rattle.wb_determinism_contexts.proofs.ConflictLemmas.{shown_conflict}
+use Rattle.wb_scan_theory.specs.Languages.{LanguageView}
 use Rattle.wb_scan.specs.declared.refusal.LanguageRefusal.{LanguageRefusal}
 use Rattle.wb_scan.specs.declared.refusal.LanguageRefusal.TheVariants as r
 use Rattle.wb_scan.specs.Refusals.{IsFree, IsLanguageRefusal, IsNoMemory}

@@ -3,9 +3,9 @@ use Rattle.std.proofs.Common.{◌≡◌, ◌<◌, ◌≤◌, ◌+◌, ◌-◌, �
 use Rattle.std.specs.Prelude.{Some, slice_get, slice_range}
 use Rattle.wb_scan.proofs.RangeLemmas.{range_length}
 use Rattle.wb_base.specs.declared.symbol.Symbol.{Symbol}
-use Rattle.wb_languages.specs.declared.form.Form.{Form}
-use Rattle.wb_languages.specs.Tokens.{token, over, missing, NextToken, skipped, wins, ends, fails}
-use Rattle.wb_languages.specs.Parts.{IsPrefixOf}
+use Rattle.wb_scan_theory.specs.declared.form.Form.{Form}
+use Rattle.wb_scan_theory.specs.Tokens.{token, over, missing, NextToken, skipped, wins, ends, fails}
+use Rattle.wb_scan_theory.specs.Parts.{IsPrefixOf}
 use Rattle.wb_scan.specs.declared.scanned.Scanned.{Scanned}
 use Rattle.wb_scan.specs.declared.scanned.Scanned.TheVariants.{Token, End, NoToken}
 use Rattle.wb_scan.specs.Views.{LanguageParts}

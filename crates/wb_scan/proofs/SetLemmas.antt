@@ -2,15 +2,15 @@
 use Rattle.std.proofs.Common.{◌<◌, ◌∙◌, ℕ, Bool, List, sym, subst, inl, inr, arith}
 use Rattle.wb_lemmas.proofs.Places.{at_within}
 use Rattle.wb_base.specs.Grammar.{GrammarView}
-use Rattle.wb_contexts.specs.Considered.{LexiconView}
-use Rattle.wb_contexts.specs.Considered as context
-use Rattle.wb_contexts.specs.Parts.{ArePartsOf}
-use Rattle.wb_contexts.specs.Sets.{AreConsideredSets}
-use Rattle.wb_contexts.specs.declared.parts.Parts.{Parts}
+use Rattle.wb_determinism_contexts.specs.Considered.{LexiconView}
+use Rattle.wb_determinism_contexts.specs.Considered as context
+use Rattle.wb_determinism_contexts.specs.Parts.{ArePartsOf}
+use Rattle.wb_determinism_contexts.specs.Sets.{AreConsideredSets}
+use Rattle.wb_determinism_contexts.specs.declared.parts.Parts.{Parts}
 use Rattle.wb_items.specs.Kernels.{KernelsView, count_of, prefix_of}
-use Rattle.wb_languages.specs.declared.form.Form.{Form}
-use Rattle.wb_languages.specs.Languages.{bare}
-use Rattle.wb_languages.specs.Parts.{IsConsideredAt, of_valid, of_layout}
+use Rattle.wb_scan_theory.specs.declared.form.Form.{Form}
+use Rattle.wb_scan_theory.specs.Languages.{bare}
+use Rattle.wb_scan_theory.specs.Parts.{IsConsideredAt, of_valid, of_layout}
 use Rattle.wb_lookahead.specs.Contents.{TablesView, size_of, valid_of}
 use Rattle.wb_lookahead.specs.Tables.{AreTables}
 use Rattle.wb_regex.specs.Tree.{Tree}

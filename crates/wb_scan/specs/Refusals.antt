@@ -2,12 +2,12 @@
 use Rattle.std.specs.Prelude.{◌<◌, ◌≢◌, ℕ, List}
 use Rattle.wb_automata.specs.Automata.{IsMatch}
 use Rattle.wb_base.specs.declared.symbol.Symbol.{Symbol}
-use Rattle.wb_contexts.specs.Conflicts.{IsConflictAt}
-use Rattle.wb_grammars.specs.Items.{IsViablePrefix}
-use Rattle.wb_grammars.specs.Lookaheads.{HasNoConflict}
+use Rattle.wb_determinism_contexts.specs.Conflicts.{IsConflictAt}
+use Rattle.wb_grammar_theory.specs.Items.{IsViablePrefix}
+use Rattle.wb_grammar_theory.specs.Lookaheads.{HasNoConflict}
 use Rattle.wb_graph.specs.Orders.{IsCycle, IsSimpleCycle}
-use Rattle.wb_languages.specs.Languages.{LanguageView}
-use Rattle.wb_languages.specs.Winners.{IsConsideredForm}
+use Rattle.wb_scan_theory.specs.Languages.{LanguageView}
+use Rattle.wb_scan_theory.specs.Winners.{IsConsideredForm}
 use Rattle.wb_lexical.specs.Clash.{AreOrdered}
 use Rattle.wb_scan.specs.declared.refusal.LanguageRefusal.{LanguageRefusal}
 use Rattle.wb_scan.specs.declared.refusal.LanguageRefusal.TheVariants as r

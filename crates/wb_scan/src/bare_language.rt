@@ -7,27 +7,26 @@ ghost use Rattle.wb_base.specs.declared.symbol.Symbol.{Symbol};
 ghost use Rattle.wb_base.specs.Grammar.{IsGrammar};
 ghost use Rattle.wb_automata.specs.Automata.{IsMatch};
 ghost use Rattle.wb_grammar.specs.Facts.{AreFacts};
-ghost use Rattle.wb_contexts.specs.Parts.{ArePartsOf};
-ghost use Rattle.wb_languages.specs.Facts.{IsWritten};
-ghost use Rattle.wb_languages.specs.Parts.{AreLanguageParts};
+ghost use Rattle.wb_determinism_contexts.specs.Parts.{ArePartsOf};
+ghost use Rattle.wb_scan_theory.specs.Facts.{IsWritten};
+ghost use Rattle.wb_scan_theory.specs.Parts.{AreLanguageParts};
 ghost use Rattle.wb_scan.specs.Bare.{AreWrittenFor, bare_forms as forms_of, language_with};
 ghost use Rattle.wb_scan.specs.Refusals.{AreAcyclic, IsFormClash, IsFree, IsLanguageRefusal};
 ghost use Rattle.wb_scan.specs.Inner.Lexicons.{AreStateSets};
 ghost use Rattle.wb_scan.specs.Inner.Written.{written_for, language_of_written};
 
-use crate::LanguageRefusal;
 use crate::forms::bare_forms;
 use crate::layout::layout_set;
+use crate::{Language, LanguageRefusal};
 use std::alloc::{AllocError, Global};
 use wb_automata::Automaton;
 use wb_base::{Grammar, Sequence};
-use wb_contexts::{Lexicon, Parts, PartsRefusal, considered_sets, parts_of};
+use wb_determinism_contexts::{Lexicon, Parts, PartsRefusal, considered_sets, parts_of};
 use wb_grammar::Facts;
-use wb_languages::Form;
 use wb_lexical::{find_clash_in, preference_cycle};
 use wb_lookahead::Tables;
 use wb_regex::Regex;
-use crate::Language;
+use wb_scan_theory::Form;
 use wb_termset::TermSet;
 
 /// The language of a grammar with a bare form for each terminal, or why there is none.

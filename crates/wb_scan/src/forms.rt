@@ -5,7 +5,7 @@ ghost use Rattle.wb_scan.specs.Bare.{bare_forms};
 
 use std::alloc::{AllocError, Global};
 use wb_base::{Bytes, push};
-use wb_languages::Form;
+use wb_scan_theory::Form;
 
 // A bare form for each of so many terminals.
 pub(crate) fn bare_forms(alloc: Global, count: usize) -> Result<Vec<Form>, AllocError>

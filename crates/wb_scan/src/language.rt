@@ -1,17 +1,17 @@
 //! What is kept of a language, so that its texts can be scanned and parsed?
 //!
-//! Its tables, and an automaton with a start for what is considered at each state. What must hold of them is in `wb_languages`.
+//! Its tables, and an automaton with a start for what is considered at each state. What must hold of them is in `wb_scan_theory`.
 
 ghost use Rattle.std.specs.Prelude.{◌≡◌};
-ghost use Rattle.wb_languages.specs.Parts.{AreLanguageParts, AreTablesOf};
-ghost use Rattle.wb_languages.specs.Facts.{IsLanguage};
+ghost use Rattle.wb_scan_theory.specs.Parts.{AreLanguageParts, AreTablesOf};
+ghost use Rattle.wb_scan_theory.specs.Facts.{IsLanguage};
 ghost use Rattle.wb_scan.specs.Views.{language_in};
 
 use std::marker::Model;
 use wb_automata::Automaton;
 use wb_base::Grammar;
-use wb_languages::Form;
 use wb_lookahead::Tables;
+use wb_scan_theory::Form;
 
 /// A language: a grammar with its tables, and how its terminals and its layout are written.
 ///
@@ -29,7 +29,7 @@ pub struct Language {
 impl Model for Language {
     ghost use Rattle.std.specs.Coded.{codes};
     ghost use Rattle.wb_regex.specs.contracts.regex.Regex as regex;
-    ghost use Rattle.wb_languages.specs.Parts.{AreLanguageParts};
+    ghost use Rattle.wb_scan_theory.specs.Parts.{AreLanguageParts};
     ghost use Rattle.wb_scan.specs.Views.{LanguageParts, language_in};
 
     ghost Value = { LanguageParts };

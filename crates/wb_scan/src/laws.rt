@@ -1,6 +1,6 @@
 //! What does a refusal rule out?
 
-ghost use Rattle.wb_languages.specs.Languages.{LanguageView};
+ghost use Rattle.wb_scan_theory.specs.Languages.{LanguageView};
 ghost use Rattle.wb_scan.specs.declared.refusal.LanguageRefusal.{LanguageRefusal as Refusal};
 ghost use Rattle.wb_scan.specs.Refusals.{IsFree, IsLanguageRefusal, IsNoMemory};
 

@@ -2,7 +2,7 @@
 //!
 //! A scanner considers what its state allows and nothing else, so that one text is a keyword here and a name there. A language is made
 //! once, and a scan tests nothing: `language_of` refuses a grammar by itself whose texts could be read in two ways. What a token is lies in
-//! `wb_languages`; languages with prefixed forms are made where extensions are composed.
+//! `wb_scan_theory`; languages with prefixed forms are made where extensions are composed.
 #![tactic(auto)]
 
 mod bare_language;
@@ -22,4 +22,4 @@ pub use laws::bare_refusals_law;
 pub use next_token::scan;
 pub use refusal::LanguageRefusal;
 pub use scanned::Scanned;
-pub use wb_languages::Form;
+pub use wb_scan_theory::Form;

@@ -5,9 +5,9 @@
 ghost use Rattle.std.specs.Prelude.{◌≡◌, ◌<◌, ◌≤◌, ◌+◌, ℕ, List, IfSome, IsNone, Some, length, slice_get};
 ghost use Rattle.wb_base.specs.declared.symbol.Symbol.{Symbol};
 ghost use Rattle.wb_lookahead.specs.Contents.{size_of};
-ghost use Rattle.wb_languages.specs.declared.form.Form.{Form};
-ghost use Rattle.wb_languages.specs.Parts.{IsPrefixOf};
-ghost use Rattle.wb_languages.specs.Tokens.{NextToken};
+ghost use Rattle.wb_scan_theory.specs.declared.form.Form.{Form};
+ghost use Rattle.wb_scan_theory.specs.Parts.{IsPrefixOf};
+ghost use Rattle.wb_scan_theory.specs.Tokens.{NextToken};
 ghost use Rattle.wb_scan.specs.declared.scanned.Scanned.TheVariants.{Token};
 ghost use Rattle.wb_scan.specs.Scans.{next_in, IsInside};
 ghost use Rattle.wb_scan.specs.Inner.Found.{IsFound, IsNotFound, IsOver};

@@ -3,9 +3,9 @@
 //! A prefixed form beats every bare one; of two of one sort the one whose terminal is preferred beats the other.
 
 ghost use Rattle.std.specs.Prelude.{◌≡◌, ◌≢◌, ◌<◌, ◌↔◌, [], ℕ, All, Contains, IfSome, IsNone, IsTrue, Some, length, slice_get};
-ghost use Rattle.wb_languages.specs.declared.form.Form.{Form};
-ghost use Rattle.wb_languages.specs.Languages.{forms_of};
-ghost use Rattle.wb_languages.specs.Winners.{BeatsAt};
+ghost use Rattle.wb_scan_theory.specs.declared.form.Form.{Form};
+ghost use Rattle.wb_scan_theory.specs.Languages.{forms_of};
+ghost use Rattle.wb_scan_theory.specs.Winners.{BeatsAt};
 ghost use Rattle.wb_scan.specs.Inner.Found.{IsChampion};
 
 use crate::Language;

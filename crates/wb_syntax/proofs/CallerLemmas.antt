@@ -3,8 +3,8 @@ use Rattle.std.proofs.Common.{◌≡◌, List, [], ◌∷◌, All, refl, sym, ap
 use Rattle.std.specs.List.{AllZip}
 use Rattle.std.proofs.lemmas.List.Elements.{All-nil, All-cons, All-head, All-tail}
 use Rattle.wb_base.specs.Identifiers.{IsName as IsNamed}
-use Rattle.wb_tokens.specs.declared.token.Layout.TheVariants.{WithComments}
-use Rattle.wb_expressions.specs.Expression.{IsWhole, nodes_of}
+use Rattle.wb_text_tokens.specs.declared.token.Layout.TheVariants.{WithComments}
+use Rattle.wb_syntax_expressions.specs.Expression.{IsWhole, nodes_of}
 use Rattle.wb_syntax.specs.PartGrammar as part
 use Rattle.wb_syntax.specs.PartGrammar.{AreEquations}
 use Rattle.wb_syntax.specs.ItemGrammar as item

@@ -3,14 +3,14 @@ use Rattle.std.proofs.Common.{◌+◌, ℕ, true, false, List, [], ◌∷◌, �
 use Rattle.std.proofs.lemmas.List.Elements.{All-nil, All-cons, All-head, All-tail, All-append}
 use Rattle.wb_base.specs.Identifiers.{IsName as IsNamed}
 use Rattle.wb_lemmas.proofs.Elements.{all_left, all_right}
-use Rattle.wb_predictive.specs.Reading.{Spells, none as spells_none, next as spells_next}
-use Rattle.wb_tokens.specs.declared.token.Layout.{Layout}
-use Rattle.wb_tokens.specs.declared.token.Token.{Token}
-use Rattle.wb_tokens.specs.declared.token.Token.TheVariants as t
-use Rattle.wb_tokens.specs.NextToken.{IsNextIn}
-use Rattle.wb_tokens.specs.Spelling as spelling
-use Rattle.wb_expressions.specs.declared.node.Node.TheVariants as n
-use Rattle.wb_expressions.specs.Expression.{size, nodes_from, all_nodes_from, places_from, nodes_of}
+use Rattle.wb_text_predictive.specs.Reading.{Spells, none as spells_none, next as spells_next}
+use Rattle.wb_text_tokens.specs.declared.token.Layout.{Layout}
+use Rattle.wb_text_tokens.specs.declared.token.Token.{Token}
+use Rattle.wb_text_tokens.specs.declared.token.Token.TheVariants as t
+use Rattle.wb_text_tokens.specs.NextToken.{IsNextIn}
+use Rattle.wb_text_tokens.specs.Spelling as spelling
+use Rattle.wb_syntax_expressions.specs.declared.node.Node.TheVariants as n
+use Rattle.wb_syntax_expressions.specs.Expression.{size, nodes_from, all_nodes_from, places_from, nodes_of}
 use Rattle.wb_syntax.specs.Expression.{Expression, Expressions, Node}
 use Rattle.wb_syntax.specs.ExpressionGrammar as e
 use Rattle.wb_syntax.specs.ExpressionGrammar.{IsExpression, AreArguments, AreFurther}

@@ -1,11 +1,11 @@
 -- The canonical text of a specification.
 use Rattle.std.specs.Prelude.{◌≡◌, ℕ, pos, ◌||◌, Bool, true, false, List, [], ◌∷◌, ◌++◌, map, codes, if◌then◌else◌}
 use Rattle.std.specs.Fmt.{signed_decimal}
-use Rattle.wb_tokens.specs.declared.token.Token.{Token}
-use Rattle.wb_tokens.specs.declared.token.Token.TheVariants as t
-use Rattle.wb_tokens.specs.declared.punctuation.Punctuation.TheVariants as p
-use Rattle.wb_tokens.specs.Words.{word_text, punctuation_text}
-use Rattle.wb_tokens.specs.Printing.{printed_text}
+use Rattle.wb_text_tokens.specs.declared.token.Token.{Token}
+use Rattle.wb_text_tokens.specs.declared.token.Token.TheVariants as t
+use Rattle.wb_text_tokens.specs.declared.punctuation.Punctuation.TheVariants as p
+use Rattle.wb_text_tokens.specs.Words.{word_text, punctuation_text}
+use Rattle.wb_text_tokens.specs.Printing.{printed_text}
 use Rattle.wb_syntax.specs.declared.item.Item.{Item}
 use Rattle.wb_syntax.specs.declared.pattern.Pattern.{Pattern}
 use Rattle.wb_syntax.specs.declared.pattern.WrittenPattern.{WrittenPattern}
@@ -14,7 +14,8 @@ use Rattle.wb_syntax.specs.ItemGrammar.{IsItem, IsHeader}
 use Rattle.wb_syntax.specs.SpecText.{SpecView, IsReadAs}
 use Rattle.wb_syntax.specs.Offsets.{unplaced}
 
--- a token as it is printed: a regular expression keeps its bytes, an integer is decimal without leading zeros, a string is as values are printed
+-- a token as it is printed: a regular expression keeps its bytes, an integer is decimal without leading zeros, a string is as values are
+-- printed
 abbrev pub printed : Token → List ℕ
 printed (t.Name text) = text
 printed (t.Word word) = word_text word

@@ -1,6 +1,6 @@
 -- The equations of items, whose nodes are whole expressions.
 use Rattle.std.specs.Prelude.{List, [], All}
-use Rattle.wb_expressions.specs.Expression.{IsWhole}
+use Rattle.wb_syntax_expressions.specs.Expression.{IsWhole}
 use Rattle.wb_syntax.specs.declared.expression.Equation.{Equation}
 use Rattle.wb_syntax.specs.declared.item.Item.{Item}
 use Rattle.wb_syntax.specs.declared.item.ItemForm.{ItemForm}

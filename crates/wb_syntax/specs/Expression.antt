@@ -1,7 +1,7 @@
 -- Expressions by names: what is at a label, an attribute, a production or an operation is a text.
 use Rattle.std.specs.Prelude.{ℕ, List}
-use Rattle.wb_expressions.specs.declared.node.Node as node
-use Rattle.wb_expressions.specs.Expression as expression
+use Rattle.wb_syntax_expressions.specs.declared.node.Node as node
+use Rattle.wb_syntax_expressions.specs.Expression as expression
 
 -- an expression
 abbrev pub Expression : Type 0

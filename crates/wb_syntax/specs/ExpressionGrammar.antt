@@ -1,10 +1,11 @@
 -- Which tokens are which expression.
 use Rattle.std.specs.Prelude.{◌≡◌, ℕ, ℤ, true, false, List, [], ◌∷◌, ◌++◌}
-use Rattle.wb_tokens.specs.declared.word.Word.TheVariants as w
-use Rattle.wb_tokens.specs.declared.punctuation.Punctuation.TheVariants as p
+use Rattle.wb_text_tokens.specs.declared.word.Word.TheVariants as w
+use Rattle.wb_text_tokens.specs.declared.punctuation.Punctuation.TheVariants as p
 use Rattle.wb_syntax.specs.Tokens.{Lexeme, IsWord, IsMark, IsName, IsInt, IsString}
 use Rattle.wb_syntax.specs.Expression.{Expression, Expressions}
-use Rattle.wb_expressions.specs.Expression.{Int, Text, Truth, Label, Read, Lexeme as LexemeOf, Top, Forward, Build, Call, If, none, more}
+use Rattle.wb_syntax_expressions.specs.Expression.{Int, Text, Truth, Label, Read, Lexeme as LexemeOf, Top, Forward, Build, Call, If, none}
+use Rattle.wb_syntax_expressions.specs.Expression.{more}
 
 mutual
   -- the tokens are this expression

@@ -1,7 +1,7 @@
 -- Fields, one after another: words, marks and named parts. Which tokens are which fields.
 use Rattle.std.specs.Prelude.{◌≡◌, ℕ, List, [], ◌∷◌, ◌++◌, Option}
-use Rattle.wb_tokens.specs.declared.word.Word.{Word}
-use Rattle.wb_tokens.specs.declared.punctuation.Punctuation.{Punctuation}
+use Rattle.wb_text_tokens.specs.declared.word.Word.{Word}
+use Rattle.wb_text_tokens.specs.declared.punctuation.Punctuation.{Punctuation}
 use Rattle.wb_syntax.specs.declared.production.NamedKind.{NamedKind}
 use Rattle.wb_syntax.specs.Tokens.{Lexeme, IsWord, IsMark, IsName}
 use Rattle.wb_syntax.specs.PartGrammar.{IsKind, AreNeeds, AreOptionalNeeds}

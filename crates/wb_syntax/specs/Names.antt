@@ -1,7 +1,7 @@
 -- That each name in a specification is a name: an identifier that isn't reserved.
 use Rattle.std.specs.Prelude.{ℕ, List, [], ◌∷◌, ◌++◌, Option, Some, None, All}
 use Rattle.wb_base.specs.Identifiers.{IsName}
-use Rattle.wb_expressions.specs.declared.node.Node.TheVariants as n
+use Rattle.wb_syntax_expressions.specs.declared.node.Node.TheVariants as n
 use Rattle.wb_syntax.specs.Expression.{Node}
 use Rattle.wb_syntax.specs.declared.expression.Equation.{Equation}
 use Rattle.wb_syntax.specs.declared.expression.Target.{Target}

@@ -1,7 +1,7 @@
 -- Which tokens are which kinds, needs, children and equations.
 use Rattle.std.specs.Prelude.{◌≡◌, ℕ, List, [], ◌∷◌, ◌++◌, Option, Some, None}
-use Rattle.wb_tokens.specs.declared.word.Word.TheVariants as word
-use Rattle.wb_tokens.specs.declared.punctuation.Punctuation.TheVariants as p
+use Rattle.wb_text_tokens.specs.declared.word.Word.TheVariants as word
+use Rattle.wb_text_tokens.specs.declared.punctuation.Punctuation.TheVariants as p
 use Rattle.wb_syntax.specs.declared.production.NamedKind.{NamedKind}
 use Rattle.wb_syntax.specs.declared.production.NamedKind.TheVariants as k
 use Rattle.wb_syntax.specs.declared.production.Child.{Child}
@@ -10,7 +10,7 @@ use Rattle.wb_syntax.specs.declared.expression.Target.{Target}
 use Rattle.wb_syntax.specs.declared.expression.Target.TheVariants as g
 use Rattle.wb_syntax.specs.Tokens.{Lexeme, IsWord, IsMark, IsName}
 use Rattle.wb_syntax.specs.Expression.{Expression}
-use Rattle.wb_expressions.specs.Expression.{nodes_of}
+use Rattle.wb_syntax_expressions.specs.Expression.{nodes_of}
 use Rattle.wb_syntax.specs.ExpressionGrammar.{IsExpression}
 
 -- kind = 'int' | 'bool' | 'text' | NAME

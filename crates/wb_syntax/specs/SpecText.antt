@@ -1,10 +1,10 @@
 -- Which bytes are a specification, and which one.
 use Rattle.std.specs.Prelude.{◌≡◌, ℕ, ◌<◌, List, []}
 use Rattle.std.specs.List.{All, AllZip}
-use Rattle.wb_predictive.specs.declared.table.Next.TheVariants.{End}
-use Rattle.wb_predictive.specs.Reading.{Spells}
-use Rattle.wb_tokens.specs.declared.token.Layout.TheVariants.{WithComments}
-use Rattle.wb_tokens.specs.NextToken.{IsNextIn}
+use Rattle.wb_text_predictive.specs.declared.table.Next.TheVariants.{End}
+use Rattle.wb_text_predictive.specs.Reading.{Spells}
+use Rattle.wb_text_tokens.specs.declared.token.Layout.TheVariants.{WithComments}
+use Rattle.wb_text_tokens.specs.NextToken.{IsNextIn}
 use Rattle.wb_regex.specs.Tree.{Tree}
 use Rattle.wb_regex.specs.Matches.{Matches}
 use Rattle.wb_regex.specs.Text.{IsRegexText}

@@ -1,10 +1,10 @@
 -- Tokens by what they are.
 use Rattle.std.specs.Prelude.{◌≡◌, ℕ, ℤ, List}
-use Rattle.wb_predictive.specs.declared.table.Placed.{Placed}
-use Rattle.wb_tokens.specs.declared.token.Token.{Token}
-use Rattle.wb_tokens.specs.declared.token.Token.TheVariants as t
-use Rattle.wb_tokens.specs.declared.word.Word.{Word}
-use Rattle.wb_tokens.specs.declared.punctuation.Punctuation.{Punctuation}
+use Rattle.wb_text_predictive.specs.declared.table.Placed.{Placed}
+use Rattle.wb_text_tokens.specs.declared.token.Token.{Token}
+use Rattle.wb_text_tokens.specs.declared.token.Token.TheVariants as t
+use Rattle.wb_text_tokens.specs.declared.word.Word.{Word}
+use Rattle.wb_text_tokens.specs.declared.punctuation.Punctuation.{Punctuation}
 
 -- a token with its place
 abbrev pub Lexeme : Type 0

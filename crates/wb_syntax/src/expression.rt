@@ -1,12 +1,12 @@
 //! What is an equation for, and what does it say?
 //!
-//! Its expression is a list of nodes; what lists are expressions is in `wb_expressions`.
+//! Its expression is a list of nodes; what lists are expressions is in `wb_syntax_expressions`.
 
 use wb_base::{Bytes, Sequence};
 
 /// A node of an expression, with names. A list of them is an expression: the parts of a node come before it, from left to right, and
 /// are named by their places from 0 on; the last node is the whole.
-pub type Node = wb_expressions::Node<Bytes, Bytes, Bytes, Bytes>;
+pub type Node = wb_syntax_expressions::Node<Bytes, Bytes, Bytes, Bytes>;
 
 /// What an equation is for.
 #[derive(Drop)]

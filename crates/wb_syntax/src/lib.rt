@@ -1,7 +1,7 @@
 //! The abstract syntax of specifications: items, productions, equations and expressions, by their names.
 //!
 //! A specification is a value that some text has as its reading; which text has which is said in `specs/`. Reading is in `wb_reader`
-//! and printing in `wb_printer`. What the names stand for is no matter of this crate.
+//! and printing in `wb_reader_printer`. What the names stand for is no matter of this crate.
 #![tactic(auto)]
 
 mod expression;

@@ -1,19 +1,19 @@
 -- A term by its grammar is derived by the table, which makes of what was met before what is met in the term after it.
 use Rattle.std.proofs.Common.{◌≡◌, ◌⊎◌, inl, inr, ℕ, ℤ, pos, negsuc, List, ◌∷◌, Bool as Truth, true, false, cond, refl, sym, subst}
 use Rattle.std.specs.Prelude.{◌==◌}
-use Rattle.wb_predictive.specs.declared.symbol.Symbol.{Symbol}
-use Rattle.wb_predictive.specs.declared.symbol.Symbol.TheVariants.{Token, Nonterminal}
-use Rattle.wb_predictive.specs.declared.table.Placed.{Placed}
-use Rattle.wb_predictive.specs.Grammar.{Derives, token, expand, act}
-use Rattle.wb_tokens.specs.declared.token.Token.{Token as Lexeme}
-use Rattle.wb_tokens.specs.declared.token.Token.TheVariants as t
+use Rattle.wb_text_predictive.specs.declared.symbol.Symbol.{Symbol}
+use Rattle.wb_text_predictive.specs.declared.symbol.Symbol.TheVariants.{Token, Nonterminal}
+use Rattle.wb_text_predictive.specs.declared.table.Placed.{Placed}
+use Rattle.wb_text_predictive.specs.Grammar.{Derives, token, expand, act}
+use Rattle.wb_text_tokens.specs.declared.token.Token.{Token as Lexeme}
+use Rattle.wb_text_tokens.specs.declared.token.Token.TheVariants as t
 use Rattle.wb_terms.specs.declared.event.Event.{Event}
 use Rattle.wb_terms.specs.declared.event.Event.TheVariants.{Begin, Int, Bool, Text}
-use Rattle.wb_tokens.specs.declared.kind.TokenKind.{TokenKind}
-use Rattle.wb_tokens.specs.declared.kind.TokenKind.TheVariants as k
-use Rattle.wb_tokens.specs.declared.word.Word.TheVariants as words
-use Rattle.wb_tokens.specs.declared.punctuation.Punctuation.TheVariants as p
-use Rattle.wb_tokens.specs.Kinds.{kind_of}
+use Rattle.wb_text_tokens.specs.declared.kind.TokenKind.{TokenKind}
+use Rattle.wb_text_tokens.specs.declared.kind.TokenKind.TheVariants as k
+use Rattle.wb_text_tokens.specs.declared.word.Word.TheVariants as words
+use Rattle.wb_text_tokens.specs.declared.punctuation.Punctuation.TheVariants as p
+use Rattle.wb_text_tokens.specs.Kinds.{kind_of}
 use Rattle.wb_terms.specs.declared.rules.Part.{Part}
 use Rattle.wb_terms.specs.declared.rules.Action.{Action}
 use Rattle.wb_terms.specs.Term.{Term, Argument, Arguments}

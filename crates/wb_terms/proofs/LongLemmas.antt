@@ -1,8 +1,9 @@
 -- Texts that are too long to be printed because a part of them is.
-use Rattle.std.proofs.Common.{◌≤◌, ◌∷◌, [], ◌/◌, ◌%◌, ◌&&◌, ◌≡◌, ℕ, zero, suc, Some, sym, subst, Bool, true, false, List, length, length-append, cond, eqb, leb, arith}
+use Rattle.std.proofs.Common.{◌≤◌, ◌∷◌, [], ◌/◌, ◌%◌, ◌&&◌, ◌≡◌, ℕ, zero, suc, Some, sym, subst, Bool, true, false, List, length}
+use Rattle.std.proofs.Common.{length-append, cond, eqb, leb, arith}
 use Rattle.std.specs.Fmt.{digit_glyph}
 use Rattle.std.specs.List.{flat_map}
-use Rattle.wb_tokens.specs.Printing.{printed_byte, printed_text}
+use Rattle.wb_text_tokens.specs.Printing.{printed_byte, printed_text}
 use Rattle.wb_values.specs.Signature.{Signature}
 use Rattle.wb_values.specs.Tree.{Tree, Value, Values, more, children_of, value_at}
 use Rattle.wb_values.specs.ValuesIn.{tree_in}

@@ -9,7 +9,8 @@ use Rattle.wb_values.specs.ValuesIn.{tree_in}
 use Rattle.wb_values.specs.declared.value.TreeId.{TreeId}
 use Rattle.wb_terms.specs.declared.print.Pending.{Pending}
 use Rattle.wb_terms.specs.Printed.{name_of, printed_tree, printed_value, printed_children}
-use Rattle.wb_terms.specs.Inner.Pending.{before, values_from, children_text, left_of, left_text, pending_text, value_weight, children_weight}
+use Rattle.wb_terms.specs.Inner.Pending.{before, values_from, children_text, left_of, left_text, pending_text, value_weight}
+use Rattle.wb_terms.specs.Inner.Pending.{children_weight}
 use Rattle.wb_terms.specs.Inner.Pending.{pending_weight, ArePendingIn}
 
 -- one more on the stack

@@ -1,20 +1,20 @@
 -- A reading by the table is one by the grammar of terms.
 use Rattle.std.proofs.Common.{◌≡◌, ℕ, List, [], ◌++◌, refl}
-use Rattle.wb_tokens.specs.Inner.SameKind.{same_kind}
-use Rattle.wb_tokens.specs.declared.kind.TokenKind.TheVariants.{End}
-use Rattle.wb_tokens.proofs.KindLaws.{kinds_same}
-use Rattle.wb_predictive.specs.declared.table.Next.{Next}
-use Rattle.wb_predictive.specs.declared.table.Next.TheVariants.{Found, End, NoToken}
-use Rattle.wb_predictive.specs.declared.reading.Outcome.{Outcome}
-use Rattle.wb_predictive.specs.declared.reading.Outcome.TheVariants.{Whole, Stopped}
-use Rattle.wb_predictive.specs.Grammar.{done, IsText, CanStart}
-use Rattle.wb_predictive.specs.Reading as R
-use Rattle.wb_predictive.proofs.CallerLemmas.{one_text_value, one_outcome}
-use Rattle.wb_tokens.specs.declared.token.Layout.TheVariants.{Plain}
-use Rattle.wb_tokens.specs.declared.token.Token.{Token}
+use Rattle.wb_text_tokens.specs.Inner.SameKind.{same_kind}
+use Rattle.wb_text_tokens.specs.declared.kind.TokenKind.TheVariants.{End}
+use Rattle.wb_text_tokens.proofs.KindLaws.{kinds_same}
+use Rattle.wb_text_predictive.specs.declared.table.Next.{Next}
+use Rattle.wb_text_predictive.specs.declared.table.Next.TheVariants.{Found, End, NoToken}
+use Rattle.wb_text_predictive.specs.declared.reading.Outcome.{Outcome}
+use Rattle.wb_text_predictive.specs.declared.reading.Outcome.TheVariants.{Whole, Stopped}
+use Rattle.wb_text_predictive.specs.Grammar.{done, IsText, CanStart}
+use Rattle.wb_text_predictive.specs.Reading as R
+use Rattle.wb_text_predictive.proofs.CallerLemmas.{one_text_value, one_outcome}
+use Rattle.wb_text_tokens.specs.declared.token.Layout.TheVariants.{Plain}
+use Rattle.wb_text_tokens.specs.declared.token.Token.{Token}
 use Rattle.wb_terms.specs.declared.event.Event.{Event}
-use Rattle.wb_tokens.specs.NextToken.{IsNextIn}
-use Rattle.wb_tokens.proofs.PlacedLaws.{one_next}
+use Rattle.wb_text_tokens.specs.NextToken.{IsNextIn}
+use Rattle.wb_text_tokens.proofs.PlacedLaws.{one_next}
 use Rattle.wb_terms.specs.Term.{Term}
 use Rattle.wb_terms.specs.TermGrammar.{Tokens, IsTerm}
 use Rattle.wb_terms.specs.TermText.{IsTermText, CanBegin, CannotFollow, IsFirstFault}

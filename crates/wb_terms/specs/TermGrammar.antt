@@ -1,10 +1,10 @@
 -- The grammar of terms: which tokens are a term. Each relation says that the first of some tokens are the part, and which are left.
 use Rattle.std.specs.Prelude.{◌≡◌, ℕ, ◌++◌, List, ◌∷◌, ℤ, true, false}
-use Rattle.wb_predictive.specs.declared.table.Placed.{Placed}
-use Rattle.wb_tokens.specs.declared.token.Token.{Token}
-use Rattle.wb_tokens.specs.declared.token.Token.TheVariants as t
-use Rattle.wb_tokens.specs.declared.word.Word.TheVariants as w
-use Rattle.wb_tokens.specs.declared.punctuation.Punctuation.TheVariants as p
+use Rattle.wb_text_predictive.specs.declared.table.Placed.{Placed}
+use Rattle.wb_text_tokens.specs.declared.token.Token.{Token}
+use Rattle.wb_text_tokens.specs.declared.token.Token.TheVariants as t
+use Rattle.wb_text_tokens.specs.declared.word.Word.TheVariants as w
+use Rattle.wb_text_tokens.specs.declared.punctuation.Punctuation.TheVariants as p
 use Rattle.wb_values.specs.Tree.{int, bool, text}
 use Rattle.wb_terms.specs.Term.{Term, Argument, Arguments, named, plain, term, empty, more}
 

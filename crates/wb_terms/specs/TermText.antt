@@ -1,11 +1,11 @@
 -- Which bytes are which term, and where bytes that are none have their first error.
 use Rattle.std.specs.Prelude.{◌≡◌, ℕ, List, [], ◌∷◌, ◌++◌}
-use Rattle.wb_predictive.specs.declared.table.Next.{Next}
-use Rattle.wb_predictive.specs.declared.table.Next.TheVariants.{Found, End, NoToken}
-use Rattle.wb_predictive.specs.Reading.{Spells, place_of}
-use Rattle.wb_tokens.specs.declared.token.Layout.TheVariants.{Plain}
-use Rattle.wb_tokens.specs.declared.token.Token.{Token}
-use Rattle.wb_tokens.specs.NextToken.{IsNextIn}
+use Rattle.wb_text_predictive.specs.declared.table.Next.{Next}
+use Rattle.wb_text_predictive.specs.declared.table.Next.TheVariants.{Found, End, NoToken}
+use Rattle.wb_text_predictive.specs.Reading.{Spells, place_of}
+use Rattle.wb_text_tokens.specs.declared.token.Layout.TheVariants.{Plain}
+use Rattle.wb_text_tokens.specs.declared.token.Token.{Token}
+use Rattle.wb_text_tokens.specs.NextToken.{IsNextIn}
 use Rattle.wb_terms.specs.Term.{Term}
 use Rattle.wb_terms.specs.TermGrammar.{Tokens, IsTerm}
 

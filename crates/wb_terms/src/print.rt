@@ -4,7 +4,7 @@
 //! printing ends where the text gets too long.
 
 ghost use Rattle.std.specs.Prelude.{◌≡◌, ◌+◌, ◌<◌, ◌≤◌, ◌++◌, ◌∷◌, [], length, reverse, true, false, IfErr, IfOk, OnOk};
-ghost use Rattle.wb_tokens.specs.Printing.{printed_text};
+ghost use Rattle.wb_text_tokens.specs.Printing.{printed_text};
 ghost use Rattle.wb_values.specs.ValuesIn.{tree_in, value_in, IsIn};
 ghost use Rattle.wb_values.specs.Tree.{bool};
 ghost use Rattle.wb_terms.specs.Printed.{name_of, printed_plain, printed_tree, printed_value};
@@ -15,7 +15,7 @@ use crate::name::printed_name;
 use crate::refusal::PrintRefusal;
 use std::alloc::{AllocError, Global};
 use wb_base::push;
-use wb_tokens::{print_int, print_text};
+use wb_text_tokens::{print_int, print_text};
 use wb_values::{Signatures, TreeId, TreeStore, Value};
 
 // The most bytes that a value is printed in.

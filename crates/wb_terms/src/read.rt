@@ -17,7 +17,7 @@ use crate::event::Event;
 use crate::reading::read_events;
 use crate::refusal::TermRefusal;
 use std::alloc::Global;
-use wb_predictive::Outcome;
+use wb_text_predictive::Outcome;
 use wb_values::{Signatures, TreeId, TreeStore};
 
 // The tree of what is met in a term, in the store, after the others; or the first fault of the term.

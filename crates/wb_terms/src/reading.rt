@@ -8,7 +8,7 @@ ghost use Rattle.wb_terms.specs.Inner.TermReading.{IsTermReading};
 use crate::events::Events;
 use crate::table::TermTable;
 use std::alloc::{AllocError, Global};
-use wb_predictive::{Outcome, read_all};
+use wb_text_predictive::{Outcome, read_all};
 
 // What is met in the term that the bytes are, or the place of the first thing that can't follow.
 pub(crate) fn read_events(alloc: Global, bytes: &[u8]) -> Result<Outcome<Events>, AllocError>

@@ -2,9 +2,9 @@
 //!
 //! They are those of `specs/TermGrammar` with actions between the symbols. What is made of the actions is in `events`.
 
-use wb_predictive::Rule;
-use wb_predictive::Symbol::{Act, Nonterminal, Token};
-use wb_tokens::{Punctuation, TokenKind, Word};
+use wb_text_predictive::Rule;
+use wb_text_predictive::Symbol::{Act, Nonterminal, Token};
+use wb_text_tokens::{Punctuation, TokenKind, Word};
 
 // The parts of a text, the grammar's nonterminals.
 #[derive(Clone, Copy, Debug, PartialEq, Eq)]

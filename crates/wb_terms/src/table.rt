@@ -6,17 +6,17 @@ ghost use Rattle.std.specs.Prelude.{◌≡◌, OnOk};
 ghost use Rattle.wb_terms.specs.Inner.Events.{shift_word};
 ghost use Rattle.wb_terms.specs.Inner.TermTable.{term_grammar};
 ghost use Rattle.wb_terms.specs.Inner.TermEntries.{term_entries};
-ghost use Rattle.wb_tokens.specs.NextToken.{IsNextIn};
-ghost use Rattle.wb_tokens.proofs.PlacedLaws.{one_next, advances};
+ghost use Rattle.wb_text_tokens.specs.NextToken.{IsNextIn};
+ghost use Rattle.wb_text_tokens.proofs.PlacedLaws.{one_next, advances};
 ghost use Rattle.wb_terms.specs.Inner.TermLaws.{term_decided, term_ends};
-ghost use Rattle.wb_tokens.proofs.KindLaws.{kinds_same, kinds_sampled};
+ghost use Rattle.wb_text_tokens.proofs.KindLaws.{kinds_same, kinds_sampled};
 
 use crate::event::Event;
 use crate::events::Events;
 use crate::rules::{ARGUMENT, ARGUMENTS, Action, MORE, OWNER, Part, TERM};
 use std::alloc::{AllocError, Global};
-use wb_predictive::{Next, Rule, Table};
-use wb_tokens::{Layout, Token, TokenKind, Word, next_token};
+use wb_text_predictive::{Next, Rule, Table};
+use wb_text_tokens::{Layout, Token, TokenKind, Word, next_token};
 
 // What a reserved word makes of what was met.
 fn shift_word(word: Word, at: usize, values: &mut Events) -> Result<(), AllocError>
@@ -43,8 +43,8 @@ impl Table for TermTable {
 
     type Values = Events;
 
-    ghost use Rattle.wb_tokens.specs.declared.kind.TokenKind.TheVariants.{End};
-    ghost use Rattle.wb_tokens.specs.declared.token.Layout.TheVariants.{Plain};
+    ghost use Rattle.wb_text_tokens.specs.declared.kind.TokenKind.TheVariants.{End};
+    ghost use Rattle.wb_text_tokens.specs.declared.token.Layout.TheVariants.{Plain};
 
     ghost grammar = { term_grammar };
 

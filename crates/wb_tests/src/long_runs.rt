@@ -5,7 +5,7 @@
 use crate::runs::{ends_so, expect_none};
 use std::alloc::{AllocError, Global};
 use std::process::Abort;
-use wb_inputs::Status;
+use wb_program_inputs::Status;
 
 /// A text and the number of its repetitions.
 pub type Piece = (&'static str, usize);

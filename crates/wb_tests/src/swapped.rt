@@ -8,8 +8,8 @@ use crate::runs::{Row, add_files, expect, fits, status_by};
 use crate::specifications::{CALC0, DIVS};
 use std::alloc::{AllocError, Global};
 use wb_base::Kind;
-use wb_inputs::Status;
 use wb_operations::{Meaning, OperationTable, standard_sub};
+use wb_program_inputs::Status;
 use wb_values::Value;
 use wb_world::{MemoryShelf, MemorySink};
 

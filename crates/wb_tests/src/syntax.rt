@@ -2,8 +2,8 @@
 
 use crate::specifications::MINI;
 use std::alloc::{AllocError, Global};
-use wb_printer::print_spec;
 use wb_reader::read_spec;
+use wb_reader_printer::print_spec;
 use wb_syntax::Spec;
 
 // Whether this is the canonical text of a specification.

@@ -1,9 +1,9 @@
 -- The kind rules have at most one answer.
 use Rattle.std.proofs.Common.{ℕ, List}
-use Rattle.wb_expressions.specs.declared.node.Node.TheVariants as n
+use Rattle.wb_syntax_expressions.specs.declared.node.Node.TheVariants as n
 use Rattle.wb_lemmas.proofs.Elements.{all_contained}
 use Rattle.wb_operations.specs.Operations.{OperationSignature}
-use Rattle.wb_resolved.specs.declared.attribution.AttributionParts.{AttributionParts}
+use Rattle.wb_syntax_resolved.specs.declared.attribution.AttributionParts.{AttributionParts}
 use Rattle.wb_types.specs.OneAnswer.{RulesExclude, RefusalsExclude, HaveOneAnswer}
 use Rattle.wb_types.specs.Refusals.{CallsUnknown, HasWrongArity, HasWrongKind}
 use Rattle.wb_types.specs.Rules.{IsKnown, AreKnown, HaveArities, HaveExpectedKinds, KindsOk}

@@ -6,17 +6,17 @@ use Rattle.wb_lemmas.proofs.Places.{push_last, push_before}
 use Rattle.std.proofs.lemmas.List.Elements.{All-head, All-tail}
 use Rattle.wb_base.specs.declared.symbol.Kind.{Kind}
 use Rattle.wb_base.specs.declared.symbol.Kind.TheVariants as kind
-use Rattle.wb_expressions.specs.declared.node.Node.TheVariants as n
-use Rattle.wb_expressions.specs.Expression as x
-use Rattle.wb_expressions.specs.Places.{HasNode, HasPartsBefore, Stands, AllStand}
-use Rattle.wb_expressions.specs.Places as p
+use Rattle.wb_syntax_expressions.specs.declared.node.Node.TheVariants as n
+use Rattle.wb_syntax_expressions.specs.Expression as x
+use Rattle.wb_syntax_expressions.specs.Places.{HasNode, HasPartsBefore, Stands, AllStand}
+use Rattle.wb_syntax_expressions.specs.Places as p
 use Rattle.wb_operations.specs.Operations.{OperationSignature}
-use Rattle.wb_resolved.specs.declared.attribution.AttributionParts.{AttributionParts}
-use Rattle.wb_resolved.specs.declared.equation.Place.{Place}
-use Rattle.wb_resolved.specs.declared.production.Production.{Production}
-use Rattle.wb_resolved.specs.Expression.{Expression, Expressions, Node}
-use Rattle.wb_resolved.specs.declared.production.ChildKind.TheVariants as child
-use Rattle.wb_resolved.specs.Visible.{kind_at}
+use Rattle.wb_syntax_resolved.specs.declared.attribution.AttributionParts.{AttributionParts}
+use Rattle.wb_syntax_resolved.specs.declared.equation.Place.{Place}
+use Rattle.wb_syntax_resolved.specs.declared.production.Production.{Production}
+use Rattle.wb_syntax_resolved.specs.Expression.{Expression, Expressions, Node}
+use Rattle.wb_syntax_resolved.specs.declared.production.ChildKind.TheVariants as child
+use Rattle.wb_syntax_resolved.specs.Visible.{kind_at}
 use Rattle.wb_values.specs.Signature.{Signature}
 use Rattle.wb_types.specs.Kinds.{HasKind, HaveKinds, IsAttributeKind}
 use Rattle.wb_types.specs.Kinds as k

@@ -6,15 +6,15 @@ use Rattle.std.proofs.lemmas.Option.{slice_get-map, slice_get_within}
 use Rattle.wb_base.specs.declared.symbol.Kind.{Kind}
 use Rattle.wb_base.specs.declared.symbol.Kind.TheVariants as kind
 use Rattle.wb_base.specs.Different.{Differ}
-use Rattle.wb_expressions.specs.declared.node.Node.TheVariants as n
+use Rattle.wb_syntax_expressions.specs.declared.node.Node.TheVariants as n
 use Rattle.std.proofs.lemmas.Bool.{eq-eqb}
 use Rattle.wb_lemmas.proofs.Members.{contains_at}
 use Rattle.wb_lemmas.proofs.Numbers.{eqb_true}
 use Rattle.wb_lemmas.proofs.Places.{at_within, at_once}
-use Rattle.wb_resolved.specs.Expression.{Node}
+use Rattle.wb_syntax_resolved.specs.Expression.{Node}
 use Rattle.wb_values.specs.Signature.{Signature}
 use Rattle.wb_operations.specs.Operations.{OperationSignature, HasOperation, IsOperation, names_of}
-use Rattle.wb_resolved.specs.declared.attribution.AttributionParts.{AttributionParts}
+use Rattle.wb_syntax_resolved.specs.declared.attribution.AttributionParts.{AttributionParts}
 use Rattle.wb_types.specs.Rules.{HasArity}
 use Rattle.wb_types.specs.Inner.Nodes.{AreAt, BuildsKind, CallsKind}
 

@@ -8,17 +8,17 @@ use Rattle.wb_lemmas.proofs.Members.{contains_at}
 use Rattle.std.proofs.lemmas.List.Elements.{All-push}
 use Rattle.wb_base.specs.declared.symbol.Kind.{Kind}
 use Rattle.wb_base.specs.declared.symbol.Kind.TheVariants as kind
-use Rattle.wb_expressions.specs.declared.node.Node.TheVariants as n
-use Rattle.wb_expressions.specs.Expression.{IsWhole}
-use Rattle.wb_expressions.proofs.PartLemmas.{whole_some}
-use Rattle.wb_expressions.proofs.PlaceLemmas.{whole_stands}
+use Rattle.wb_syntax_expressions.specs.declared.node.Node.TheVariants as n
+use Rattle.wb_syntax_expressions.specs.Expression.{IsWhole}
+use Rattle.wb_syntax_expressions.proofs.PartLemmas.{whole_some}
+use Rattle.wb_syntax_expressions.proofs.PlaceLemmas.{whole_stands}
 use Rattle.wb_operations.specs.Operations.{OperationSignature, HasOperation}
-use Rattle.wb_resolved.specs.declared.attribution.AttributionParts.{AttributionParts}
-use Rattle.wb_resolved.specs.declared.production.Production.{Production}
-use Rattle.wb_resolved.specs.Expression.{Node}
-use Rattle.wb_resolved.specs.declared.equation.Equation.{Equation}
-use Rattle.wb_resolved.specs.declared.production.Forward.{Forward}
-use Rattle.wb_resolved.specs.declared.production.Local.{Local}
+use Rattle.wb_syntax_resolved.specs.declared.attribution.AttributionParts.{AttributionParts}
+use Rattle.wb_syntax_resolved.specs.declared.production.Production.{Production}
+use Rattle.wb_syntax_resolved.specs.Expression.{Node}
+use Rattle.wb_syntax_resolved.specs.declared.equation.Equation.{Equation}
+use Rattle.wb_syntax_resolved.specs.declared.production.Forward.{Forward}
+use Rattle.wb_syntax_resolved.specs.declared.production.Local.{Local}
 use Rattle.wb_types.specs.declared.context.Rule.{Rule}
 use Rattle.wb_types.specs.declared.context.Rule.TheVariants as rule
 use Rattle.wb_types.specs.declared.refusal.TypeRefusal.{TypeRefusal}

@@ -5,17 +5,17 @@ use Rattle.std.specs.Option.{option_map}
 use Rattle.std.proofs.lemmas.Option.{slice_get-get_or, slice_get_past}
 use Rattle.wb_base.specs.declared.symbol.Kind.{Kind}
 use Rattle.wb_base.specs.declared.symbol.Kind.TheVariants as kind
-use Rattle.wb_resolved.specs.declared.equation.Place.{Place}
-use Rattle.wb_resolved.specs.declared.equation.Place.TheVariants as p
-use Rattle.wb_resolved.specs.declared.production.Child.{Child}
-use Rattle.wb_resolved.specs.declared.production.ChildKind.{ChildKind}
-use Rattle.wb_resolved.specs.declared.production.ChildKind.TheVariants as child
-use Rattle.wb_resolved.specs.declared.production.Local.{Local}
-use Rattle.wb_resolved.specs.declared.production.Production.{Production}
-use Rattle.wb_resolved.specs.declared.attribution.AttributionParts.{AttributionParts}
-use Rattle.wb_resolved.specs.declared.equation.Target.{Target}
-use Rattle.wb_resolved.specs.declared.equation.Target.TheVariants as t
-use Rattle.wb_resolved.specs.Visible.{kind_at}
+use Rattle.wb_syntax_resolved.specs.declared.equation.Place.{Place}
+use Rattle.wb_syntax_resolved.specs.declared.equation.Place.TheVariants as p
+use Rattle.wb_syntax_resolved.specs.declared.production.Child.{Child}
+use Rattle.wb_syntax_resolved.specs.declared.production.ChildKind.{ChildKind}
+use Rattle.wb_syntax_resolved.specs.declared.production.ChildKind.TheVariants as child
+use Rattle.wb_syntax_resolved.specs.declared.production.Local.{Local}
+use Rattle.wb_syntax_resolved.specs.declared.production.Production.{Production}
+use Rattle.wb_syntax_resolved.specs.declared.attribution.AttributionParts.{AttributionParts}
+use Rattle.wb_syntax_resolved.specs.declared.equation.Target.{Target}
+use Rattle.wb_syntax_resolved.specs.declared.equation.Target.TheVariants as t
+use Rattle.wb_syntax_resolved.specs.Visible.{kind_at}
 use Rattle.wb_types.specs.Expected.{attribute_of}
 use Rattle.wb_types.specs.Kinds.{IsAttributeKind}
 

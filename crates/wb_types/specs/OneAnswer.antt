@@ -1,7 +1,7 @@
 -- That the kind rules have at most one answer.
 use Rattle.std.specs.Prelude.{ℕ, List}
 use Rattle.wb_operations.specs.Operations.{OperationSignature}
-use Rattle.wb_resolved.specs.declared.attribution.AttributionParts.{AttributionParts}
+use Rattle.wb_syntax_resolved.specs.declared.attribution.AttributionParts.{AttributionParts}
 use Rattle.wb_types.specs.Refusals.{CallsUnknown, HasWrongArity, HasWrongKind}
 use Rattle.wb_types.specs.Rules.{KindsOk}
 

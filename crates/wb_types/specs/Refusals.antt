@@ -1,11 +1,11 @@
 -- When each refusal is true: its rule fails there, and those before it hold.
 use Rattle.std.specs.Prelude.{ℕ, List, All, Contains}
 use Rattle.wb_base.specs.declared.symbol.Kind.{Kind}
-use Rattle.wb_expressions.specs.declared.node.Node.TheVariants as n
+use Rattle.wb_syntax_expressions.specs.declared.node.Node.TheVariants as n
 use Rattle.wb_operations.specs.Operations.{OperationSignature, HasOperation}
-use Rattle.wb_resolved.specs.declared.attribution.AttributionParts.{AttributionParts}
-use Rattle.wb_resolved.specs.declared.production.Production.{Production}
-use Rattle.wb_resolved.specs.Expression.{Node}
+use Rattle.wb_syntax_resolved.specs.declared.attribution.AttributionParts.{AttributionParts}
+use Rattle.wb_syntax_resolved.specs.declared.production.Production.{Production}
+use Rattle.wb_syntax_resolved.specs.Expression.{Node}
 use Rattle.wb_types.specs.Expected.{IsExpected}
 use Rattle.wb_types.specs.Rules.{HasArity, IsOfKind, AreKnown, HaveArities}
 use Rattle.wb_types.specs.declared.refusal.TypeRefusal.{TypeRefusal}

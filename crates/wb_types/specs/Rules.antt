@@ -1,12 +1,12 @@
 -- What the kind rules ask of the expressions in an attribution.
 use Rattle.std.specs.Prelude.{◌≡◌, ℕ, List, Some, All, Contains, length, slice_get}
 use Rattle.wb_base.specs.declared.symbol.Kind.{Kind}
-use Rattle.wb_expressions.specs.declared.node.Node.TheVariants as n
-use Rattle.wb_expressions.specs.Expression.{nodes_of}
+use Rattle.wb_syntax_expressions.specs.declared.node.Node.TheVariants as n
+use Rattle.wb_syntax_expressions.specs.Expression.{nodes_of}
 use Rattle.wb_operations.specs.Operations.{OperationSignature, HasOperation}
-use Rattle.wb_resolved.specs.declared.attribution.AttributionParts.{AttributionParts}
-use Rattle.wb_resolved.specs.declared.production.Production.{Production}
-use Rattle.wb_resolved.specs.Expression.{Expression, Node}
+use Rattle.wb_syntax_resolved.specs.declared.attribution.AttributionParts.{AttributionParts}
+use Rattle.wb_syntax_resolved.specs.declared.production.Production.{Production}
+use Rattle.wb_syntax_resolved.specs.Expression.{Expression, Node}
 use Rattle.wb_values.specs.Signature.{Signature}
 use Rattle.wb_types.specs.Expected.{IsExpected}
 use Rattle.wb_types.specs.Kinds.{HasKind}

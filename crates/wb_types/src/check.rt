@@ -5,13 +5,13 @@
 ghost use Rattle.std.specs.Prelude.{◌≡◌, ◌↔◌, Some, IfOk, IfErr, IsTrue, All, Contains};
 ghost use Rattle.wb_base.specs.declared.symbol.Kind.{Kind};
 ghost use Rattle.wb_base.specs.declared.symbol.Kind.TheVariants.{Tree};
-ghost use Rattle.wb_expressions.specs.Expression.{IsWhole};
-ghost use Rattle.wb_resolved.specs.declared.equation.Equation.{Equation};
-ghost use Rattle.wb_resolved.specs.declared.production.Forward.{Forward};
-ghost use Rattle.wb_resolved.specs.declared.production.Local.{Local};
-ghost use Rattle.wb_resolved.specs.declared.production.Production.{Production};
-ghost use Rattle.wb_resolved.specs.Attribution.{IsAttribution};
-ghost use Rattle.wb_resolved.specs.Named.{IsNamedProduction};
+ghost use Rattle.wb_syntax_expressions.specs.Expression.{IsWhole};
+ghost use Rattle.wb_syntax_resolved.specs.declared.equation.Equation.{Equation};
+ghost use Rattle.wb_syntax_resolved.specs.declared.production.Forward.{Forward};
+ghost use Rattle.wb_syntax_resolved.specs.declared.production.Local.{Local};
+ghost use Rattle.wb_syntax_resolved.specs.declared.production.Production.{Production};
+ghost use Rattle.wb_syntax_resolved.specs.Attribution.{IsAttribution};
+ghost use Rattle.wb_syntax_resolved.specs.Named.{IsNamedProduction};
 ghost use Rattle.wb_types.specs.Expected.{attribute_of};
 ghost use Rattle.wb_types.specs.Kinds.{IsAttributeKind};
 ghost use Rattle.wb_types.specs.Refusals.{IsTrueRefusal};
@@ -24,7 +24,7 @@ use crate::kinds::{attribute_kind, has_kind};
 use std::alloc::Global;
 use wb_base::Kind;
 use wb_operations::{Meaning, OperationSignatures, OperationTable};
-use wb_resolved::{AttributionParts, Node, Resolved, Target};
+use wb_syntax_resolved::{AttributionParts, Node, Resolved, Target};
 
 /// Whether each expression of a resolved specification is of the kind that its place asks for, over a table of operations.
 ///

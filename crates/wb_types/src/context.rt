@@ -3,7 +3,7 @@
 //! All rules read the same few things, so they are handed on together. The rules themselves are in `check`.
 
 use wb_operations::OperationSignatures;
-use wb_resolved::{AttributionParts, Production};
+use wb_syntax_resolved::{AttributionParts, Production};
 
 // The rule, the attribution, the operations, and the production that an expression is in.
 #[derive(Clone, Copy)]

@@ -5,10 +5,10 @@
 ghost use Rattle.std.specs.Prelude.{◌≡◌, ◌↔◌, Some, IfOk, IsTrue, length};
 ghost use Rattle.wb_base.specs.declared.symbol.Kind.{Kind};
 ghost use Rattle.wb_base.specs.declared.symbol.Kind.TheVariants.{Bool};
-ghost use Rattle.wb_expressions.specs.Expression.{IsWhole};
-ghost use Rattle.wb_expressions.specs.Places.{HasPartsBefore};
-ghost use Rattle.wb_resolved.specs.declared.production.ChildKind.TheVariants.{Value};
-ghost use Rattle.wb_resolved.specs.Visible.{kind_at};
+ghost use Rattle.wb_syntax_expressions.specs.Expression.{IsWhole};
+ghost use Rattle.wb_syntax_expressions.specs.Places.{HasPartsBefore};
+ghost use Rattle.wb_syntax_resolved.specs.declared.production.ChildKind.TheVariants.{Value};
+ghost use Rattle.wb_syntax_resolved.specs.Visible.{kind_at};
 ghost use Rattle.wb_types.specs.Kinds.{IsAttributeKind};
 ghost use Rattle.wb_types.specs.Rules.{IsOfKind};
 ghost use Rattle.wb_types.specs.Inner.Nodes.{IsAt, AreAt, BuildsKind, CallsKind, NodeHasKind, AreKept};
@@ -17,7 +17,7 @@ use crate::context::Context;
 use std::alloc::{AllocError, Global};
 use wb_base::{Kind, push};
 use wb_operations::OperationSignatures;
-use wb_resolved::{AttributionParts, ChildKind, Node, Place, Production};
+use wb_syntax_resolved::{AttributionParts, ChildKind, Node, Place, Production};
 use wb_values::Signatures;
 
 // Whether an expression is of a kind.

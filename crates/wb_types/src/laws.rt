@@ -2,7 +2,7 @@
 
 ghost use Rattle.std.specs.Prelude.{List};
 ghost use Rattle.wb_operations.specs.Operations.{OperationSignature};
-ghost use Rattle.wb_resolved.specs.declared.attribution.AttributionParts.{AttributionParts};
+ghost use Rattle.wb_syntax_resolved.specs.declared.attribution.AttributionParts.{AttributionParts};
 ghost use Rattle.wb_types.specs.OneAnswer.{HaveOneAnswer};
 
 /// That the kind rules hold excludes each refusal but out of memory, and a refusal by one rule excludes one by another.

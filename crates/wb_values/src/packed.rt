@@ -193,8 +193,8 @@ impl PackedValues {
         }
     }
 
-    // Moves the values from a place on. They are copied first, which takes no more memory than to move them, so that none is lost where there
-    // is no memory for the next.
+    // Moves the values from a place on. They are copied first, which takes no more memory than to move them, so that none is lost where
+    // there is no memory for the next.
     #[inline(never)]
     fn take_more(&mut self, values: &mut PackedValues, start: usize) -> Result<(), AllocError>
         requires { start ≤ length values.old }

@@ -6,9 +6,9 @@
 use std::process::ExitCode;
 use std::rt::Env;
 use std::{env, io};
-use wb_inputs::Status;
 use wb_operations::standard_table;
 use wb_program::workbench;
+use wb_program_inputs::Status;
 use wb_world::{FileShelf, OutputSink};
 
 fn main(rt: HostRuntime) -> ExitCode {

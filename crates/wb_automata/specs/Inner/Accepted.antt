@@ -1,8 +1,8 @@
 -- The terminals that states accept, as lists.
 use Rattle.std.specs.Prelude.{◌≡◌, ◌<◌, ◌↔◌, ◌∷◌, ◌++◌, [], ℕ, Some, List, Contains, length, slice_get}
-use Rattle.wb_positions.specs.Rows.{row}
-use Rattle.wb_positions.specs.Rising.{AreRising}
-use Rattle.wb_positions.specs.Transitions.{Ahead}
+use Rattle.wb_automata_positions.specs.Rows.{row}
+use Rattle.wb_automata_positions.specs.Rising.{AreRising}
+use Rattle.wb_automata_positions.specs.Transitions.{Ahead}
 
 -- the lists are those of the first i states
 pub record AreAccepted (ends sets accepted : List (List ℕ)) (i : ℕ) : Type 0 where

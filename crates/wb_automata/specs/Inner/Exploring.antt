@@ -1,10 +1,10 @@
 -- Where bytes lead from the states that were found.
 use Rattle.std.specs.Prelude.{◌≡◌, ◌+◌, ◌*◌, ◌^◌, ◌<◌, ◌≤◌, ◌↔◌, ◌⊎◌, ℕ, Option, Some, None, List, [], Contains, length, slice_get}
 use Rattle.std.specs.Prelude.{slice_index, slice_index_or}
-use Rattle.wb_positions.specs.declared.tables.Tables.{Tables}
+use Rattle.wb_automata_positions.specs.declared.tables.Tables.{Tables}
 use Rattle.wb_automata.specs.Automata.{Path, IsEarlier}
-use Rattle.wb_positions.specs.Rows.{row}
-use Rattle.wb_positions.specs.Transitions.{Ahead, IsPlaceList}
+use Rattle.wb_automata_positions.specs.Rows.{row}
+use Rattle.wb_automata_positions.specs.Transitions.{Ahead, IsPlaceList}
 use Rattle.wb_automata.specs.Inner.Found.{Reads, Found, AreFound, Extends, AllBefore, on}
 
 -- the byte leads from the places of a state to those of another, whose path isn't later than that of the state with the byte

@@ -1,10 +1,10 @@
 -- States that are found one after another, each with its places and with the path by which it was found.
 use Rattle.std.specs.Prelude.{◌≡◌, ℕ, ◌<◌, ◌≤◌, List, [], true, length, Contains, ◌↔◌, ◌⊎◌, Option, Some, None, ◌∷◌, ◌++◌, slice_get}
 use Rattle.wb_regex.specs.declared.node.RegexNode.{RegexNode}
-use Rattle.wb_positions.specs.Rows.{row}
-use Rattle.wb_positions.specs.declared.tables.Tables.{Tables}
-use Rattle.wb_positions.specs.Leaves.{holds_of}
-use Rattle.wb_positions.specs.Transitions.{Ahead, IsPlaceList}
+use Rattle.wb_automata_positions.specs.Rows.{row}
+use Rattle.wb_automata_positions.specs.declared.tables.Tables.{Tables}
+use Rattle.wb_automata_positions.specs.Leaves.{holds_of}
+use Rattle.wb_automata_positions.specs.Transitions.{Ahead, IsPlaceList}
 use Rattle.wb_automata.specs.Automata.{Path, IsEarlier}
 
 -- the leaf is where the byte leads from the set

@@ -6,15 +6,15 @@ use Rattle.wb_regex.specs.declared.node.RegexNode.{RegexNode}
 use Rattle.wb_automata.specs.declared.pairs.Groups.{Groups}
 use Rattle.wb_automata.specs.declared.shared.Overlap.{Overlap}
 use Rattle.wb_automata.specs.declared.shared.Overlap.TheVariants as o
-use Rattle.wb_positions.specs.declared.tables.Tables.{Tables}
+use Rattle.wb_automata_positions.specs.declared.tables.Tables.{Tables}
 use Rattle.wb_automata.specs.Automata.{Path, IsEarlier}
-use Rattle.wb_positions.specs.Rising.{AreRising}
+use Rattle.wb_automata_positions.specs.Rising.{AreRising}
 use Rattle.wb_automata.specs.Order.{IsAtMost}
 use Rattle.wb_automata.specs.Paths.{paths_of}
-use Rattle.wb_positions.specs.Rows.{row}
+use Rattle.wb_automata_positions.specs.Rows.{row}
 use Rattle.wb_automata.specs.Inner.Found.{on}
-use Rattle.wb_positions.specs.Leaves.{holds_of}
-use Rattle.wb_positions.specs.Transitions.{IsTable}
+use Rattle.wb_automata_positions.specs.Leaves.{holds_of}
+use Rattle.wb_automata_positions.specs.Transitions.{IsTable}
 
 -- after the place the text completes a match of the expression with this number
 abbrev pub Completes : Tables → ℕ → ℕ → List ℕ → Type 0

@@ -1,44 +1,97 @@
--- What each private test of a host tells.
-use Rattle.std.specs.Prelude.{◌≡◌, Some, None, List}
+-- What each private test asks and tells of the specification of a host with an extension.
+use Rattle.std.specs.Prelude.{◌≡◌, ℕ, List, Some, Option}
+use Rattle.wb_flow_theory.specs.Modular.{ForwardEquationsReach}
 use Rattle.wb_base.specs.Grammar.{GrammarView}
+use Rattle.wb_certify_host.specs.Hosts.{CertifiedView, IsCertified}
+use Rattle.wb_certify_host.specs.Refusals.{IsAttributeMemory, start_of}
+use Rattle.wb_certify_host.specs.declared.refusal.CertifyRefusal.{CertifyRefusal}
+use Rattle.wb_certify_host.specs.declared.refusal.CertifyRefusal.TheVariants as c
 use Rattle.wb_complete.specs.Refusals.{CompleteOk}
-use Rattle.wb_determinism.specs.Hosts.{AreAcyclic, AreHostParts}
-use Rattle.wb_determinism.specs.Refusals.{IsNoMemory}
-use Rattle.wb_determinism.specs.declared.parts.HostParts.{HostParts}
+use Rattle.wb_determinism_host.specs.declared.parts.HostParts.{HostParts}
+use Rattle.wb_determinism_host.specs.declared.refusal.DeterminismRefusal.{DeterminismRefusal}
+use Rattle.wb_determinism_host.specs.declared.refusal.DeterminismRefusal.TheVariants as d
+use Rattle.wb_determinism.specs.Extensions.{AreExtensionParts, IsDeterministicExtension}
+use Rattle.wb_determinism.specs.declared.parts.ExtensionParts.{ExtensionParts}
+use Rattle.wb_flow.specs.Refusals.{FlowsOk}
+use Rattle.wb_marking.specs.Bridges.{AreBridges}
+use Rattle.wb_marking.specs.declared.refusal.MarkRefusal.{MarkRefusal}
+use Rattle.wb_marking.specs.declared.refusal.MarkRefusal.TheVariants as m
 use Rattle.wb_operations.specs.Operations.{OperationSignature}
-use Rattle.wb_resolved.specs.Resolved.{IsResolved}
-use Rattle.wb_resolved.specs.declared.resolved.ResolvedParts.{ResolvedParts}
-use Rattle.wb_types.specs.Refusals.{IsTrueRefusal}
-use Rattle.wb_certify.specs.Refusals.{IsAttributeMemory, IsAttributeRefusal, IsDeterminismOf, IsDeterministic, IsTypeMemory, start_of}
-use Rattle.wb_certify.specs.declared.refusal.CertifyRefusal.{CertifyRefusal}
-use Rattle.wb_certify.specs.declared.refusal.CertifyRefusal.TheVariants as c
+use Rattle.wb_syntax_resolved.specs.declared.attribution.AttributionParts.{AttributionParts}
+use Rattle.wb_syntax_resolved.specs.declared.resolved.ResolvedParts.{ResolvedParts}
+use Rattle.wb_types.specs.Rules.{KindsOk}
+use Rattle.wb_certify.specs.Extensions.{AreMarkersKept, IsCertifiedBeside, IsDeterministicBeside}
+use Rattle.wb_certify.specs.Kept.{ArePartsBeside}
+use Rattle.wb_certify.specs.Refusals.{IsAttributeRefusal, IsBesideRefusal, IsReason}
 
--- each attribute that is needed is defined, and the start inherits nothing
-abbrev pub AreComplete : ResolvedParts → Type 0
-AreComplete r = CompleteOk r.attributes (start_of r) None
+-- the rules on bridges hold in the grammar
+abbrev pub HaveBridges : ResolvedParts → Type 0
+HaveBridges r = (g : GrammarView) → r.grammar ≡ Some g → AreBridges r g
 
--- the host is deterministic, and these parts are those of its grammar
-pub record IsFound (r : ResolvedParts) (parts : HostParts) : Type 0 where
-  pub whole : IsResolved r
-  pub deterministic : IsDeterministic r
-  pub of_grammar : (g : GrammarView) → r.grammar ≡ Some g → AreHostParts r g parts
+-- markers keep their rules in the grammar
+abbrev pub KeepMarkers : ResolvedParts → Type 0
+KeepMarkers r = (g : GrammarView) → r.grammar ≡ Some g → AreMarkersKept r g
 
--- a rule of kinds fails for this reason; out of memory says nothing and is in no other reason
-abbrev pub IsKindRefusal : ResolvedParts → List OperationSignature → CertifyRefusal → Type 0
-IsKindRefusal r operations (c.Types refusal) = IsTrueRefusal r.attributes operations refusal × ¬ IsTypeMemory refusal
-IsKindRefusal r operations (c.NoMemory error) = Unit {0}
-IsKindRefusal r operations other = ⊥
+-- the reason is true, whatever the host
+abbrev pub IsMarkReason : ResolvedParts → DeterminismRefusal → Type 0
+IsMarkReason r refusal = (g host : GrammarView) → r.grammar ≡ Some g → IsReason r g host refusal
 
--- a rule of preferences, of the start, of the grammar or of the scanner fails for this reason; out of memory says nothing and is in no
--- other reason
-abbrev pub IsGrammarRefusal : ResolvedParts → CertifyRefusal → Type 0
-IsGrammarRefusal r c.NoStart = AreAcyclic r × (r.grammar ≡ None)
-IsGrammarRefusal r (c.Determinism refusal) = IsDeterminismOf r r.grammar refusal × ¬ IsNoMemory refusal
-IsGrammarRefusal r (c.NoMemory error) = Unit {0}
-IsGrammarRefusal r other = ⊥
+-- the reason is true beside this host's grammar with holes
+abbrev pub IsReasonBeside : ResolvedParts → GrammarView → DeterminismRefusal → Type 0
+IsReasonBeside r host refusal = (g : GrammarView) → r.grammar ≡ Some g → IsReason r g host refusal
+
+-- why markers are refused, as a reason why an extension isn't deterministic
+abbrev pub reason_of : MarkRefusal → DeterminismRefusal
+reason_of (m.NotBridge production) = d.NotBridge production
+reason_of (m.MarkerElsewhere marker) = d.MarkerElsewhere marker
+reason_of (m.NotExtensible production) = d.NotExtensible production
+reason_of (m.MarkerClash marker other text) = d.MarkerClash marker other text
+reason_of (m.NoMemory error) = d.NoMemory error
+
+-- markers keep their rules, the extension is deterministic beside the host, and the parts are those of the extended grammar
+pub record ArePartsOfDeterministic (r : ResolvedParts) (g : GrammarView) (host : HostParts) (parts : ExtensionParts) : Type 0 where
+  pub markers : AreMarkersKept r g
+  pub deterministic : IsDeterministicExtension r g host.grammar
+  pub made : AreExtensionParts r g host parts
+
+-- the parts are those of a deterministic extension, for each grammar that the specification has
+abbrev pub ArePartsFound : ResolvedParts → HostParts → ExtensionParts → Type 0
+ArePartsFound r host parts = (g : GrammarView) → r.grammar ≡ Some g → ArePartsOfDeterministic r g host parts
+
+-- host and extended host have grammars, and the extension is deterministic beside the host
+pub record IsFound (host r : ResolvedParts) : Type 0 where
+  pub host_grammar : GrammarView
+  pub host_start : host.grammar ≡ Some host_grammar
+  pub grammar : GrammarView
+  pub start : r.grammar ≡ Some grammar
+  pub deterministic : IsDeterministicBeside host r host_grammar grammar
+
+-- the host is certified, the extension is deterministic beside it, and the parts are those of the extended grammar
+pub record IsMade (host : CertifiedView) (r : ResolvedParts) (parts : ExtensionParts) : Type 0 where
+  pub host_certified : IsCertified host
+  pub found : IsFound host.resolved r
+  pub beside : ArePartsBeside r host.parts parts
+
+-- the host is certified, the extension is certified beside it, and the parts are those of the extended grammar
+pub record IsMadeCertified (host : CertifiedView) (r : ResolvedParts) (operations : List OperationSignature) (parts : ExtensionParts) :
+    Type 0 where
+  pub host_certified : IsCertified host
+  pub certified : IsCertifiedBeside host.resolved r operations
+  pub beside : ArePartsBeside r host.parts parts
+
+-- attributes are complete as an extension's, keep to their flow types, and so do equations for forwarded trees
+pub record AttributesOk (a : AttributionParts) (start : Option ℕ) : Type 0 where
+  pub complete : CompleteOk a start (Some 1)
+  pub flows : FlowsOk a
+  pub forwards : ForwardEquationsReach a 1
+
+-- where expressions are of their kinds over some operations, the refusal is true
+abbrev pub IsLaterRefusal : (host r : ResolvedParts) → CertifyRefusal → Type 0
+IsLaterRefusal host r refusal = (operations : List OperationSignature) → KindsOk r.attributes operations
+    → IsBesideRefusal host r operations refusal
 
 -- a rule of attributes fails for this reason; out of memory says nothing and is in no other reason
-abbrev pub IsAttributesRefusal : ResolvedParts → CertifyRefusal → Type 0
-IsAttributesRefusal r (c.Attributes refusal) = IsAttributeRefusal r (start_of r) refusal × ¬ IsAttributeMemory refusal
-IsAttributesRefusal r (c.NoMemory error) = Unit {0}
-IsAttributesRefusal r other = ⊥
+abbrev pub IsAttributesReason : ResolvedParts → CertifyRefusal → Type 0
+IsAttributesReason r (c.Attributes refusal) = IsAttributeRefusal r.attributes (start_of r) refusal × ¬ IsAttributeMemory refusal
+IsAttributesReason r (c.NoMemory error) = Unit {0}
+IsAttributesReason r other = ⊥

@@ -1,10 +1,10 @@
 -- What each test of a production asks and tells.
 use Rattle.std.specs.Prelude.{◌≡◌, ◌≢◌, ◌⊎◌, ℕ, Bool, true, false, List, Contains}
-use Rattle.wb_attributes.specs.Vertices.{forward, made, top_inherited, inherited}
-use Rattle.wb_attributes.specs.Occurrences.{Goes, ForwardNeeds}
-use Rattle.wb_attributes.specs.Rules.{HasRule}
-use Rattle.wb_attributes.specs.Flow.{Reaches}
-use Rattle.wb_attributes.specs.Modular.{IsProduction, IsBridging}
+use Rattle.wb_flow_theory.specs.Vertices.{forward, made, top_inherited, inherited}
+use Rattle.wb_flow_theory.specs.Occurrences.{Goes, ForwardNeeds}
+use Rattle.wb_flow_theory.specs.Rules.{HasRule}
+use Rattle.wb_flow_theory.specs.Flow.{Reaches}
+use Rattle.wb_flow_theory.specs.Modular.{IsProduction, IsBridging}
 use Rattle.wb_flow.specs.declared.refusal.AttributeRefusal.{AttributeRefusal}
 use Rattle.wb_flow.specs.declared.refusal.AttributeRefusal.TheVariants as r
 use Rattle.wb_flow.specs.declared.vertex.Vertex.{Vertex}
@@ -13,12 +13,12 @@ use Rattle.wb_flow.specs.Graphs.{IsFlowGraph}
 use Rattle.wb_complete.specs.declared.forward.Checked.{Checked}
 use Rattle.wb_complete.specs.declared.equations.Tested.{Tested}
 use Rattle.wb_complete.specs.ForwardRefusals.{ReadsOutside}
-use Rattle.wb_resolved.specs.Attribution.{IsAttribution}
-use Rattle.wb_resolved.specs.declared.attributes.Direction.TheVariants.{Inherited}
-use Rattle.wb_resolved.specs.declared.attribution.AttributionParts.{AttributionParts}
-use Rattle.wb_resolved.specs.declared.equation.Target.{Target}
-use Rattle.wb_resolved.specs.declared.equation.Target.TheVariants as target
-use Rattle.wb_resolved.specs.declared.production.Production.{Production}
+use Rattle.wb_syntax_resolved.specs.Attribution.{IsAttribution}
+use Rattle.wb_syntax_resolved.specs.declared.attributes.Direction.TheVariants.{Inherited}
+use Rattle.wb_syntax_resolved.specs.declared.attribution.AttributionParts.{AttributionParts}
+use Rattle.wb_syntax_resolved.specs.declared.equation.Target.{Target}
+use Rattle.wb_syntax_resolved.specs.declared.equation.Target.TheVariants as target
+use Rattle.wb_syntax_resolved.specs.declared.production.Production.{Production}
 
 -- the parts that the scope has are the attribution's
 pub record IsChecked (checked : Checked) : Type 0 where

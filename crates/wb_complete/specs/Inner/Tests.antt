@@ -1,18 +1,18 @@
 -- What each search in a production finds.
 use Rattle.std.specs.Prelude.{◌≡◌, ℕ, List, Option, Some, Contains}
-use Rattle.wb_expressions.specs.declared.node.Node.TheVariants as n
-use Rattle.wb_attributes.specs.Occurrences.{Goes, Needs}
-use Rattle.wb_attributes.specs.Rules.{Forwards, IsTreeAt}
-use Rattle.wb_attributes.specs.Modular.{IsProduction, IsBridging}
+use Rattle.wb_syntax_expressions.specs.declared.node.Node.TheVariants as n
+use Rattle.wb_flow_theory.specs.Occurrences.{Goes, Needs}
+use Rattle.wb_flow_theory.specs.Rules.{Forwards, IsTreeAt}
+use Rattle.wb_flow_theory.specs.Modular.{IsProduction, IsBridging}
 use Rattle.wb_flow.specs.declared.vertex.Vertex.{Vertex}
 use Rattle.wb_flow.specs.declared.vertex.Vertex.TheVariants as v
 use Rattle.wb_flow.specs.Rules.{attribute_at, IsDefined}
-use Rattle.wb_resolved.specs.declared.attributes.Direction.TheVariants.{Synthesized}
-use Rattle.wb_resolved.specs.declared.attributes.Occurrence.{Occurrence}
-use Rattle.wb_resolved.specs.declared.attribution.AttributionParts.{AttributionParts}
-use Rattle.wb_resolved.specs.declared.equation.Place.{Place}
-use Rattle.wb_resolved.specs.declared.production.Production.{Production}
-use Rattle.wb_resolved.specs.Expression.{Node}
+use Rattle.wb_syntax_resolved.specs.declared.attributes.Direction.TheVariants.{Synthesized}
+use Rattle.wb_syntax_resolved.specs.declared.attributes.Occurrence.{Occurrence}
+use Rattle.wb_syntax_resolved.specs.declared.attribution.AttributionParts.{AttributionParts}
+use Rattle.wb_syntax_resolved.specs.declared.equation.Place.{Place}
+use Rattle.wb_syntax_resolved.specs.declared.production.Production.{Production}
+use Rattle.wb_syntax_resolved.specs.Expression.{Node}
 
 -- the production of this number is so
 abbrev pub IsSo : AttributionParts → ℕ → (Production → Type 0) → Type 0

@@ -1,8 +1,8 @@
 -- Edges of a flow graph by the vertices that they lead from and to, for each kind of edge.
 use Rattle.std.specs.Prelude.{◌≡◌, ◌≢◌, ◌⊎◌, ℕ, List, Option, None, Some, Contains, slice_get}
-use Rattle.wb_expressions.specs.declared.node.Node.TheVariants as n
-use Rattle.wb_attributes.specs.Occurrences.{Goes, IsOn}
-use Rattle.wb_attributes.specs.Rules.{Forwards}
+use Rattle.wb_syntax_expressions.specs.declared.node.Node.TheVariants as n
+use Rattle.wb_flow_theory.specs.Occurrences.{Goes, IsOn}
+use Rattle.wb_flow_theory.specs.Rules.{Forwards}
 use Rattle.wb_flow.specs.Rules.{attribute_at, target_of, IsDefined}
 use Rattle.wb_flow.specs.declared.arrows.Arrow.{Arrow}
 use Rattle.wb_flow.specs.declared.positions.Position.{Position}
@@ -12,16 +12,16 @@ use Rattle.wb_flow.specs.declared.vertex.Vertex.{Vertex}
 use Rattle.wb_flow.specs.declared.vertex.Vertex.TheVariants as v
 use Rattle.wb_flow.specs.Graphs.{IsNeededBy}
 use Rattle.wb_flow.specs.Inner.Positions.{vertex_at, tree_at}
-use Rattle.wb_resolved.specs.declared.attributes.Direction.TheVariants.{Synthesized, Inherited}
-use Rattle.wb_resolved.specs.declared.attributes.Occurrence.{Occurrence}
-use Rattle.wb_resolved.specs.declared.attribution.AttributionParts.{AttributionParts}
-use Rattle.wb_resolved.specs.declared.equation.Equation.{Equation}
-use Rattle.wb_resolved.specs.declared.equation.Place.{Place}
-use Rattle.wb_resolved.specs.declared.equation.Place.TheVariants as place
-use Rattle.wb_resolved.specs.declared.production.Forward.{Forward}
-use Rattle.wb_resolved.specs.declared.production.Local.{Local}
-use Rattle.wb_resolved.specs.declared.production.Production.{Production}
-use Rattle.wb_resolved.specs.Expression.{Node}
+use Rattle.wb_syntax_resolved.specs.declared.attributes.Direction.TheVariants.{Synthesized, Inherited}
+use Rattle.wb_syntax_resolved.specs.declared.attributes.Occurrence.{Occurrence}
+use Rattle.wb_syntax_resolved.specs.declared.attribution.AttributionParts.{AttributionParts}
+use Rattle.wb_syntax_resolved.specs.declared.equation.Equation.{Equation}
+use Rattle.wb_syntax_resolved.specs.declared.equation.Place.{Place}
+use Rattle.wb_syntax_resolved.specs.declared.equation.Place.TheVariants as place
+use Rattle.wb_syntax_resolved.specs.declared.production.Forward.{Forward}
+use Rattle.wb_syntax_resolved.specs.declared.production.Local.{Local}
+use Rattle.wb_syntax_resolved.specs.declared.production.Production.{Production}
+use Rattle.wb_syntax_resolved.specs.Expression.{Node}
 
 -- the edge is one of the production's flow graph
 abbrev pub IsArrow : AttributionParts → Production → Arrow → Type 0

@@ -1,19 +1,19 @@
 -- Where a production has trees, and which vertices are there.
 use Rattle.std.specs.Prelude.{◌≡◌, ◌⊎◌, ℕ, Option, None, Some, option_map, slice_get}
 use Rattle.wb_base.specs.declared.symbol.Kind.TheVariants as kind
-use Rattle.wb_attributes.specs.Occurrences.{IsOn}
+use Rattle.wb_flow_theory.specs.Occurrences.{IsOn}
 use Rattle.wb_flow.specs.declared.positions.Position.{Position}
 use Rattle.wb_flow.specs.declared.positions.Position.TheVariants as p
 use Rattle.wb_flow.specs.declared.positions.TreeAt.{TreeAt}
 use Rattle.wb_flow.specs.declared.vertex.Vertex.{Vertex}
 use Rattle.wb_flow.specs.declared.vertex.Vertex.TheVariants as v
-use Rattle.wb_resolved.specs.declared.attribution.AttributionParts.{AttributionParts}
-use Rattle.wb_resolved.specs.declared.production.Child.{Child}
-use Rattle.wb_resolved.specs.declared.production.ChildKind.{ChildKind}
-use Rattle.wb_resolved.specs.declared.production.ChildKind.TheVariants as child
-use Rattle.wb_resolved.specs.declared.production.Forward.{Forward}
-use Rattle.wb_resolved.specs.declared.production.Local.{Local}
-use Rattle.wb_resolved.specs.declared.production.Production.{Production}
+use Rattle.wb_syntax_resolved.specs.declared.attribution.AttributionParts.{AttributionParts}
+use Rattle.wb_syntax_resolved.specs.declared.production.Child.{Child}
+use Rattle.wb_syntax_resolved.specs.declared.production.ChildKind.{ChildKind}
+use Rattle.wb_syntax_resolved.specs.declared.production.ChildKind.TheVariants as child
+use Rattle.wb_syntax_resolved.specs.declared.production.Forward.{Forward}
+use Rattle.wb_syntax_resolved.specs.declared.production.Local.{Local}
+use Rattle.wb_syntax_resolved.specs.declared.production.Production.{Production}
 
 -- an attribute at a position
 abbrev pub vertex_at : Position → ℕ → Vertex

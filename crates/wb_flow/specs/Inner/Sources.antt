@@ -1,10 +1,10 @@
 -- What has a flow type in a production: a synthesized attribute of its top, or the forwarded tree.
 use Rattle.std.specs.Prelude.{◌≡◌, ℕ, Bool, true, List, Option, None, Some, Contains}
-use Rattle.wb_attributes.specs.Vertices.{top_inherited}
-use Rattle.wb_attributes.specs.Occurrences.{Goes, Needs, ForwardNeeds}
-use Rattle.wb_attributes.specs.Flow.{Reaches}
-use Rattle.wb_attributes.specs.Modular.{IsProduction}
-use Rattle.wb_attributes.specs.WellDefined.{KeepsFlowTypes, KeepsForwardFlowType}
+use Rattle.wb_flow_theory.specs.Vertices.{top_inherited}
+use Rattle.wb_flow_theory.specs.Occurrences.{Goes, Needs, ForwardNeeds}
+use Rattle.wb_flow_theory.specs.Flow.{Reaches}
+use Rattle.wb_flow_theory.specs.Modular.{IsProduction}
+use Rattle.wb_flow_theory.specs.WellDefined.{KeepsFlowTypes, KeepsForwardFlowType}
 use Rattle.wb_flow.specs.declared.reads.Tested.{Tested}
 use Rattle.wb_flow.specs.declared.refusal.AttributeRefusal.{AttributeRefusal}
 use Rattle.wb_flow.specs.declared.refusal.AttributeRefusal.TheVariants as r
@@ -14,11 +14,11 @@ use Rattle.wb_flow.specs.Graphs.{IsFlowGraph}
 use Rattle.wb_flow.specs.Occurrences.{IsIndexOf}
 use Rattle.wb_flow.specs.Refusals.{LacksForwardNeed, ReachesOutside, IsFlowCycle}
 use Rattle.wb_flow.specs.Vertices.{vertex_of}
-use Rattle.wb_resolved.specs.declared.attributes.Direction.TheVariants.{Synthesized, Inherited}
-use Rattle.wb_resolved.specs.declared.attributes.Occurrence.{Occurrence}
-use Rattle.wb_resolved.specs.declared.attribution.AttributionParts.{AttributionParts}
-use Rattle.wb_resolved.specs.declared.production.Production.{Production}
-use Rattle.wb_resolved.specs.Attribution.{IsAttribution}
+use Rattle.wb_syntax_resolved.specs.declared.attributes.Direction.TheVariants.{Synthesized, Inherited}
+use Rattle.wb_syntax_resolved.specs.declared.attributes.Occurrence.{Occurrence}
+use Rattle.wb_syntax_resolved.specs.declared.attribution.AttributionParts.{AttributionParts}
+use Rattle.wb_syntax_resolved.specs.declared.production.Production.{Production}
+use Rattle.wb_syntax_resolved.specs.Attribution.{IsAttribution}
 
 -- the vertex is that of the synthesized attribute, or that of the forwarded tree where none is given
 abbrev pub IsSource : AttributionParts → Vertex → Option ℕ → Type 0

@@ -3,7 +3,7 @@ use Rattle.std.specs.Prelude.{◌≡◌, ◌<◌, ◌⊎◌, ℕ, suc, List, [],
 use Rattle.wb_base.specs.declared.symbol.Symbol.{Symbol}
 use Rattle.wb_base.specs.declared.symbol.Symbol.TheVariants.{Terminal, Nonterminal}
 use Rattle.wb_base.specs.Grammar.{GrammarView, Production}
-use Rattle.wb_grammars.specs.Productions.{IsProduction}
+use Rattle.wb_grammar_theory.specs.Productions.{IsProduction}
 
 -- the group at a place, or no production
 abbrev pub group_at : List (List ℕ) → ℕ → List ℕ

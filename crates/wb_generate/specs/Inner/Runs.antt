@@ -4,7 +4,7 @@ use Rattle.std.specs.Prelude.{slice_index, max}
 use Rattle.wb_base.specs.declared.symbol.Symbol.{Symbol}
 use Rattle.wb_base.specs.declared.symbol.Symbol.TheVariants.{Terminal, Nonterminal}
 use Rattle.wb_base.specs.Grammar.{GrammarView, Production}
-use Rattle.wb_languages.specs.Bounds.{fewer}
+use Rattle.wb_scan_theory.specs.Bounds.{fewer}
 use Rattle.wb_generate.specs.Counts.{total}
 use Rattle.wb_generate.specs.Draws.{draw, upper, candidates, wants, chosen_of}
 use Rattle.wb_generate.specs.Inner.States.{State, GoesOn}

@@ -4,8 +4,8 @@ use Rattle.wb_base.specs.declared.symbol.Symbol.{Symbol}
 use Rattle.wb_base.specs.declared.symbol.Symbol.TheVariants.{Terminal, Nonterminal}
 use Rattle.wb_base.specs.Grammar.{GrammarView}
 use Rattle.wb_termset.specs.Sets.{IsMember, IsSubset, Grew}
-use Rattle.wb_grammars.specs.Productions.{IsProduction}
-use Rattle.wb_grammars.specs.Derives.{IsFirst}
+use Rattle.wb_grammar_theory.specs.Productions.{IsProduction}
+use Rattle.wb_grammar_theory.specs.Derives.{IsFirst}
 use Rattle.wb_grammar.specs.Facts.{set_of}
 
 -- the terminal can begin the symbols: it is the first of them, or a member of the set of the first, or can begin the rest where the first

@@ -4,7 +4,7 @@ use Rattle.wb_base.specs.declared.symbol.Symbol.{Symbol}
 use Rattle.wb_base.specs.declared.symbol.Symbol.TheVariants.{Terminal, Nonterminal}
 use Rattle.wb_base.specs.Grammar.{GrammarView}
 use Rattle.wb_termset.specs.Sets.{IsMember}
-use Rattle.wb_grammars.specs.Productions.{IsProduction}
+use Rattle.wb_grammar_theory.specs.Productions.{IsProduction}
 
 -- each symbol is generated: a terminal where terminals may be, and a nonterminal by a production whose right side is generated
 pub data Generates (g : GrammarView) (terminals : Bool) : List Symbol → Type 0 where

@@ -5,7 +5,7 @@ use Rattle.wb_base.specs.declared.symbol.Symbol.{Symbol}
 use Rattle.wb_base.specs.declared.symbol.Symbol.TheVariants.{Terminal, Nonterminal}
 use Rattle.wb_base.specs.Grammar.{GrammarView}
 use Rattle.wb_termset.specs.Sets.{IsMember, IsSubset, members}
-use Rattle.wb_grammars.specs.Productions.{IsProduction}
+use Rattle.wb_grammar_theory.specs.Productions.{IsProduction}
 use Rattle.wb_grammar.specs.Inner.LeastSets.{Holds, AreGenerated}
 use Rattle.wb_grammar.specs.declared.least_fixpoint.Worklist.{Worklist}
 

@@ -4,10 +4,10 @@ use Rattle.wb_base.specs.declared.symbol.Symbol.{Symbol}
 use Rattle.wb_base.specs.declared.symbol.Symbol.TheVariants.{Nonterminal}
 use Rattle.wb_base.specs.Grammar.{GrammarView}
 use Rattle.wb_termset.specs.Sets.{IsMember}
-use Rattle.wb_grammars.specs.declared.item.Item.{Item}
-use Rattle.wb_grammars.specs.Productions.{IsProduction}
-use Rattle.wb_grammars.specs.Items.{after_dot, initial_item}
-use Rattle.wb_grammars.specs.Closure.{InClosure}
+use Rattle.wb_grammar_theory.specs.declared.item.Item.{Item}
+use Rattle.wb_grammar_theory.specs.Productions.{IsProduction}
+use Rattle.wb_grammar_theory.specs.Items.{after_dot, initial_item}
+use Rattle.wb_grammar_theory.specs.Closure.{InClosure}
 
 -- the kernel and after it the initial items of these nonterminals, among which are those after the dots at the first places; all are in the
 -- closure

@@ -1,6 +1,6 @@
 -- Sets of items in order, and the numbers of kernels by this order.
 use Rattle.std.specs.Prelude.{◌≡◌, ◌↔◌, ℕ, ◌+◌, ◌<◌, ◌≤◌, List, Option, Some, None, length, Contains, slice_get}
-use Rattle.wb_grammars.specs.declared.item.Item.{Item}
+use Rattle.wb_grammar_theory.specs.declared.item.Item.{Item}
 use Rattle.wb_items.specs.Kernels.{AreInOrder, Precedes}
 
 -- the one set has the least item in which it differs from the other

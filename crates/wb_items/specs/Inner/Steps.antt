@@ -1,6 +1,6 @@
 -- Steps between kernels as they are kept.
 use Rattle.std.specs.Prelude.{◌≡◌, ◌≤◌, ◌+◌, ℕ, List, length, Some, slice_get}
-use Rattle.wb_grammars.specs.declared.item.Item.{Item}
+use Rattle.wb_grammar_theory.specs.declared.item.Item.{Item}
 use Rattle.wb_items.specs.declared.kernel_index.Step.{Step}
 use Rattle.wb_items.specs.Inner.Searches.{IsIndex}
 

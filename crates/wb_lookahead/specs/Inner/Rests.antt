@@ -4,8 +4,8 @@ use Rattle.wb_base.specs.declared.symbol.Symbol.{Symbol}
 use Rattle.wb_base.specs.declared.symbol.Symbol.TheVariants.{Nonterminal}
 use Rattle.wb_base.specs.Grammar.{GrammarView}
 use Rattle.wb_termset.specs.Sets.{IsMember}
-use Rattle.wb_grammars.specs.Productions.{IsProduction}
-use Rattle.wb_grammars.specs.Derives.{Derives, IsFirst}
+use Rattle.wb_grammar_theory.specs.Productions.{IsProduction}
+use Rattle.wb_grammar_theory.specs.Derives.{Derives, IsFirst}
 use Rattle.wb_lookahead.specs.declared.first_of.Rest.{Rest}
 
 -- the set has the terminals that begin what the symbols derive, and the answer says whether they derive the empty text

@@ -2,10 +2,10 @@
 use Rattle.std.specs.Prelude.{◌≡◌, ◌≢◌, ◌⊎◌, ◌<◌, ◌+◌, ℕ, List, [], ◌∷◌, length, Some, slice_get, slice_set, slice_index}
 use Rattle.wb_base.specs.declared.symbol.Symbol.{Symbol}
 use Rattle.wb_base.specs.declared.symbol.Symbol.TheVariants.{Terminal, Nonterminal}
-use Rattle.wb_grammars.specs.declared.item.Item.{Item}
-use Rattle.wb_grammars.specs.Productions.{top_of}
-use Rattle.wb_grammars.specs.Items.{after_dot}
-use Rattle.wb_grammars.specs.Lookaheads.{IsLookahead}
+use Rattle.wb_grammar_theory.specs.declared.item.Item.{Item}
+use Rattle.wb_grammar_theory.specs.Productions.{top_of}
+use Rattle.wb_grammar_theory.specs.Items.{after_dot}
+use Rattle.wb_grammar_theory.specs.Lookaheads.{IsLookahead}
 use Rattle.wb_items.specs.declared.transitions.Move.{Move}
 use Rattle.wb_items.specs.Kernels.{KernelsView, LeadsTo, closure_of, prefix_of}
 use Rattle.wb_lookahead.specs.declared.action.Action.{Action}

@@ -5,11 +5,11 @@ use Rattle.wb_base.specs.declared.symbol.Symbol.{Symbol}
 use Rattle.wb_base.specs.declared.symbol.Symbol.TheVariants.{Terminal, Nonterminal}
 use Rattle.wb_base.specs.Grammar.{GrammarView}
 use Rattle.wb_termset.specs.Sets.{IsMember, members}
-use Rattle.wb_grammars.specs.declared.item.Item.{Item}
-use Rattle.wb_grammars.specs.Productions.{IsProduction, end_of}
-use Rattle.wb_grammars.specs.Derives.{IsFirst}
-use Rattle.wb_grammars.specs.Items.{after_dot, advance, initial_item, start_item}
-use Rattle.wb_grammars.specs.States.{Flows}
+use Rattle.wb_grammar_theory.specs.declared.item.Item.{Item}
+use Rattle.wb_grammar_theory.specs.Productions.{IsProduction, end_of}
+use Rattle.wb_grammar_theory.specs.Derives.{IsFirst}
+use Rattle.wb_grammar_theory.specs.Items.{after_dot, advance, initial_item, start_item}
+use Rattle.wb_grammar_theory.specs.States.{Flows}
 use Rattle.wb_items.specs.declared.item_lookahead.ItemLookahead.{ItemLookahead}
 use Rattle.wb_items.specs.Kernels.{KernelsView, AreKernels, LeadsTo, closure_of, count_of}
 use Rattle.wb_items.specs.Lookaheads.{AreLookaheadsOf, IsSetOf}

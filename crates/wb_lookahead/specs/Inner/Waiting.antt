@@ -1,6 +1,6 @@
 -- Places that wait, and their marks.
 use Rattle.std.specs.Prelude.{◌≡◌, ◌⊎◌, ℕ, Bool, true, false, List, [], ◌∷◌, ◌++◌, Contains, slice_index_or}
-use Rattle.wb_grammars.specs.declared.item.Item.{Item}
+use Rattle.wb_grammar_theory.specs.declared.item.Item.{Item}
 use Rattle.wb_lookahead.specs.declared.worklist.Place.{Place}
 
 -- the place of the kernel has a mark

@@ -1,28 +1,28 @@
 -- What is written on a production, after what is there.
 use Rattle.std.specs.Prelude.{◌≡◌, ◌++◌, ℕ, List, [], Contains, length, map, option_to_list}
 use Rattle.std.specs.List.{AllZip}
-use Rattle.wb_resolved.specs.declared.production.Child.{Child}
-use Rattle.wb_resolved.specs.declared.production.Local.{Local}
-use Rattle.wb_resolved.specs.declared.production.Production.{Production}
+use Rattle.wb_syntax_resolved.specs.declared.production.Child.{Child}
+use Rattle.wb_syntax_resolved.specs.declared.production.Local.{Local}
+use Rattle.wb_syntax_resolved.specs.declared.production.Production.{Production}
 use Rattle.wb_syntax.specs.declared.expression.Equation as written
-use Rattle.wb_naming.specs.declared.declaration.Labelled.{Labelled}
-use Rattle.wb_naming.specs.Declares.{declarations}
-use Rattle.wb_naming.specs.Meaning.{HasLabel}
-use Rattle.wb_numbering.specs.Files.{File, equations_on}
-use Rattle.wb_numbering.specs.Written.{local_equations}
-use Rattle.wb_numbering.proofs.OneProduction.{local_label}
-use Rattle.wb_rows.specs.declared.body.Body.{Body}
-use Rattle.wb_rows.specs.declared.moves.Moves.{Moves}
-use Rattle.wb_rows.specs.declared.row.Head.{Head}
-use Rattle.wb_rows.specs.declared.scope.Scope.{Scope}
-use Rattle.wb_rows.specs.declared.scope.ProductionLabels.{ProductionLabels}
-use Rattle.wb_rows.specs.Blocks.{AddsBody}
-use Rattle.wb_rows.specs.Moves.{IsNow, IsChildNow, IsLocalNow, IsForwardNow, IsEquationNow}
-use Rattle.wb_symbols.specs.Symbols.{AreNumbers}
-use Rattle.wb_symbols.specs.Lent.{lent_file}
-use Rattle.wb_symbols.specs.Right.{IsRight}
+use Rattle.wb_names_theory.specs.declared.declaration.Labelled.{Labelled}
+use Rattle.wb_names_theory.specs.Declares.{declarations}
+use Rattle.wb_names_theory.specs.Meaning.{HasLabel}
+use Rattle.wb_names_numbers_theory.specs.Files.{File, equations_on}
+use Rattle.wb_names_numbers_theory.specs.Written.{local_equations}
+use Rattle.wb_names_numbers_theory.proofs.OneProduction.{local_label}
+use Rattle.wb_names_rows.specs.declared.body.Body.{Body}
+use Rattle.wb_names_rows.specs.declared.moves.Moves.{Moves}
+use Rattle.wb_names_rows.specs.declared.row.Head.{Head}
+use Rattle.wb_names_rows.specs.declared.scope.Scope.{Scope}
+use Rattle.wb_names_rows.specs.declared.scope.ProductionLabels.{ProductionLabels}
+use Rattle.wb_names_rows.specs.Blocks.{AddsBody}
+use Rattle.wb_names_rows.specs.Moves.{IsNow, IsChildNow, IsLocalNow, IsForwardNow, IsEquationNow}
+use Rattle.wb_names_symbols.specs.Symbols.{AreNumbers}
+use Rattle.wb_names_symbols.specs.Lent.{lent_file}
+use Rattle.wb_names_symbols.specs.Right.{IsRight}
 use Rattle.wb_names.specs.declared.production.Context.{Context}
-use Rattle.wb_symbols.specs.Writers.{AreWriters}
+use Rattle.wb_names_symbols.specs.Writers.{AreWriters}
 
 -- the file of a context
 abbrev pub file_of : Context → File

@@ -1,10 +1,10 @@
 -- All rows of a value, each sort in the order of its numbers.
 use Rattle.std.specs.Prelude.{ℕ, List}
-use Rattle.wb_resolved.specs.declared.attributes.Nonterminal.{Nonterminal}
-use Rattle.wb_resolved.specs.declared.production.Production.{Production}
-use Rattle.wb_resolved.specs.declared.terminal.Terminal.{Terminal}
-use Rattle.wb_symbols.specs.declared.symbols.Counts.{Counts}
-use Rattle.wb_symbols.specs.declared.symbols.Symbols.{Symbols}
+use Rattle.wb_syntax_resolved.specs.declared.attributes.Nonterminal.{Nonterminal}
+use Rattle.wb_syntax_resolved.specs.declared.production.Production.{Production}
+use Rattle.wb_syntax_resolved.specs.declared.terminal.Terminal.{Terminal}
+use Rattle.wb_names_symbols.specs.declared.symbols.Counts.{Counts}
+use Rattle.wb_names_symbols.specs.declared.symbols.Symbols.{Symbols}
 use Rattle.wb_names.specs.declared.rest.Rest.{Rest}
 use Rattle.wb_names.specs.declared.rows.Written.{Written}
 

@@ -1,7 +1,7 @@
 -- The value that all rows of a file make.
-use Rattle.wb_resolved.specs.declared.resolved.ResolvedParts.{ResolvedParts}
-use Rattle.wb_numbering.specs.Files.{File}
-use Rattle.wb_symbols.specs.declared.symbols.Symbols.{Symbols}
+use Rattle.wb_syntax_resolved.specs.declared.resolved.ResolvedParts.{ResolvedParts}
+use Rattle.wb_names_numbers_theory.specs.Files.{File}
+use Rattle.wb_names_symbols.specs.declared.symbols.Symbols.{Symbols}
 use Rattle.wb_names.specs.declared.rows.Written.{Written}
 
 -- the value of a file with these rows

@@ -1,21 +1,21 @@
 -- Rows of productions as they are made before all have numbers: names are those of a scope, and a base's numbers are looked up in tables.
 use Rattle.std.specs.Prelude.{◌≡◌, ◌⊎◌, ◌++◌, length, map, option_to_list}
 use Rattle.std.specs.List.{AllZip}
-use Rattle.wb_resolved.specs.declared.production.Child.{Child}
-use Rattle.wb_resolved.specs.declared.production.Local.{Local}
-use Rattle.wb_resolved.specs.declared.production.Production.{Production}
-use Rattle.wb_naming.specs.Declarations.{ProductionDeclaration}
-use Rattle.wb_numbering.specs.Files.{File, equations_on}
-use Rattle.wb_numbering.specs.Numbering.{Numbering}
-use Rattle.wb_numbering.specs.Rows.{production_role}
-use Rattle.wb_numbering.specs.Sources.{sources, IsFrom}
-use Rattle.wb_numbering.specs.Written.{local_equations, forward_equations, attribute_equations}
-use Rattle.wb_rows.specs.declared.moves.Moves.{Moves}
-use Rattle.wb_rows.specs.declared.scope.Scope.{Scope}
-use Rattle.wb_rows.specs.declared.scope.ProductionLabels.{ProductionLabels}
-use Rattle.wb_rows.specs.Moves.{IsNow, IsChildNow, IsLocalNow, IsForwardNow, IsEquationNow}
-use Rattle.wb_rows.specs.Nodes.{IsAt, IsFoundLocal, IsFoundForward, IsFoundEquation}
-use Rattle.wb_rows.specs.Scope.{IsFoundChild}
+use Rattle.wb_syntax_resolved.specs.declared.production.Child.{Child}
+use Rattle.wb_syntax_resolved.specs.declared.production.Local.{Local}
+use Rattle.wb_syntax_resolved.specs.declared.production.Production.{Production}
+use Rattle.wb_names_theory.specs.Declarations.{ProductionDeclaration}
+use Rattle.wb_names_numbers_theory.specs.Files.{File, equations_on}
+use Rattle.wb_names_numbers_theory.specs.Numbering.{Numbering}
+use Rattle.wb_names_numbers_theory.specs.Rows.{production_role}
+use Rattle.wb_names_numbers_theory.specs.Sources.{sources, IsFrom}
+use Rattle.wb_names_numbers_theory.specs.Written.{local_equations, forward_equations, attribute_equations}
+use Rattle.wb_names_rows.specs.declared.moves.Moves.{Moves}
+use Rattle.wb_names_rows.specs.declared.scope.Scope.{Scope}
+use Rattle.wb_names_rows.specs.declared.scope.ProductionLabels.{ProductionLabels}
+use Rattle.wb_names_rows.specs.Moves.{IsNow, IsChildNow, IsLocalNow, IsForwardNow, IsEquationNow}
+use Rattle.wb_names_rows.specs.Nodes.{IsAt, IsFoundLocal, IsFoundForward, IsFoundEquation}
+use Rattle.wb_names_rows.specs.Scope.{IsFoundChild}
 
 -- the labels of a row
 pub record AreLabelsOf (labels : ProductionLabels) (row : Production) : Type 0 where

@@ -1,19 +1,19 @@
 -- Attributes, occurrences and preferences, extensible nonterminals and the start, as they are made before all have numbers.
 use Rattle.std.specs.Prelude.{◌≡◌, ◌⊎◌, ℕ, List, [], None, length, option_to_list}
 use Rattle.std.specs.List.{AllZip}
-use Rattle.wb_resolved.specs.declared.resolved.ResolvedParts.{ResolvedParts}
-use Rattle.wb_naming.specs.Declarations.{attributes, extensibles, occurrences, preferences, starts}
-use Rattle.wb_numbering.specs.Files.{File}
-use Rattle.wb_numbering.specs.Resolves.{starts_of}
-use Rattle.wb_numbering.specs.Sources.{sources, IsFrom}
-use Rattle.wb_rows.specs.declared.moves.Moves.{Moves}
-use Rattle.wb_rows.specs.declared.plains.Plains.{Plains}
-use Rattle.wb_rows.specs.declared.scope.Scope.{Scope}
-use Rattle.wb_rows.specs.Base.{IsAttributeNow, IsOccurrenceNow, IsPreferenceNow}
-use Rattle.wb_rows.specs.Moves.{IsNow}
-use Rattle.wb_rows.specs.Nodes.{IsAt}
-use Rattle.wb_rows.specs.Plains.{AddsEach, IsFoundAttribute, IsFoundOccurrence, IsFoundPreference}
-use Rattle.wb_symbols.specs.Right.{IsRight}
+use Rattle.wb_syntax_resolved.specs.declared.resolved.ResolvedParts.{ResolvedParts}
+use Rattle.wb_names_theory.specs.Declarations.{attributes, extensibles, occurrences, preferences, starts}
+use Rattle.wb_names_numbers_theory.specs.Files.{File}
+use Rattle.wb_names_numbers_theory.specs.Resolves.{starts_of}
+use Rattle.wb_names_numbers_theory.specs.Sources.{sources, IsFrom}
+use Rattle.wb_names_rows.specs.declared.moves.Moves.{Moves}
+use Rattle.wb_names_rows.specs.declared.plains.Plains.{Plains}
+use Rattle.wb_names_rows.specs.declared.scope.Scope.{Scope}
+use Rattle.wb_names_rows.specs.Base.{IsAttributeNow, IsOccurrenceNow, IsPreferenceNow}
+use Rattle.wb_names_rows.specs.Moves.{IsNow}
+use Rattle.wb_names_rows.specs.Nodes.{IsAt}
+use Rattle.wb_names_rows.specs.Plains.{AddsEach, IsFoundAttribute, IsFoundOccurrence, IsFoundPreference}
+use Rattle.wb_names_symbols.specs.Right.{IsRight}
 use Rattle.wb_names.specs.declared.rest.Rest.{Rest}
 
 -- a host's own file comes on top of no grammar, and so of no start

@@ -1,11 +1,11 @@
 -- Rows of productions that are added, concrete ones apart from the others.
 use Rattle.std.specs.Prelude.{◌≡◌, ◌++◌, ◌∷◌, [], Bool, true, false, not, List, filter}
-use Rattle.wb_resolved.specs.declared.production.Production.{Production}
-use Rattle.wb_resolved.specs.declared.production.ProductionRole.{ProductionRole}
-use Rattle.wb_resolved.specs.declared.production.ProductionRole.TheVariants.{Concrete, Abstract}
-use Rattle.wb_naming.specs.Declarations.{ProductionDeclaration}
-use Rattle.wb_numbering.specs.Rows.{production_role}
-use Rattle.wb_rows.specs.Nodes.{AddsAll}
+use Rattle.wb_syntax_resolved.specs.declared.production.Production.{Production}
+use Rattle.wb_syntax_resolved.specs.declared.production.ProductionRole.{ProductionRole}
+use Rattle.wb_syntax_resolved.specs.declared.production.ProductionRole.TheVariants.{Concrete, Abstract}
+use Rattle.wb_names_theory.specs.Declarations.{ProductionDeclaration}
+use Rattle.wb_names_numbers_theory.specs.Rows.{production_role}
+use Rattle.wb_names_rows.specs.Nodes.{AddsAll}
 use Rattle.wb_names.specs.declared.productions.Productions.{Productions}
 
 -- a production of this role is of the concrete grammar

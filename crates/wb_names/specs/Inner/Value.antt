@@ -1,24 +1,24 @@
 -- All rows of a value, and the value that they make.
 use Rattle.std.specs.Prelude.{◌≡◌, ◌++◌, ◌<◌, ◌≤◌, ℕ, List, Option, All, IfSome, map, length, option_map, option_to_list, take}
 use Rattle.wb_base.specs.Grammar.{GrammarView}
-use Rattle.wb_resolved.specs.declared.attributes.Attribute.{Attribute}
-use Rattle.wb_resolved.specs.declared.attributes.Nonterminal.{Nonterminal}
-use Rattle.wb_resolved.specs.declared.attribution.AttributionParts.{AttributionParts}
-use Rattle.wb_resolved.specs.declared.production.Production.{Production}
-use Rattle.wb_resolved.specs.declared.resolved.ResolvedParts.{ResolvedParts}
-use Rattle.wb_resolved.specs.declared.terminal.Terminal.{Terminal}
-use Rattle.wb_resolved.specs.Numbered.{signature_of}
+use Rattle.wb_syntax_resolved.specs.declared.attributes.Attribute.{Attribute}
+use Rattle.wb_syntax_resolved.specs.declared.attributes.Nonterminal.{Nonterminal}
+use Rattle.wb_syntax_resolved.specs.declared.attribution.AttributionParts.{AttributionParts}
+use Rattle.wb_syntax_resolved.specs.declared.production.Production.{Production}
+use Rattle.wb_syntax_resolved.specs.declared.resolved.ResolvedParts.{ResolvedParts}
+use Rattle.wb_syntax_resolved.specs.declared.terminal.Terminal.{Terminal}
+use Rattle.wb_syntax_resolved.specs.Numbered.{signature_of}
 use Rattle.wb_values.specs.Signature.{Signature}
-use Rattle.wb_naming.specs.Declarations.{AttributeDeclaration, attributes, lexicals, nonterminals, productions}
-use Rattle.wb_numbering.specs.Files.{File}
-use Rattle.wb_naming.specs.NamesOk.{NamesOk}
-use Rattle.wb_numbering.specs.Resolves.{Resolves, IsScanned, IsInGrammarOf, IsConcrete, IsGrammarRow}
-use Rattle.wb_numbering.specs.Sources.{sources, AreGrouped}
-use Rattle.wb_rows.specs.declared.moves.Moves.{Moves}
-use Rattle.wb_rows.specs.declared.scope.Scope.{Scope}
-use Rattle.wb_rows.specs.Grammars.{IsGrammarLike}
-use Rattle.wb_symbols.specs.Symbols.{AreNumbers, IsNameOf}
-use Rattle.wb_symbols.specs.Rows.{AreGroupedBy, IsTerminalNow, IsNonterminalNow}
+use Rattle.wb_names_theory.specs.Declarations.{AttributeDeclaration, attributes, lexicals, nonterminals, productions}
+use Rattle.wb_names_numbers_theory.specs.Files.{File}
+use Rattle.wb_names_theory.specs.NamesOk.{NamesOk}
+use Rattle.wb_names_numbers_theory.specs.Resolves.{Resolves, IsScanned, IsInGrammarOf, IsConcrete, IsGrammarRow}
+use Rattle.wb_names_numbers_theory.specs.Sources.{sources, AreGrouped}
+use Rattle.wb_names_rows.specs.declared.moves.Moves.{Moves}
+use Rattle.wb_names_rows.specs.declared.scope.Scope.{Scope}
+use Rattle.wb_names_rows.specs.Grammars.{IsGrammarLike}
+use Rattle.wb_names_symbols.specs.Symbols.{AreNumbers, IsNameOf}
+use Rattle.wb_names_symbols.specs.Rows.{AreGroupedBy, IsTerminalNow, IsNonterminalNow}
 use Rattle.wb_names.specs.declared.rest.Rest.{Rest}
 use Rattle.wb_names.specs.Inner.Joined.{Rows}
 use Rattle.wb_names.specs.Inner.Productions.{AreProductions}

@@ -1,7 +1,7 @@
 -- What is shown of a file whose first line is wrong.
 use Rattle.std.specs.Prelude.{◌≡◌, ℕ, List}
-use Rattle.wb_naming.specs.declared.refusal.NameRefusal.{NameRefusal}
-use Rattle.wb_naming.specs.declared.refusal.NameRefusal.TheVariants as n
+use Rattle.wb_names_theory.specs.declared.refusal.NameRefusal.{NameRefusal}
+use Rattle.wb_names_theory.specs.declared.refusal.NameRefusal.TheVariants as n
 
 -- the refusal shows this name for a file of the wrong sort, or is that memory ran out
 abbrev pub IsWrongSort : List ℕ → NameRefusal → Type 0

@@ -2,10 +2,10 @@
 use Rattle.std.specs.Prelude.{◌≡◌, ◌≢◌, ◌≤◌, List, ℕ, Option}
 use Rattle.wb_world.specs.Shelf.{Files}
 use Rattle.wb_operations.specs.Operations.{Operations}
-use Rattle.wb_words.specs.Asked.{Asked}
-use Rattle.wb_words.specs.Asked as a
-use Rattle.wb_inputs.specs.declared.answer.Answer.{Answer}
-use Rattle.wb_inputs.specs.declared.status.Status.TheVariants.{Usage, WriteFault}
+use Rattle.wb_program_words.specs.Asked.{Asked}
+use Rattle.wb_program_words.specs.Asked as a
+use Rattle.wb_program_inputs.specs.declared.answer.Answer.{Answer}
+use Rattle.wb_program_inputs.specs.declared.status.Status.TheVariants.{Usage, WriteFault}
 use Rattle.wb_program.specs.Report.{InCommandSet, IsReport}
 use Rattle.wb_program.specs.Written.{WritesNothing}
 

@@ -1,12 +1,12 @@
 -- What the next token is, where the beginning of a text says that it is of another format.
 use Rattle.std.specs.Prelude.{◌≡◌, ℕ, List, Option, MatchOption}
-use Rattle.wb_predictive.specs.declared.table.Next.TheVariants.{Found}
-use Rattle.wb_tokens.specs.declared.token.Layout.TheVariants.{WithComments}
-use Rattle.wb_tokens.specs.declared.token.Token.{Token}
-use Rattle.wb_tokens.specs.declared.token.Token.TheVariants as t
-use Rattle.wb_tokens.specs.declared.word.Word.TheVariants as w
-use Rattle.wb_tokens.specs.declared.punctuation.Punctuation.TheVariants as p
-use Rattle.wb_tokens.specs.NextToken.{IsNextIn}
+use Rattle.wb_text_predictive.specs.declared.table.Next.TheVariants.{Found}
+use Rattle.wb_text_tokens.specs.declared.token.Layout.TheVariants.{WithComments}
+use Rattle.wb_text_tokens.specs.declared.token.Token.{Token}
+use Rattle.wb_text_tokens.specs.declared.token.Token.TheVariants as t
+use Rattle.wb_text_tokens.specs.declared.word.Word.TheVariants as w
+use Rattle.wb_text_tokens.specs.declared.punctuation.Punctuation.TheVariants as p
+use Rattle.wb_text_tokens.specs.NextToken.{IsNextIn}
 use Rattle.wb_syntax.specs.Tokens.{Lexeme}
 use Rattle.wb_reader.specs.declared.format.Wanted.{Wanted}
 use Rattle.wb_reader.specs.declared.format.Wanted.TheVariants as wanted

@@ -1,15 +1,15 @@
 -- The forms of items: the tokens with which they begin, and their right sides, both in one order.
 use Rattle.std.specs.Prelude.{List, [], ◌∷◌}
-use Rattle.wb_predictive.specs.declared.symbol.Symbol.{Symbol}
-use Rattle.wb_predictive.specs.declared.symbol.Symbol.TheVariants.{Token, Nonterminal, Act}
-use Rattle.wb_tokens.specs.declared.kind.TokenKind.{TokenKind}
-use Rattle.wb_tokens.specs.declared.kind.TokenKind.TheVariants as kind
-use Rattle.wb_tokens.specs.declared.word.Word.TheVariants as w
-use Rattle.wb_tokens.specs.declared.punctuation.Punctuation.TheVariants as p
+use Rattle.wb_text_predictive.specs.declared.symbol.Symbol.{Symbol}
+use Rattle.wb_text_predictive.specs.declared.symbol.Symbol.TheVariants.{Token, Nonterminal, Act}
+use Rattle.wb_text_tokens.specs.declared.kind.TokenKind.{TokenKind}
+use Rattle.wb_text_tokens.specs.declared.kind.TokenKind.TheVariants as kind
+use Rattle.wb_text_tokens.specs.declared.word.Word.TheVariants as w
+use Rattle.wb_text_tokens.specs.declared.punctuation.Punctuation.TheVariants as p
 use Rattle.wb_syntax.specs.declared.pattern.Role.TheVariants as r
 use Rattle.wb_syntax.specs.declared.production.ProductionRole.TheVariants as k
-use Rattle.wb_builder.specs.declared.actions.Action.{Action}
-use Rattle.wb_builder.specs.declared.items.ItemAction.{ItemAction}
+use Rattle.wb_reader_builder.specs.declared.actions.Action.{Action}
+use Rattle.wb_reader_builder.specs.declared.items.ItemAction.{ItemAction}
 use Rattle.wb_reader.specs.declared.part.Part.{Part}
 
 -- the kinds with which an item begins

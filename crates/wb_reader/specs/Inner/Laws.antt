@@ -1,9 +1,9 @@
 -- The laws of the table of specifications.
 use Rattle.std.proofs.Common.{◌≡◌, true, refl}
-use Rattle.wb_predictive.specs.Entries.{is_decided}
-use Rattle.wb_predictive.specs.Kinds.{is_member}
-use Rattle.wb_tokens.specs.declared.kind.TokenKind.TheVariants.{End}
-use Rattle.wb_tokens.specs.Inner.SameKind.{same_kind}
+use Rattle.wb_text_predictive.specs.Entries.{is_decided}
+use Rattle.wb_text_predictive.specs.Kinds.{is_member}
+use Rattle.wb_text_tokens.specs.declared.kind.TokenKind.TheVariants.{End}
+use Rattle.wb_text_tokens.specs.Inner.SameKind.{same_kind}
 use Rattle.wb_reader.specs.declared.part.Part.{Part}
 use Rattle.wb_reader.specs.Inner.LookaheadTable.{lookahead_table}
 use Rattle.wb_reader.specs.Inner.RightSides.{right_sides}

@@ -1,17 +1,17 @@
 -- The right sides of the grammar of specifications.
 use Rattle.std.specs.Prelude.{List, [], ◌∷◌}
-use Rattle.wb_predictive.specs.declared.symbol.Symbol.{Symbol}
-use Rattle.wb_predictive.specs.declared.symbol.Symbol.TheVariants.{Token, Nonterminal, Act}
-use Rattle.wb_tokens.specs.declared.kind.TokenKind.{TokenKind}
-use Rattle.wb_tokens.specs.declared.kind.TokenKind.TheVariants as kind
-use Rattle.wb_tokens.specs.declared.word.Word.TheVariants as w
-use Rattle.wb_tokens.specs.declared.punctuation.Punctuation.TheVariants as p
+use Rattle.wb_text_predictive.specs.declared.symbol.Symbol.{Symbol}
+use Rattle.wb_text_predictive.specs.declared.symbol.Symbol.TheVariants.{Token, Nonterminal, Act}
+use Rattle.wb_text_tokens.specs.declared.kind.TokenKind.{TokenKind}
+use Rattle.wb_text_tokens.specs.declared.kind.TokenKind.TheVariants as kind
+use Rattle.wb_text_tokens.specs.declared.word.Word.TheVariants as w
+use Rattle.wb_text_tokens.specs.declared.punctuation.Punctuation.TheVariants as p
 use Rattle.wb_reader.specs.declared.part.Part.{Part}
 use Rattle.wb_reader.specs.Inner.ItemRules.{item_right_sides}
-use Rattle.wb_builder.specs.declared.actions.Action.{Action}
-use Rattle.wb_builder.specs.declared.items.ItemAction.{ItemAction}
-use Rattle.wb_builder.specs.declared.parts.PartAction.{PartAction}
-use Rattle.wb_builder.specs.declared.expressions.ExpressionAction.{ExpressionAction}
+use Rattle.wb_reader_builder.specs.declared.actions.Action.{Action}
+use Rattle.wb_reader_builder.specs.declared.items.ItemAction.{ItemAction}
+use Rattle.wb_reader_builder.specs.declared.parts.PartAction.{PartAction}
+use Rattle.wb_reader_builder.specs.declared.expressions.ExpressionAction.{ExpressionAction}
 
 -- the right sides
 unfoldable pub right_sides : Part → List (List (Symbol TokenKind Part Action))

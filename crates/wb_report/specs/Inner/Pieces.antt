@@ -1,7 +1,7 @@
 -- Pieces of lines, and their texts.
 use Rattle.std.specs.Prelude.{ℕ, List, [], ◌∷◌, ◌++◌}
 use Rattle.std.specs.Fmt.{decimal}
-use Rattle.wb_tokens.specs.Printing.{printed_text}
+use Rattle.wb_text_tokens.specs.Printing.{printed_text}
 use Rattle.wb_report.specs.declared.pieces.Piece.{Piece}
 use Rattle.wb_report.specs.declared.pieces.Piece.TheVariants as p
 use Rattle.wb_report.specs.Parts.{spaced, action_text}

@@ -1,11 +1,11 @@
 -- The form that is found to win from a place of a text on.
 use Rattle.std.specs.Prelude.{◌≡◌, ◌≢◌, ◌<◌, ◌≤◌, ◌+◌, ℕ, List, ◌++◌, Contains, Some, length, slice_get, slice_range}
 use Rattle.wb_base.specs.declared.symbol.Symbol.{Symbol}
-use Rattle.wb_languages.specs.declared.form.Form.{Form}
-use Rattle.wb_languages.specs.Languages.{LanguageView}
-use Rattle.wb_languages.specs.Winners.{BeatsAt, Wins}
-use Rattle.wb_languages.specs.Parts.{IsPrefixOf}
-use Rattle.wb_languages.specs.Tokens.{Next, NextToken}
+use Rattle.wb_scan_theory.specs.declared.form.Form.{Form}
+use Rattle.wb_scan_theory.specs.Languages.{LanguageView}
+use Rattle.wb_scan_theory.specs.Winners.{BeatsAt, Wins}
+use Rattle.wb_scan_theory.specs.Parts.{IsPrefixOf}
+use Rattle.wb_scan_theory.specs.Tokens.{Next, NextToken}
 use Rattle.wb_scan.specs.declared.scanned.Scanned.{Scanned}
 use Rattle.wb_scan.specs.declared.scanned.Scanned.TheVariants.{Token, End, NoToken}
 use Rattle.wb_scan.specs.Views.{LanguageParts}

@@ -1,9 +1,9 @@
 -- A lexicon of a language with bare forms, and what is made by it.
 use Rattle.std.specs.Prelude.{◌≡◌, ◌↔◌, ◌<◌, ◌≤◌, ℕ, Bool, List, length}
-use Rattle.wb_contexts.specs.Considered.{LexiconView}
-use Rattle.wb_languages.specs.Languages.{LanguageView}
+use Rattle.wb_determinism_contexts.specs.Considered.{LexiconView}
+use Rattle.wb_scan_theory.specs.Languages.{LanguageView}
 use Rattle.wb_automata.specs.Automata.{IsConsidered}
-use Rattle.wb_languages.specs.Parts.{IsConsideredAt}
+use Rattle.wb_scan_theory.specs.Parts.{IsConsideredAt}
 use Rattle.wb_lookahead.specs.Contents.{TablesView, size_of}
 use Rattle.wb_termset.specs.Sets.{IsMember}
 

@@ -1,6 +1,6 @@
 -- How a grammar's terminals are written, as private functions are lent it.
 use Rattle.wb_base.specs.Grammar.{GrammarView}
-use Rattle.wb_languages.specs.Languages.{LanguageView}
+use Rattle.wb_scan_theory.specs.Languages.{LanguageView}
 use Rattle.wb_scan.specs.declared.bare_language.Written.{Written}
 use Rattle.wb_scan.specs.Bare.{language_with, AreWrittenFor}
 

@@ -1,9 +1,9 @@
 -- What is met in a term, the last first, and what tokens and actions make of it.
 use Rattle.std.specs.Prelude.{ℕ, ◌++◌, List, [], ◌∷◌, true, false}
-use Rattle.wb_tokens.specs.declared.word.Word.{Word}
-use Rattle.wb_tokens.specs.declared.word.Word.TheVariants as w
-use Rattle.wb_tokens.specs.declared.token.Token.{Token}
-use Rattle.wb_tokens.specs.declared.token.Token.TheVariants as t
+use Rattle.wb_text_tokens.specs.declared.word.Word.{Word}
+use Rattle.wb_text_tokens.specs.declared.word.Word.TheVariants as w
+use Rattle.wb_text_tokens.specs.declared.token.Token.{Token}
+use Rattle.wb_text_tokens.specs.declared.token.Token.TheVariants as t
 use Rattle.wb_values.specs.Tree.{Plain, int, bool, text}
 use Rattle.wb_terms.specs.declared.event.Event.{Event}
 use Rattle.wb_terms.specs.declared.event.Event.TheVariants.{Begin, Int, Bool, Text, End}

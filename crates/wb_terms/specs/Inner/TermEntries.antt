@@ -1,10 +1,10 @@
 -- What is given of each nonterminal of the grammar of terms beside its rules. It is only checked.
 use Rattle.std.specs.Prelude.{[], ◌∷◌, true, false}
-use Rattle.wb_predictive.specs.Entries.{Entry}
-use Rattle.wb_tokens.specs.declared.kind.TokenKind.{TokenKind}
-use Rattle.wb_tokens.specs.declared.kind.TokenKind.TheVariants as k
-use Rattle.wb_tokens.specs.declared.word.Word.TheVariants as w
-use Rattle.wb_tokens.specs.declared.punctuation.Punctuation.TheVariants as p
+use Rattle.wb_text_predictive.specs.Entries.{Entry}
+use Rattle.wb_text_tokens.specs.declared.kind.TokenKind.{TokenKind}
+use Rattle.wb_text_tokens.specs.declared.kind.TokenKind.TheVariants as k
+use Rattle.wb_text_tokens.specs.declared.word.Word.TheVariants as w
+use Rattle.wb_text_tokens.specs.declared.punctuation.Punctuation.TheVariants as p
 use Rattle.wb_terms.specs.declared.rules.Part.{Part}
 
 -- what is given of each nonterminal

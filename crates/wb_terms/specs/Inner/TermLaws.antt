@@ -1,9 +1,9 @@
 -- The laws of the table of terms.
 use Rattle.std.proofs.Common.{◌≡◌, true, refl}
-use Rattle.wb_predictive.specs.Entries.{is_decided}
-use Rattle.wb_predictive.specs.Kinds.{is_member}
-use Rattle.wb_tokens.specs.declared.kind.TokenKind.TheVariants.{End}
-use Rattle.wb_tokens.specs.Inner.SameKind.{same_kind}
+use Rattle.wb_text_predictive.specs.Entries.{is_decided}
+use Rattle.wb_text_predictive.specs.Kinds.{is_member}
+use Rattle.wb_text_tokens.specs.declared.kind.TokenKind.TheVariants.{End}
+use Rattle.wb_text_tokens.specs.Inner.SameKind.{same_kind}
 use Rattle.wb_terms.specs.declared.rules.Part.{Part}
 use Rattle.wb_terms.specs.Inner.TermTable.{term_rights}
 use Rattle.wb_terms.specs.Inner.TermEntries.{term_entries}

@@ -1,7 +1,7 @@
 -- What a reading of bytes has found.
 use Rattle.std.specs.Prelude.{◌≡◌, ℕ, List, []}
-use Rattle.wb_predictive.specs.declared.reading.Outcome.{Outcome}
-use Rattle.wb_predictive.specs.declared.reading.Outcome.TheVariants.{Whole, Stopped}
+use Rattle.wb_text_predictive.specs.declared.reading.Outcome.{Outcome}
+use Rattle.wb_text_predictive.specs.declared.reading.Outcome.TheVariants.{Whole, Stopped}
 use Rattle.wb_terms.specs.declared.event.Event.{Event}
 use Rattle.wb_terms.specs.Term.{Term}
 use Rattle.wb_terms.specs.TermText.{IsTermText, IsFirstFault}

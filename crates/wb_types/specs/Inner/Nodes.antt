@@ -2,14 +2,14 @@
 use Rattle.std.specs.Prelude.{◌≡◌, ◌<◌, ◌↔◌, ℕ, List, Option, Some, length, slice_get}
 use Rattle.wb_base.specs.declared.symbol.Kind.{Kind}
 use Rattle.wb_base.specs.declared.symbol.Kind.TheVariants as kind
-use Rattle.wb_expressions.specs.declared.node.Node.TheVariants as n
-use Rattle.wb_expressions.specs.Places.{Stands}
+use Rattle.wb_syntax_expressions.specs.declared.node.Node.TheVariants as n
+use Rattle.wb_syntax_expressions.specs.Places.{Stands}
 use Rattle.wb_operations.specs.Operations.{OperationSignature}
-use Rattle.wb_resolved.specs.declared.attribution.AttributionParts.{AttributionParts}
-use Rattle.wb_resolved.specs.declared.production.ChildKind.TheVariants as child
-use Rattle.wb_resolved.specs.declared.production.Production.{Production}
-use Rattle.wb_resolved.specs.Expression.{Expression, Node}
-use Rattle.wb_resolved.specs.Visible.{kind_at}
+use Rattle.wb_syntax_resolved.specs.declared.attribution.AttributionParts.{AttributionParts}
+use Rattle.wb_syntax_resolved.specs.declared.production.ChildKind.TheVariants as child
+use Rattle.wb_syntax_resolved.specs.declared.production.Production.{Production}
+use Rattle.wb_syntax_resolved.specs.Expression.{Expression, Node}
+use Rattle.wb_syntax_resolved.specs.Visible.{kind_at}
 use Rattle.wb_values.specs.Signature.{Signature}
 use Rattle.wb_types.specs.Kinds.{IsAttributeKind, HasKind}
 

@@ -2,7 +2,7 @@ use Rattle.std.proofs.Common.{◌≡◌, ◌<◌, ◌/◌, ◌∙◌, sym, subst
 use Rattle.std.specs.Prelude.{All}
 use Rattle.std.proofs.lemmas.Bool.{true≢false}
 use Rattle.wb_automata.specs.Inner.Pairs.{Any, IsLeft, IsRight}
-use Rattle.wb_positions.specs.Leaves.{holds_of}
+use Rattle.wb_automata_positions.specs.Leaves.{holds_of}
 use Rattle.wb_automata.proofs.PairLemmas.{adds_begin, adds_end, adds_more, adds_none, adds_same, holds_at}
 use Rattle.wb_automata.proofs.pairs.meet_after.Goals as goal
 use Rattle.wb_automata.proofs.pairs.meet_after.Goals.{then-holds+in_ok-meet_with, else-holds}

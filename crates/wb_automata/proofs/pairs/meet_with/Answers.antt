@@ -1,7 +1,7 @@
 use Rattle.std.proofs.Common.{◌≡◌, ◌+◌, ◌*◌, ◌∙◌, sym, ap, arith, get_or, length, ℕ}
 use Rattle.std.proofs.lemmas.Bool.{true≢false}
 use Rattle.wb_automata.specs.Inner.Pairs.{IsRight}
-use Rattle.wb_positions.specs.Leaves.{holds_of}
+use Rattle.wb_automata_positions.specs.Leaves.{holds_of}
 use Rattle.wb_automata.proofs.PairLemmas.{adds_begin, adds_end, adds_more, adds_none, adds_same, holds_at}
 use Rattle.wb_automata.proofs.pairs.meet_with.Goals as goal
 use Rattle.wb_automata.proofs.pairs.meet_with.Goals.{then-holds+in_ok-meet, else-holds}

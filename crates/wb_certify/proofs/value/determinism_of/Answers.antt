@@ -1,19 +1,23 @@
 use Rattle.std.proofs.Common.{rules}
-use Rattle.std.specs.Prelude.{IsSome}
-use Rattle.wb_determinism.specs.Refusals.{IsNoMemory}
-use Rattle.wb_certify.proofs.RefusalLemmas.{deterministic, not_deterministic, parts_of}
+use Rattle.wb_determinism_host.specs.Refusals.{IsNoMemory}
+use Rattle.wb_certify.proofs.ValueLemmas.{made_beside, not_found, parts_beside, start_is}
 use Rattle.wb_certify.proofs.value.determinism_of.Goals as goal
+
+pub determinism_beside-requires-clause-grammar : goal.determinism_beside-requires-clause-grammar
+determinism_beside-requires-clause-grammar c =
+    start_is c.args.host.now c.args.resolved.now c.parts.result.now c.requires c.parts.ensures.certified c.parts.ensures.parts
+
+pub determinism_beside-requires-clause-host : goal.determinism_beside-requires-clause-host
+determinism_beside-requires-clause-host c =
+    parts_beside c.args.host.now c.args.resolved.now c.parts.result.now c.requires c.parts.ensures.certified c.parts.ensures.parts
 
 pub returns-in-Ok-clause-ok : goal.returns-in-Ok-clause-ok
 returns-in-Ok-clause-ok c =
-    let there : IsSome c.args.resolved.now.grammar = search rules in record {
-      whole = c.parts.ensures.whole;
-      deterministic = deterministic c.args.resolved.now c.in-Ok.parts there c.in-Ok.ensures.ok;
-      of_grammar = parts_of c.args.resolved.now c.in-Ok.parts c.in-Ok.ensures.ok;
-    }
+    made_beside c.args.host.now c.args.resolved.now c.parts.result.now c.requires c.parts.ensures.certified c.parts.ensures.parts
+    c.in-Ok.made c.in-Ok.ensures.ok
 
 pub returns-in-Err-clause-refused : goal.returns-in-Err-clause-refused
 returns-in-Err-clause-refused c =
-    let there : IsSome c.args.resolved.now.grammar = search rules in
     let other : ¬ IsNoMemory c.in-Err.refusal = search rules in
-    not_deterministic c.args.resolved.now c.in-Err.refusal there c.in-Err.ensures.refused other
+    not_found c.args.host.now c.args.resolved.now c.parts.result.now c.requires c.parts.ensures.certified c.parts.ensures.parts
+    c.in-Err.refusal c.in-Err.ensures.refused other

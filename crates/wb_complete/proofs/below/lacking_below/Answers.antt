@@ -1,11 +1,11 @@
 use Rattle.std.proofs.Common.{◌∙◌, List, refl, sym, ap, subst}
 use Rattle.std.proofs.lemmas.Option.{same_Some, IfSome_then}
-use Rattle.wb_attributes.specs.Rules.{by_forward}
-use Rattle.wb_attributes.specs.Vertices.{tree_of, forward}
+use Rattle.wb_flow_theory.specs.Rules.{by_forward}
+use Rattle.wb_flow_theory.specs.Vertices.{tree_of, forward}
 use Rattle.wb_complete.specs.Inner.Tests.{DefinesReads, LacksReads}
 use Rattle.wb_complete.proofs.TestLemmas.{defines_below, lacks_below, none_then}
-use Rattle.wb_resolved.specs.declared.production.Forward.{Forward}
-use Rattle.wb_resolved.specs.Expression.{Node}
+use Rattle.wb_syntax_resolved.specs.declared.production.Forward.{Forward}
+use Rattle.wb_syntax_resolved.specs.Expression.{Node}
 use Rattle.wb_complete.proofs.below.lacking_below.Goals as goal
 
 pub returns-in-Some-forward-clause-some : goal.returns-in-Some-forward-clause-some

@@ -1,12 +1,12 @@
 use Rattle.std.proofs.Common.{◌≤◌, List, Contains, length, refl, subst, arith}
 use Rattle.wb_lemmas.proofs.Members.{contains_at, place_of}
-use Rattle.wb_attributes.specs.Rules.{target_vertex, by_equation}
+use Rattle.wb_flow_theory.specs.Rules.{target_vertex, by_equation}
 use Rattle.wb_flow.proofs.AddingLemmas.{read_item}
 use Rattle.wb_flow.proofs.EachLemmas.{each_more, each_in}
 use Rattle.wb_complete.specs.Inner.Tests.{DefinesReads, LacksReads}
 use Rattle.wb_complete.proofs.TestLemmas.{lacks_below}
-use Rattle.wb_resolved.specs.declared.equation.Equation.{Equation}
-use Rattle.wb_resolved.specs.Expression.{Node}
+use Rattle.wb_syntax_resolved.specs.declared.equation.Equation.{Equation}
+use Rattle.wb_syntax_resolved.specs.Expression.{Node}
 use Rattle.wb_complete.proofs.below.lacking_in_equations.Goals as goal
 
 pub returns-in-Some-clause-some : goal.returns-in-Some-clause-some

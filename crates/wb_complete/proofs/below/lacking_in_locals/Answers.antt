@@ -1,13 +1,13 @@
 use Rattle.std.proofs.Common.{◌≡◌, ◌≤◌, List, Some, slice_get, length, refl, subst, arith}
 use Rattle.wb_lemmas.proofs.Members.{place_of}
-use Rattle.wb_attributes.specs.Rules.{by_local}
-use Rattle.wb_attributes.specs.Vertices.{tree_of, local}
+use Rattle.wb_flow_theory.specs.Rules.{by_local}
+use Rattle.wb_flow_theory.specs.Vertices.{tree_of, local}
 use Rattle.wb_flow.proofs.AddingLemmas.{read_item}
 use Rattle.wb_flow.proofs.EachLemmas.{each_more, each_in}
 use Rattle.wb_complete.specs.Inner.Tests.{DefinesReads, LacksReads}
 use Rattle.wb_complete.proofs.TestLemmas.{lacks_below}
-use Rattle.wb_resolved.specs.declared.production.Local.{Local}
-use Rattle.wb_resolved.specs.Expression.{Node}
+use Rattle.wb_syntax_resolved.specs.declared.production.Local.{Local}
+use Rattle.wb_syntax_resolved.specs.Expression.{Node}
 use Rattle.wb_complete.proofs.below.lacking_in_locals.Goals as goal
 
 pub returns-in-Some-clause-some : goal.returns-in-Some-clause-some

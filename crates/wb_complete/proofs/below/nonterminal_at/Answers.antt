@@ -1,9 +1,9 @@
 use Rattle.std.proofs.Common.{◌∙◌, Some, ap, subst}
 use Rattle.std.proofs.lemmas.Option.{IfSome_then}
-use Rattle.wb_attributes.specs.Rules.{IsTreeAt}
+use Rattle.wb_flow_theory.specs.Rules.{IsTreeAt}
 use Rattle.wb_complete.proofs.TestLemmas.{child_kind_at, local_kind_at, no_child_at, no_local_at}
-use Rattle.wb_resolved.specs.declared.production.Local.{Local}
-use Rattle.wb_resolved.specs.Visible.{kind_at}
+use Rattle.wb_syntax_resolved.specs.declared.production.Local.{Local}
+use Rattle.wb_syntax_resolved.specs.Visible.{kind_at}
 use Rattle.wb_complete.proofs.below.nonterminal_at.Goals as goal
 
 pub returns-then-number-children-clause-some : goal.returns-then-number-children-clause-some

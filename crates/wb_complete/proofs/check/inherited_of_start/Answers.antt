@@ -1,13 +1,13 @@
 use Rattle.std.proofs.Common.{◌≡◌, ◌≤◌, Some, length, get_or, slice_get, refl, arith}
 use Rattle.std.proofs.lemmas.Option.{slice_get-get_or}
 use Rattle.wb_lemmas.proofs.Members.{contains_at}
-use Rattle.wb_attributes.specs.Modular.{InheritsNothing}
-use Rattle.wb_attributes.specs.Occurrences.{Goes}
+use Rattle.wb_flow_theory.specs.Modular.{InheritsNothing}
+use Rattle.wb_flow_theory.specs.Occurrences.{Goes}
 use Rattle.wb_flow.proofs.EachLemmas.{each_more, each_all}
 use Rattle.wb_flow.proofs.IndexLemmas.{row_number, on_of_number}
 use Rattle.wb_flow.proofs.RowLemmas.{row_within}
-use Rattle.wb_resolved.specs.declared.attributes.Direction.TheVariants.{Inherited}
-use Rattle.wb_resolved.specs.declared.attributes.Occurrence.{Occurrence}
+use Rattle.wb_syntax_resolved.specs.declared.attributes.Direction.TheVariants.{Inherited}
+use Rattle.wb_syntax_resolved.specs.declared.attributes.Occurrence.{Occurrence}
 use Rattle.wb_complete.proofs.AnswerLemmas.{if_none, if_some}
 use Rattle.wb_complete.proofs.TestLemmas.{inherits_nothing, of_number, start_has}
 use Rattle.wb_complete.proofs.check.inherited_of_start.Goals as goal

@@ -1,8 +1,8 @@
 use Rattle.std.proofs.Common.{◌≡◌, ◌≤◌, List, Some, length, slice_get, subst, arith}
-use Rattle.wb_attributes.specs.WellDefined.{DefinesTop}
+use Rattle.wb_flow_theory.specs.WellDefined.{DefinesTop}
 use Rattle.wb_flow.proofs.AddingLemmas.{read_item}
 use Rattle.wb_flow.proofs.EachLemmas.{each_more, each_in}
-use Rattle.wb_resolved.specs.declared.production.Production.{Production}
+use Rattle.wb_syntax_resolved.specs.declared.production.Production.{Production}
 use Rattle.wb_complete.proofs.check.without_equation.Goals as goal
 
 pub returns-in-Some-clause-some : goal.returns-in-Some-clause-some

@@ -1,4 +1,4 @@
-use Rattle.wb_attributes.specs.WellDefined.{DefinesTop}
+use Rattle.wb_flow_theory.specs.WellDefined.{DefinesTop}
 use Rattle.wb_flow.proofs.EachLemmas.{EachBefore}
 use Rattle.wb_complete.proofs.check.without_equation.Given as goal
 

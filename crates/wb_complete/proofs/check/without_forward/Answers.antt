@@ -1,11 +1,11 @@
 use Rattle.std.proofs.Common.{◌≡◌, List, Some, false, is_some, refl, slice_get, subst}
-use Rattle.wb_attributes.specs.Modular.{ForwardsAsExtension}
-use Rattle.wb_attributes.specs.Rules.{Forwards}
+use Rattle.wb_flow_theory.specs.Modular.{ForwardsAsExtension}
+use Rattle.wb_flow_theory.specs.Rules.{Forwards}
 use Rattle.wb_flow.proofs.AddingLemmas.{read_item}
 use Rattle.wb_flow.proofs.EachLemmas.{each_more, each_in}
 use Rattle.wb_complete.proofs.AnswerLemmas.{if_none, if_some}
 use Rattle.wb_complete.specs.Inner.Tests.{ForwardsWhereBridging}
-use Rattle.wb_resolved.specs.declared.production.Production.{Production}
+use Rattle.wb_syntax_resolved.specs.declared.production.Production.{Production}
 use Rattle.wb_complete.proofs.check.without_forward.Goals as goal
 use Rattle.wb_complete.proofs.check.without_forward.Goals.{else-is_none-via-then-is_none+else-is_bridging, else-is_none-via-else-is_none}
 

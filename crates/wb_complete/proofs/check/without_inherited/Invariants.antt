@@ -1,4 +1,4 @@
-use Rattle.wb_attributes.specs.WellDefined.{DefinesBelow}
+use Rattle.wb_flow_theory.specs.WellDefined.{DefinesBelow}
 use Rattle.wb_flow.proofs.EachLemmas.{EachBefore}
 use Rattle.wb_complete.proofs.check.without_inherited.Given as goal
 

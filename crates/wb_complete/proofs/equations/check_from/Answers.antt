@@ -1,7 +1,7 @@
 use Rattle.std.proofs.Common.{◌≡◌, ◌∙◌, ◌∷◌, [], length, get_or, refl, sym, subst}
 use Rattle.wb_lemmas.proofs.Places.{at_once}
 use Rattle.wb_lemmas.proofs.Refusals.{handed_on}
-use Rattle.wb_attributes.specs.Vertices.{made, forward}
+use Rattle.wb_flow_theory.specs.Vertices.{made, forward}
 use Rattle.wb_flow.specs.declared.refusal.AttributeRefusal.TheVariants.{NoMemory}
 use Rattle.wb_flow.specs.declared.vertex.Vertex.TheVariants.{Top}
 use Rattle.wb_flow.proofs.ArrowLemmas.{below_rule}

@@ -1,8 +1,8 @@
 use Rattle.std.proofs.Common.{◌≡◌, ◌⊎◌, ◌<◌, ℕ, Some, Contains, true, false, slice_get}
 use Rattle.std.specs.Prelude.{slice_index_or}
-use Rattle.wb_attributes.specs.Occurrences.{Goes}
+use Rattle.wb_flow_theory.specs.Occurrences.{Goes}
 use Rattle.wb_flow.specs.declared.vertex.Vertex.TheVariants.{Top}
-use Rattle.wb_resolved.specs.declared.attributes.Direction.TheVariants.{Inherited}
+use Rattle.wb_syntax_resolved.specs.declared.attributes.Direction.TheVariants.{Inherited}
 use Rattle.wb_complete.proofs.equations.first_outside.Given as goal
 
 abbrev pub invariant-vertices : goal.invariant-vertices

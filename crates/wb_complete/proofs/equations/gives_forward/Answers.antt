@@ -4,7 +4,7 @@ use Rattle.wb_lemmas.proofs.Places.{read_at}
 use Rattle.wb_flow.proofs.EachLemmas.{each_more, each_in}
 use Rattle.wb_complete.proofs.ForwardLemmas.{none_given}
 use Rattle.wb_complete.specs.Inner.ForwardTests.{is_forward}
-use Rattle.wb_resolved.specs.declared.equation.Equation.{Equation}
+use Rattle.wb_syntax_resolved.specs.declared.equation.Equation.{Equation}
 use Rattle.wb_complete.proofs.equations.gives_forward.Goals as goal
 
 pub equations-preserved : goal.equations-preserved

@@ -4,7 +4,7 @@ use Rattle.wb_lemmas.proofs.Refusals.{handed_on}
 use Rattle.wb_flow.proofs.EachLemmas.{each_more, each_in}
 use Rattle.wb_complete.specs.Inner.ForwardTests.{KeepsWhereBridging}
 use Rattle.wb_complete.specs.ForwardRefusals.{IsTrueForwardRefusal}
-use Rattle.wb_resolved.specs.declared.production.Production.{Production}
+use Rattle.wb_syntax_resolved.specs.declared.production.Production.{Production}
 use Rattle.wb_complete.proofs.forward.check_in.Goals as goal
 
 pub productions-preserved : goal.productions-preserved

@@ -3,7 +3,7 @@ use Rattle.std.proofs.lemmas.Option.{slice_get_within}
 use Rattle.std.proofs.lemmas.Result.{IfOk-weaker, IfErr-weaker}
 use Rattle.wb_lemmas.proofs.Refusals.{handed_on}
 use Rattle.wb_flow.specs.declared.refusal.AttributeRefusal.TheVariants.{NoMemory}
-use Rattle.wb_resolved.specs.declared.attribution.AttributionParts.{AttributionParts}
+use Rattle.wb_syntax_resolved.specs.declared.attribution.AttributionParts.{AttributionParts}
 use Rattle.wb_complete.proofs.ForwardLemmas.{keeps_none, refuses}
 use Rattle.wb_complete.specs.Inner.ForwardTests.{KeepsForward, KeepsWhereBridging, RefusesProduction}
 use Rattle.wb_complete.specs.ForwardRefusals.{IsTrueForwardRefusal}

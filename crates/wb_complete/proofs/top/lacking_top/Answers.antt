@@ -4,7 +4,7 @@ use Rattle.wb_lemmas.proofs.Members.{contains_at}
 use Rattle.wb_flow.proofs.EachLemmas.{each_more, each_all}
 use Rattle.wb_flow.proofs.IndexLemmas.{row_number, on_of_number}
 use Rattle.wb_flow.proofs.RowLemmas.{row_within}
-use Rattle.wb_resolved.specs.declared.attributes.Occurrence.{Occurrence}
+use Rattle.wb_syntax_resolved.specs.declared.attributes.Occurrence.{Occurrence}
 use Rattle.wb_complete.specs.Inner.Tests.{DefinesAttribute}
 use Rattle.wb_complete.proofs.TestLemmas.{defines_top, lacks_top, of_row, of_number, none_forwards}
 use Rattle.wb_complete.proofs.top.lacking_top.Goals as goal

@@ -1,10 +1,10 @@
 use Rattle.std.proofs.Common.{◌≤◌, ◌∙◌, length, get_or, not, ap, arith}
 use Rattle.std.proofs.lemmas.Option.{slice_get-get_or}
-use Rattle.wb_attributes.specs.Rules.{Forwards}
+use Rattle.wb_flow_theory.specs.Rules.{Forwards}
 use Rattle.wb_flow.specs.Inner.Arrows.{IsCopyArrow, IsLeftCopyArrow}
 use Rattle.wb_flow.proofs.AddingLemmas.{adds_start, adds_as}
 use Rattle.wb_flow.proofs.RowLemmas.{OfNumber, OnNonterminal, row_within, row_more, row_all, on_attribute}
-use Rattle.wb_resolved.specs.declared.attributes.Occurrence.{Occurrence}
+use Rattle.wb_syntax_resolved.specs.declared.attributes.Occurrence.{Occurrence}
 use Rattle.wb_flow.proofs.arrows.add_copies.Goals as goal
 
 pub occurrences-init : goal.occurrences-init

@@ -5,7 +5,7 @@ use Rattle.wb_flow.specs.Inner.Adding.{Adds, SomeBelow}
 use Rattle.wb_flow.specs.Inner.Arrows.{IsLocalArrow, IsExpressionArrow}
 use Rattle.wb_flow.proofs.AddingLemmas.{adds_start_below, adds_more_below}
 use Rattle.wb_flow.proofs.KindLemmas.{local_one}
-use Rattle.wb_resolved.specs.declared.production.Local.{Local}
+use Rattle.wb_syntax_resolved.specs.declared.production.Local.{Local}
 use Rattle.wb_flow.proofs.arrows.add_locals.Goals as goal
 
 pub locals-init : goal.locals-init

@@ -1,10 +1,10 @@
 use Rattle.std.proofs.Common.{◌≡◌, ◌≤◌, List, Some, length, slice_get, subst, arith}
 use Rattle.wb_lemmas.proofs.Refusals.{handed_on}
-use Rattle.wb_attributes.specs.WellDefined.{IsAcyclic}
+use Rattle.wb_flow_theory.specs.WellDefined.{IsAcyclic}
 use Rattle.wb_flow.specs.Inner.Sources.{RefusesCycle, RefusesAnyCycle}
 use Rattle.wb_flow.proofs.AddingLemmas.{read_item}
 use Rattle.wb_flow.proofs.EachLemmas.{each_more, each_in}
-use Rattle.wb_resolved.specs.declared.production.Production.{Production}
+use Rattle.wb_syntax_resolved.specs.declared.production.Production.{Production}
 use Rattle.wb_flow.proofs.check.check_all_cycles.Goals as goal
 
 pub returns-in_err-check_cycle-clause-refused : goal.returns-in_err-check_cycle-clause-refused

@@ -3,7 +3,7 @@ use Rattle.wb_lemmas.proofs.Refusals.{handed_on}
 use Rattle.wb_flow.specs.Inner.Sources.{KeepsAll, RefusesReads, RefusesAnyReads}
 use Rattle.wb_flow.proofs.AddingLemmas.{read_item}
 use Rattle.wb_flow.proofs.EachLemmas.{each_more, each_in}
-use Rattle.wb_resolved.specs.declared.production.Production.{Production}
+use Rattle.wb_syntax_resolved.specs.declared.production.Production.{Production}
 use Rattle.wb_flow.proofs.check.check_all_reads.Goals as goal
 
 pub returns-in_err-check_reads-clause-refused : goal.returns-in_err-check_reads-clause-refused

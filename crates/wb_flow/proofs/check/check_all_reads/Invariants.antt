@@ -1,6 +1,6 @@
 use Rattle.std.proofs.Common.{◌≡◌, ◌<◌, ℕ, Some, slice_get}
 use Rattle.wb_flow.specs.Inner.Sources.{KeepsAll}
-use Rattle.wb_resolved.specs.declared.production.Production.{Production}
+use Rattle.wb_syntax_resolved.specs.declared.production.Production.{Production}
 use Rattle.wb_flow.proofs.check.check_all_reads.Given as goal
 
 abbrev pub invariant-productions : goal.invariant-productions

@@ -1,6 +1,6 @@
 use Rattle.std.proofs.Common.{◌≡◌, ◌<◌, ℕ, Some, slice_get}
 use Rattle.wb_flow.specs.Inner.Sources.{HoldsForward}
-use Rattle.wb_resolved.specs.declared.attributes.Occurrence.{Occurrence}
+use Rattle.wb_syntax_resolved.specs.declared.attributes.Occurrence.{Occurrence}
 use Rattle.wb_flow.proofs.check.check_forward_needs.Given as goal
 
 abbrev pub invariant-occurrences : goal.invariant-occurrences

@@ -1,7 +1,7 @@
 use Rattle.std.proofs.lemmas.Result.{IfOk-weaker, IfErr-weaker}
 use Rattle.wb_lemmas.proofs.Refusals.{handed_on}
-use Rattle.wb_attributes.specs.Modular.{EachProduction}
-use Rattle.wb_attributes.specs.WellDefined.{IsAcyclic}
+use Rattle.wb_flow_theory.specs.Modular.{EachProduction}
+use Rattle.wb_flow_theory.specs.WellDefined.{IsAcyclic}
 use Rattle.wb_flow.specs.Inner.Sources.{RefusesForward, RefusesAnyReads, RefusesAnyCycle}
 use Rattle.wb_flow.specs.Refusals.{FlowsOk, IsTrueFlowRefusal}
 use Rattle.wb_flow.proofs.CheckLemmas.{forward_refused, reads_refused, cycle_refused, keep_to_all}

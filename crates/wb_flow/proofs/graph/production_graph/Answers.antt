@@ -1,8 +1,8 @@
 use Rattle.std.proofs.lemmas.Result.{IfOk-weaker}
-use Rattle.wb_attributes.specs.Modular.{IsProduction}
+use Rattle.wb_flow_theory.specs.Modular.{IsProduction}
 use Rattle.wb_flow.specs.Graphs.{IsFlowGraph}
 use Rattle.wb_flow.proofs.GraphLemmas.{production_listed, graph_at}
-use Rattle.wb_resolved.specs.declared.production.Production.{Production}
+use Rattle.wb_syntax_resolved.specs.declared.production.Production.{Production}
 use Rattle.wb_flow.proofs.graph.production_graph.Goals as goal
 
 pub graph_of-requires-clause-index : goal.graph_of-requires-clause-index

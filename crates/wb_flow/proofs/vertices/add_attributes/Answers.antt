@@ -5,7 +5,7 @@ use Rattle.wb_flow.specs.Inner.Adding.{Adds}
 use Rattle.wb_flow.specs.Inner.Positions.{vertex_at, IsAttributeOf}
 use Rattle.wb_flow.proofs.AddingLemmas.{adds_start, adds_as}
 use Rattle.wb_flow.proofs.RowLemmas.{OfNumber, OnNonterminal, row_within, row_more, row_all, on_attribute}
-use Rattle.wb_resolved.specs.declared.attributes.Occurrence.{Occurrence}
+use Rattle.wb_syntax_resolved.specs.declared.attributes.Occurrence.{Occurrence}
 use Rattle.wb_flow.proofs.vertices.add_attributes.Goals as goal
 
 pub occurrences-init : goal.occurrences-init

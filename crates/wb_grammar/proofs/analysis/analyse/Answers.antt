@@ -1,5 +1,5 @@
 use Rattle.std.proofs.Common.{subst, sym}
-use Rattle.wb_grammars.proofs.LiveLemmas.{reduced_live}
+use Rattle.wb_grammar_theory.proofs.LiveLemmas.{reduced_live}
 use Rattle.wb_grammar.specs.Facts.{AreFirstSets}
 use Rattle.wb_grammar.proofs.analysis.analyse.Goals as goal
 

@@ -1,5 +1,5 @@
 use Rattle.std.proofs.Common.{◌≡◌, rules, ◌<◌, length, ◌+◌, ◌++◌, arith, sym, subst}
-use Rattle.wb_grammars.proofs.ProductionLemmas.{production_read}
+use Rattle.wb_grammar_theory.proofs.ProductionLemmas.{production_read}
 use Rattle.wb_grammar.specs.Inner.Edges.{edges_of}
 use Rattle.wb_grammar.proofs.EdgeLemmas.{EdgesBefore, edges_more, edges_exact, edges_below}
 use Rattle.wb_grammar.proofs.edges.edges.Goals as goal

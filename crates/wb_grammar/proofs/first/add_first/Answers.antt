@@ -1,5 +1,5 @@
 use Rattle.std.proofs.Common.{◌<◌, length, arith, subst, sym}
-use Rattle.wb_grammars.proofs.ProductionLemmas.{production_read}
+use Rattle.wb_grammar_theory.proofs.ProductionLemmas.{production_read}
 use Rattle.wb_grammar.specs.Inner.Firsts.{AreFirsts}
 use Rattle.wb_grammar.proofs.FirstLemmas.{sound_add}
 use Rattle.wb_grammar.proofs.first.add_first.Goals as goal

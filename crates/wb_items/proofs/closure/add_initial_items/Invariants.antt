@@ -1,5 +1,5 @@
 use Rattle.std.proofs.Common.{◌≡◌, ◌++◌, drop, map}
-use Rattle.wb_grammars.specs.Items.{initial_item}
+use Rattle.wb_grammar_theory.specs.Items.{initial_item}
 use Rattle.wb_items.proofs.closure.add_initial_items.Given as goal
 
 abbrev pub invariant-productions : goal.invariant-productions

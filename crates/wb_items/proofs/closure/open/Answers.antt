@@ -2,9 +2,9 @@ use Rattle.std.proofs.Common.{◌≡◌, ◌∷◌, Some, length, refl, ap, sym,
 use Rattle.std.specs.Prelude.{slice_get}
 use Rattle.std.proofs.lemmas.Option.{slice_get_read}
 use Rattle.std.proofs.lemmas.Bool.{true≢false}
-use Rattle.wb_grammars.specs.declared.item.Item.{Item}
+use Rattle.wb_grammar_theory.specs.declared.item.Item.{Item}
 use Rattle.wb_base.specs.declared.symbol.Symbol.TheVariants.{Nonterminal}
-use Rattle.wb_grammars.specs.Items.{after_dot}
+use Rattle.wb_grammar_theory.specs.Items.{after_dot}
 use Rattle.wb_items.proofs.ClosingLemmas.{closing_pass, closing_more, closing_known}
 use Rattle.wb_items.proofs.closure.open.Goals as goal
 

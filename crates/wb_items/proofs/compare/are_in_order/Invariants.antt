@@ -1,6 +1,6 @@
 use Rattle.std.proofs.Common.{◌≡◌, ◌<◌, ◌+◌, ℕ, Some}
 use Rattle.std.specs.Prelude.{slice_get}
-use Rattle.wb_grammars.specs.declared.item.Item.{Item}
+use Rattle.wb_grammar_theory.specs.declared.item.Item.{Item}
 use Rattle.wb_items.specs.Kernels.{Precedes}
 use Rattle.wb_items.proofs.compare.are_in_order.Given as goal
 

@@ -1,6 +1,6 @@
 use Rattle.std.proofs.Common.{length, get_or, arith}
 use Rattle.std.proofs.lemmas.Option.{slice_get-get_or}
-use Rattle.wb_grammars.specs.declared.item.Item.{Item}
+use Rattle.wb_grammar_theory.specs.declared.item.Item.{Item}
 use Rattle.wb_items.proofs.InOrderLemmas.{first_here, same_here, all_follow, none_follow, agree_turned}
 use Rattle.wb_items.proofs.compare.compare_in_order.Goals as goal
 

@@ -1,7 +1,7 @@
 use Rattle.std.proofs.Common.{◌+◌, ◌<◌, length, sym, subst, arith}
 use Rattle.std.specs.Prelude.{slice_index_or, slice_set}
 use Rattle.std.proofs.lemmas.Option.{slice_get-get_or}
-use Rattle.wb_grammars.proofs.ProductionLemmas.{production_read}
+use Rattle.wb_grammar_theory.proofs.ProductionLemmas.{production_read}
 use Rattle.wb_items.specs.Inner.Passes.{RowsUpTo}
 use Rattle.wb_items.proofs.ProductionRows.{rows_more}
 use Rattle.wb_items.proofs.productions_of.add_production.Goals as goal

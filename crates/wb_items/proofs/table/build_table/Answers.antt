@@ -1,5 +1,5 @@
 use Rattle.std.proofs.Common.{◌≡◌, ◌∷◌, [], sym, ◌∙◌, subst, arith}
-use Rattle.wb_grammars.specs.Items.{start_item}
+use Rattle.wb_grammar_theory.specs.Items.{start_item}
 use Rattle.wb_items.specs.Index.{IndexView}
 use Rattle.wb_items.specs.Table.{AreKernelsOf}
 use Rattle.wb_items.proofs.TableLemmas.{first_found, none_followed}

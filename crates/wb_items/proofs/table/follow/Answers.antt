@@ -2,7 +2,7 @@ use Rattle.std.proofs.Common.{◌≡◌, ◌<◌, ◌∷◌, [], List, Some, len
 use Rattle.std.specs.Prelude.{slice_get}
 use Rattle.std.proofs.lemmas.Option.{slice_get_within}
 use Rattle.wb_lemmas.proofs.Places.{at_once}
-use Rattle.wb_grammars.specs.declared.item.Item.{Item}
+use Rattle.wb_grammar_theory.specs.declared.item.Item.{Item}
 use Rattle.wb_items.specs.Kernels.{ListsItems}
 use Rattle.wb_items.specs.Table.{IsRow}
 use Rattle.wb_items.proofs.TableLemmas.{prefix_at, closure_lists, followed_more}

@@ -1,7 +1,7 @@
 use Rattle.std.proofs.Common.{◌≡◌, ℕ, List, Some, length}
 use Rattle.std.specs.Prelude.{slice_get}
 use Rattle.wb_base.specs.declared.symbol.Symbol.{Symbol}
-use Rattle.wb_grammars.specs.Productions.{IsProduction}
+use Rattle.wb_grammar_theory.specs.Productions.{IsProduction}
 use Rattle.wb_lookahead.specs.declared.first_of.Rest.{Rest}
 use Rattle.wb_lookahead.specs.Inner.Rests.{AreRestsOf}
 use Rattle.wb_lookahead.proofs.first_of.rests_with.Given as goal

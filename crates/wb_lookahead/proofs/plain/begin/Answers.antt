@@ -3,9 +3,9 @@ use Rattle.std.proofs.lemmas.Grind.{common_steps}
 use Rattle.wb_base.specs.Grammar.{GrammarView}
 use Rattle.wb_termset.specs.Sets.{IsMember}
 use Rattle.wb_termset.proofs.CallerLemmas.{IsMember-insert_same}
-use Rattle.wb_grammars.specs.Items.{HasItem, initial_item}
-use Rattle.wb_grammars.specs.Productions.{end_of}
-use Rattle.wb_grammars.specs.States.{start}
+use Rattle.wb_grammar_theory.specs.Items.{HasItem, initial_item}
+use Rattle.wb_grammar_theory.specs.Productions.{end_of}
+use Rattle.wb_grammar_theory.specs.States.{start}
 use Rattle.wb_items.specs.Kernels.{prefix_of}
 use Rattle.wb_lookahead.specs.Inner.Spreading.{FlowsTo, Lists}
 use Rattle.wb_lookahead.proofs.PassLemmas.{first_within, one_member, start_has}

@@ -2,7 +2,7 @@ use Rattle.std.proofs.Common.{◌≡◌, ◌<◌, length, get_or, Some, sym, ◌
 use Rattle.std.specs.Prelude.{slice_get}
 use Rattle.std.proofs.lemmas.List.Elements.{Contains-get_or}
 use Rattle.std.proofs.lemmas.Option.{slice_get-get_or}
-use Rattle.wb_grammars.specs.Items.{initial_item}
+use Rattle.wb_grammar_theory.specs.Items.{initial_item}
 use Rattle.wb_items.specs.Table.{AreProductionsOf}
 use Rattle.wb_lookahead.specs.Inner.Spreading.{FlowsTo, Lists}
 use Rattle.wb_lookahead.proofs.FillLemmas.{union_propagated}

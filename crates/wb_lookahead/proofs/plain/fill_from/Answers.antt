@@ -1,5 +1,5 @@
 use Rattle.std.proofs.Common.{sym, subst}
-use Rattle.wb_grammars.specs.Items.{HasItem, initial_item}
+use Rattle.wb_grammar_theory.specs.Items.{HasItem, initial_item}
 use Rattle.wb_items.specs.Kernels.{prefix_of}
 use Rattle.wb_items.specs.Lookaheads.{IsSetOf}
 use Rattle.wb_lookahead.specs.Inner.Spreading.{IsFirstOf, StandsFor}

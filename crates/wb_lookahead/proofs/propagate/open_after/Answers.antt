@@ -5,7 +5,7 @@ use Rattle.std.proofs.lemmas.Option.{slice_get_read, slice_get-get_or}
 use Rattle.std.proofs.lemmas.Result.{on_ok_weaker}
 use Rattle.wb_base.specs.declared.symbol.Symbol.TheVariants.{Nonterminal}
 use Rattle.wb_base.specs.Grammar.{GrammarView}
-use Rattle.wb_grammars.specs.Items.{after_dot, initial_item}
+use Rattle.wb_grammar_theory.specs.Items.{after_dot, initial_item}
 use Rattle.wb_lookahead.specs.Inner.Rests.{IsOpening}
 use Rattle.wb_lookahead.proofs.PassLemmas.{open_flows_on, open_has, opening_flows}
 use Rattle.wb_lookahead.proofs.PropagateLemmas.{nothing_after, nothing_begins, open_lists, rest_there}

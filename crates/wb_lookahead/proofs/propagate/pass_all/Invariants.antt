@@ -1,7 +1,7 @@
 use Rattle.std.proofs.Common.{ℕ, take}
 use Rattle.std.specs.Prelude.{Contains}
 use Rattle.wb_termset.specs.Sets.{IsMember}
-use Rattle.wb_grammars.specs.Items.{initial_item}
+use Rattle.wb_grammar_theory.specs.Items.{initial_item}
 use Rattle.wb_lookahead.specs.Inner.Spreading.{AreSound, IsItemPassed, Spreads}
 use Rattle.wb_lookahead.proofs.propagate.pass_all.Given as goal
 

@@ -1,8 +1,8 @@
 use Rattle.std.proofs.Common.{◌≡◌, ◌<◌, length, sym, ap, subst, arith}
 use Rattle.std.proofs.lemmas.Result.{on_ok_weaker}
 use Rattle.wb_base.specs.Grammar.{GrammarView}
-use Rattle.wb_grammars.specs.Productions.{IsProduction}
-use Rattle.wb_grammars.specs.Items.{initial_item, HasItem}
+use Rattle.wb_grammar_theory.specs.Productions.{IsProduction}
+use Rattle.wb_grammar_theory.specs.Items.{initial_item, HasItem}
 use Rattle.wb_items.specs.Kernels.{prefix_of}
 use Rattle.wb_items.specs.Lookaheads.{IsSetOf}
 use Rattle.wb_lookahead.specs.Inner.Spreading.{FlowsTo, IsSole}

@@ -3,14 +3,14 @@ use Rattle.std.proofs.lemmas.Result.{on_ok_weaker, IfErr-weaker}
 use Rattle.wb_base.specs.declared.symbol.Symbol.TheVariants.{Terminal, Nonterminal}
 use Rattle.wb_base.specs.Grammar.{GrammarView}
 use Rattle.wb_termset.specs.Sets.{IsMember}
-use Rattle.wb_grammars.specs.Items.{after_dot}
-use Rattle.wb_grammars.specs.Lookaheads.{IsLookahead}
+use Rattle.wb_grammar_theory.specs.Items.{after_dot}
+use Rattle.wb_grammar_theory.specs.Lookaheads.{IsLookahead}
 use Rattle.wb_items.specs.Kernels.{LeadsTo, prefix_of}
 use Rattle.wb_lookahead.specs.declared.action.Action.TheVariants.{Shift}
 use Rattle.wb_lookahead.specs.Tables.{IsTableRefusal, Stands}
 use Rattle.wb_lookahead.specs.Inner.Rows.{IsClash, IsReduction}
 use Rattle.wb_lookahead.proofs.RowLemmas.{adds_none, clash_refused, complete_asks, complete_stands, nothing_asked, puts_adds, shift_asks}
-use Rattle.wb_grammars.proofs.ShiftLemmas.{valid_production}
+use Rattle.wb_grammar_theory.proofs.ShiftLemmas.{valid_production}
 use Rattle.wb_lookahead.proofs.StepLemmas.{row_has}
 use Rattle.wb_lookahead.proofs.rows.add_item.Goals as goal
 

@@ -1,9 +1,9 @@
 use Rattle.std.proofs.Common.{◌∙◌, ap, map, refl, subst, sym}
 use Rattle.std.proofs.lemmas.Result.{IfOk-weaker}
-use Rattle.wb_resolved.specs.Numbered.{signature_of}
-use Rattle.wb_numbering.specs.Resolves.{Resolves}
-use Rattle.wb_numbering.proofs.AllResolved.{gives_resolved}
-use Rattle.wb_symbols.specs.Lent.{lent_file}
+use Rattle.wb_syntax_resolved.specs.Numbered.{signature_of}
+use Rattle.wb_names_numbers_theory.specs.Resolves.{Resolves}
+use Rattle.wb_names_numbers_theory.proofs.AllResolved.{gives_resolved}
+use Rattle.wb_names_symbols.specs.Lent.{lent_file}
 use Rattle.wb_names.specs.Inner.Joined.{rows_with}
 use Rattle.wb_names.specs.Inner.Made.{value_with}
 use Rattle.wb_names.proofs.GrammarReady.{grammar_ready}

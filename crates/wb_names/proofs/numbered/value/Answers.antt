@@ -1,18 +1,18 @@
 use Rattle.std.proofs.Common.{◌≡◌, ◌∙◌, ℕ, List, Option, subst, sym}
 use Rattle.std.proofs.lemmas.Result.{IfOk-weaker}
 use Rattle.wb_base.specs.Grammar.{GrammarView}
-use Rattle.wb_resolved.specs.declared.attributes.Attribute.{Attribute}
-use Rattle.wb_resolved.specs.declared.attributes.Nonterminal.{Nonterminal}
-use Rattle.wb_resolved.specs.declared.attributes.Occurrence.{Occurrence}
-use Rattle.wb_resolved.specs.declared.attribution.AttributionParts.{AttributionParts}
-use Rattle.wb_resolved.specs.declared.production.Production.{Production}
-use Rattle.wb_resolved.specs.declared.resolved.ResolvedParts.{ResolvedParts}
-use Rattle.wb_resolved.specs.declared.terminal.Preference.{Preference}
-use Rattle.wb_resolved.specs.declared.terminal.Terminal.{Terminal}
-use Rattle.wb_resolved.specs.Attribution.{IsAttribution}
-use Rattle.wb_resolved.specs.Resolved.{IsResolved}
+use Rattle.wb_syntax_resolved.specs.declared.attributes.Attribute.{Attribute}
+use Rattle.wb_syntax_resolved.specs.declared.attributes.Nonterminal.{Nonterminal}
+use Rattle.wb_syntax_resolved.specs.declared.attributes.Occurrence.{Occurrence}
+use Rattle.wb_syntax_resolved.specs.declared.attribution.AttributionParts.{AttributionParts}
+use Rattle.wb_syntax_resolved.specs.declared.production.Production.{Production}
+use Rattle.wb_syntax_resolved.specs.declared.resolved.ResolvedParts.{ResolvedParts}
+use Rattle.wb_syntax_resolved.specs.declared.terminal.Preference.{Preference}
+use Rattle.wb_syntax_resolved.specs.declared.terminal.Terminal.{Terminal}
+use Rattle.wb_syntax_resolved.specs.Attribution.{IsAttribution}
+use Rattle.wb_syntax_resolved.specs.Resolved.{IsResolved}
 use Rattle.wb_values.specs.Signature.{Signature}
-use Rattle.wb_symbols.specs.Lent.{lent_file}
+use Rattle.wb_names_symbols.specs.Lent.{lent_file}
 use Rattle.wb_names.specs.Inner.Made.{value_with}
 use Rattle.wb_names.proofs.numbered.value.Goals as goal
 

@@ -1,10 +1,10 @@
 use Rattle.std.proofs.Common.{List, ap, refl, subst, sym}
 use Rattle.std.specs.List.{AllZip}
 use Rattle.std.proofs.lemmas.Result.{on_ok_weaker}
-use Rattle.wb_resolved.specs.declared.production.Child.{Child}
-use Rattle.wb_resolved.specs.declared.production.Production.{Production}
-use Rattle.wb_rows.specs.Moves.{IsChildNow}
-use Rattle.wb_rows.specs.Row.{row_of}
+use Rattle.wb_syntax_resolved.specs.declared.production.Child.{Child}
+use Rattle.wb_syntax_resolved.specs.declared.production.Production.{Production}
+use Rattle.wb_names_rows.specs.Moves.{IsChildNow}
+use Rattle.wb_names_rows.specs.Row.{row_of}
 use Rattle.wb_names.specs.Inner.Bodies.{IsExtendedBody, file_of}
 use Rattle.wb_names.specs.Inner.Now.{IsExtendedNow}
 use Rattle.wb_names.specs.Inner.Rows.{has_concrete, is_concrete}

@@ -1,15 +1,15 @@
 use Rattle.std.proofs.Common.{[], ◌∙◌, ℕ, List, Some, All, Contains, ap, refl, sym, subst}
 use Rattle.std.specs.List.{AllZip}
 use Rattle.std.proofs.lemmas.Result.{on_ok_weaker}
-use Rattle.wb_resolved.specs.declared.production.Child.{Child}
-use Rattle.wb_resolved.specs.declared.production.Local.{Local}
-use Rattle.wb_resolved.specs.declared.production.Production.{Production}
+use Rattle.wb_syntax_resolved.specs.declared.production.Child.{Child}
+use Rattle.wb_syntax_resolved.specs.declared.production.Local.{Local}
+use Rattle.wb_syntax_resolved.specs.declared.production.Production.{Production}
 use Rattle.wb_syntax.specs.declared.production.Child as written
-use Rattle.wb_naming.specs.Declarations.{ProductionDeclaration}
-use Rattle.wb_numbering.specs.Files.{equations_on}
-use Rattle.wb_numbering.specs.Numbering.{Numbering}
-use Rattle.wb_rows.specs.declared.body.Body.{Body}
-use Rattle.wb_rows.specs.Scope.{IsFoundChild, KindIsThere}
+use Rattle.wb_names_theory.specs.Declarations.{ProductionDeclaration}
+use Rattle.wb_names_numbers_theory.specs.Files.{equations_on}
+use Rattle.wb_names_numbers_theory.specs.Numbering.{Numbering}
+use Rattle.wb_names_rows.specs.declared.body.Body.{Body}
+use Rattle.wb_names_rows.specs.Scope.{IsFoundChild, KindIsThere}
 use Rattle.wb_names.specs.Inner.Bodies.{IsDeclaredBody, IsWritten, KnowsLabels, file_of, labels_with}
 use Rattle.wb_names.specs.Inner.Now.{IsDeclaredNow}
 use Rattle.wb_names.specs.Inner.Rows.{declares_concrete, is_concrete}

@@ -1,10 +1,10 @@
 use Rattle.std.proofs.Common.{List, ℕ, All, subst, sym}
 use Rattle.std.specs.List.{AllZip}
-use Rattle.wb_resolved.specs.declared.equation.Equation.{Equation}
-use Rattle.wb_resolved.specs.declared.production.Local.{Local}
-use Rattle.wb_numbering.specs.Files.{equations_on}
-use Rattle.wb_rows.specs.declared.body.Body.{Body}
-use Rattle.wb_rows.specs.Moves.{EquationIsWithin, IsEquationNow, IsLocalNow, LocalIsWithin}
+use Rattle.wb_syntax_resolved.specs.declared.equation.Equation.{Equation}
+use Rattle.wb_syntax_resolved.specs.declared.production.Local.{Local}
+use Rattle.wb_names_numbers_theory.specs.Files.{equations_on}
+use Rattle.wb_names_rows.specs.declared.body.Body.{Body}
+use Rattle.wb_names_rows.specs.Moves.{EquationIsWithin, IsEquationNow, IsLocalNow, LocalIsWithin}
 use Rattle.wb_names.specs.Inner.Bodies.{IsWritten, KnowsLabels, file_of, labels_with}
 use Rattle.wb_names.proofs.BaseParts.{equations_within, locals_within}
 use Rattle.wb_names.proofs.KnownLabels.{base_known}

@@ -1,8 +1,8 @@
 use Rattle.std.proofs.Common.{[], Option, All, subst}
 use Rattle.std.specs.Prelude.{option_to_list}
 use Rattle.std.proofs.lemmas.List.Elements.{All-head}
-use Rattle.wb_resolved.specs.declared.production.Forward.{Forward}
-use Rattle.wb_rows.specs.Moves.{NodeIsWithin}
+use Rattle.wb_syntax_resolved.specs.declared.production.Forward.{Forward}
+use Rattle.wb_names_rows.specs.Moves.{NodeIsWithin}
 use Rattle.wb_names.proofs.production.moved_forwards.Goals as goal
 
 pub moved_forward-requires : goal.moved_forward-requires

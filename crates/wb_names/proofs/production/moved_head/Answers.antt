@@ -1,8 +1,8 @@
 use Rattle.std.proofs.Common.{◌<◌, ◌∙◌, ℕ, List, All, Some, ap, refl, sym, subst}
 use Rattle.std.specs.List.{AllZip}
 use Rattle.std.proofs.lemmas.Option.{slice_get-get_or}
-use Rattle.wb_resolved.specs.declared.production.Child.{Child}
-use Rattle.wb_rows.specs.Moves.{ChildKindIsWithin, IsChildNow}
+use Rattle.wb_syntax_resolved.specs.declared.production.Child.{Child}
+use Rattle.wb_names_rows.specs.Moves.{ChildKindIsWithin, IsChildNow}
 use Rattle.wb_names.specs.Inner.Bodies.{file_of}
 use Rattle.wb_names.proofs.BaseParts.{children_within, forward_within, left_within}
 use Rattle.wb_names.proofs.production.moved_head.Goals as goal

@@ -2,8 +2,8 @@ use Rattle.std.proofs.Common.{◌≡◌, ◌≤◌, ◌<◌, ◌∙◌, Contains
 use Rattle.std.proofs.lemmas.List.{take_all}
 use Rattle.wb_lemmas.proofs.Members.{contains_at}
 use Rattle.wb_lemmas.proofs.Places.{read_at}
-use Rattle.wb_resolved.specs.declared.attribution.AttributionParts.{AttributionParts}
-use Rattle.wb_resolved.specs.declared.production.Production.{Production}
+use Rattle.wb_syntax_resolved.specs.declared.attribution.AttributionParts.{AttributionParts}
+use Rattle.wb_syntax_resolved.specs.declared.production.Production.{Production}
 use Rattle.wb_names.specs.Inner.Bodies.{file_of}
 use Rattle.wb_names.specs.Inner.Now.{IsExtendedNow}
 use Rattle.wb_names.specs.Inner.Rows.{AddsProductions, has_concrete}

@@ -6,8 +6,8 @@ use Rattle.wb_syntax.specs.declared.item.Item.{Item}
 use Rattle.wb_syntax.specs.declared.item.ItemForm.{ItemForm}
 use Rattle.wb_syntax.specs.declared.pattern.Pattern.{Pattern}
 use Rattle.std.specs.Prelude.{option_to_list}
-use Rattle.wb_naming.specs.Declarations.{ProductionDeclaration, production_of, productions}
-use Rattle.wb_numbering.proofs.OwnDeclared.{kept}
+use Rattle.wb_names_theory.specs.Declarations.{ProductionDeclaration, production_of, productions}
+use Rattle.wb_names_numbers_theory.proofs.OwnDeclared.{kept}
 use Rattle.wb_names.specs.Inner.Bodies.{file_of}
 use Rattle.wb_names.specs.Inner.Now.{IsDeclaredNow}
 use Rattle.wb_names.specs.Inner.Rows.{AddsProductions, declares_concrete}

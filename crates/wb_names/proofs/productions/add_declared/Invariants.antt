@@ -1,5 +1,5 @@
 use Rattle.std.proofs.Common.{take}
-use Rattle.wb_naming.specs.Declarations.{productions}
+use Rattle.wb_names_theory.specs.Declarations.{productions}
 use Rattle.wb_names.specs.Inner.Bodies.{file_of}
 use Rattle.wb_names.specs.Inner.Now.{IsDeclaredNow}
 use Rattle.wb_names.specs.Inner.Rows.{AddsProductions, declares_concrete}

@@ -1,8 +1,8 @@
 use Rattle.std.proofs.Common.{◌≡◌, ◌++◌, ℕ, length}
-use Rattle.wb_naming.specs.Declarations.{productions}
-use Rattle.wb_numbering.specs.Resolves.{IsConcrete}
-use Rattle.wb_numbering.specs.Sources.{sources}
-use Rattle.wb_symbols.proofs.JoinedLemmas.{joined, ok_both}
+use Rattle.wb_names_theory.specs.Declarations.{productions}
+use Rattle.wb_names_numbers_theory.specs.Resolves.{IsConcrete}
+use Rattle.wb_names_numbers_theory.specs.Sources.{sources}
+use Rattle.wb_names_symbols.proofs.JoinedLemmas.{joined, ok_both}
 use Rattle.wb_names.specs.Inner.Bodies.{file_of}
 use Rattle.wb_names.specs.Inner.Now.{IsProductionNow}
 use Rattle.wb_names.specs.Inner.Productions.{AreProductions}

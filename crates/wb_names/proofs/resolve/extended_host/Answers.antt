@@ -1,5 +1,5 @@
 use Rattle.std.proofs.Common.{◌≡◌, ◌∙◌, ◌∷◌, [], ℕ, List, ap, subst, sym}
-use Rattle.wb_resolved.specs.Resolved.{IsResolved}
+use Rattle.wb_syntax_resolved.specs.Resolved.{IsResolved}
 use Rattle.wb_names.specs.Resolving.{extension_file}
 use Rattle.wb_names.proofs.ResolveLemmas.{extension_given, extension_made, extension_refused}
 use Rattle.wb_names.proofs.resolve.extended_host.Goals as goal

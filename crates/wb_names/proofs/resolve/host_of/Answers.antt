@@ -1,5 +1,5 @@
 use Rattle.std.proofs.Common.{◌≡◌, ◌∙◌, [], ap, subst, sym}
-use Rattle.wb_resolved.specs.Resolved.{IsResolved}
+use Rattle.wb_syntax_resolved.specs.Resolved.{IsResolved}
 use Rattle.wb_names.specs.Resolving.{empty_host, host_file}
 use Rattle.wb_names.proofs.ResolveLemmas.{host_given, host_made, host_refused}
 use Rattle.wb_names.proofs.resolve.host_of.Goals as goal

@@ -1,12 +1,12 @@
 use Rattle.std.proofs.Common.{◌<◌, List, All, length, ap, sym, subst, ◌∙◌}
 use Rattle.std.proofs.lemmas.Result.{on_ok_weaker}
-use Rattle.wb_resolved.specs.declared.attributes.Attribute.{Attribute}
-use Rattle.wb_resolved.specs.declared.attributes.Occurrence.{Occurrence}
-use Rattle.wb_resolved.specs.declared.attribution.AttributionParts.{AttributionParts}
-use Rattle.wb_resolved.specs.declared.terminal.Preference.{Preference}
-use Rattle.wb_rows.specs.Base.{IsAttributeNow, IsOccurrenceNow, IsPreferenceNow, PreferenceIsWithin}
-use Rattle.wb_rows.specs.Moves.{KindIsWithin}
-use Rattle.wb_rows.specs.Plains.{AddsEach}
+use Rattle.wb_syntax_resolved.specs.declared.attributes.Attribute.{Attribute}
+use Rattle.wb_syntax_resolved.specs.declared.attributes.Occurrence.{Occurrence}
+use Rattle.wb_syntax_resolved.specs.declared.attribution.AttributionParts.{AttributionParts}
+use Rattle.wb_syntax_resolved.specs.declared.terminal.Preference.{Preference}
+use Rattle.wb_names_rows.specs.Base.{IsAttributeNow, IsOccurrenceNow, IsPreferenceNow, PreferenceIsWithin}
+use Rattle.wb_names_rows.specs.Moves.{KindIsWithin}
+use Rattle.wb_names_rows.specs.Plains.{AddsEach}
 use Rattle.wb_names.proofs.RestLemmas.{attributes_within, occurrences_within, preferences_within}
 use Rattle.wb_names.proofs.rest.add_base.Goals as goal
 

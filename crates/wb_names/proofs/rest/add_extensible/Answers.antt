@@ -3,10 +3,10 @@ use Rattle.wb_lemmas.proofs.Members.{contains_at}
 use Rattle.wb_lemmas.proofs.Places.{read_at}
 use Rattle.wb_syntax.specs.declared.item.Item.{Item}
 use Rattle.wb_syntax.specs.declared.pattern.Pattern.{Pattern}
-use Rattle.wb_rows.specs.GrammarNames.{form_extensibles}
-use Rattle.wb_rows.specs.Nodes.{IsAt}
-use Rattle.wb_rows.specs.Plains.{AddsEach}
-use Rattle.wb_rows.proofs.GrammarNameLemmas.{extensibles_flat}
+use Rattle.wb_names_rows.specs.GrammarNames.{form_extensibles}
+use Rattle.wb_names_rows.specs.Nodes.{IsAt}
+use Rattle.wb_names_rows.specs.Plains.{AddsEach}
+use Rattle.wb_names_rows.proofs.GrammarNameLemmas.{extensibles_flat}
 use Rattle.wb_names.proofs.RestLemmas.{each_item}
 use Rattle.wb_names.proofs.RestStart.{all_of_one, each_end}
 use Rattle.wb_names.proofs.rest.add_extensible.Goals as goal

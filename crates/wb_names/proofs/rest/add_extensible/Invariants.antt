@@ -2,9 +2,9 @@ use Rattle.std.proofs.Common.{take}
 use Rattle.std.specs.List.{flat_map}
 use Rattle.wb_syntax.specs.declared.item.Item.{Item}
 use Rattle.wb_syntax.specs.declared.pattern.Pattern.{Pattern}
-use Rattle.wb_rows.specs.GrammarNames.{form_extensibles}
-use Rattle.wb_rows.specs.Nodes.{IsAt}
-use Rattle.wb_rows.specs.Plains.{AddsEach}
+use Rattle.wb_names_rows.specs.GrammarNames.{form_extensibles}
+use Rattle.wb_names_rows.specs.Nodes.{IsAt}
+use Rattle.wb_names_rows.specs.Plains.{AddsEach}
 use Rattle.wb_names.proofs.rest.add_extensible.Given as goal
 
 abbrev pub invariant-items : goal.invariant-items

@@ -1,9 +1,9 @@
 use Rattle.std.proofs.Common.{ℕ, List, sym, subst, take, get_or, ◌+◌, ◌≡◌}
 use Rattle.std.proofs.lemmas.Option.{get_or_from_slice_get, slice_get-get_or}
-use Rattle.wb_rows.specs.Moves.{IsNow}
-use Rattle.wb_rows.specs.Plains.{AddsEach}
-use Rattle.wb_rows.proofs.PlainLemmas.{each_more, each_nothing}
-use Rattle.wb_symbols.proofs.Gathered.{each_all}
+use Rattle.wb_names_rows.specs.Moves.{IsNow}
+use Rattle.wb_names_rows.specs.Plains.{AddsEach}
+use Rattle.wb_names_rows.proofs.PlainLemmas.{each_more, each_nothing}
+use Rattle.wb_names_symbols.proofs.Gathered.{each_all}
 use Rattle.wb_names.proofs.rest.add_moved.Goals as goal
 
 pub numbers-preserved : goal.numbers-preserved

@@ -1,6 +1,6 @@
 use Rattle.std.proofs.Common.{take}
-use Rattle.wb_rows.specs.Moves.{IsNow}
-use Rattle.wb_rows.specs.Plains.{AddsEach}
+use Rattle.wb_names_rows.specs.Moves.{IsNow}
+use Rattle.wb_names_rows.specs.Plains.{AddsEach}
 use Rattle.wb_names.proofs.rest.add_moved.Given as goal
 
 abbrev pub invariant-numbers : goal.invariant-numbers

@@ -1,10 +1,10 @@
 use Rattle.std.proofs.Common.{◌<◌, List, ℕ, All, length, subst, sym}
 use Rattle.std.specs.List.{AllZip}
 use Rattle.std.proofs.lemmas.Result.{on_ok_weaker}
-use Rattle.wb_naming.specs.Declarations.{extensibles}
-use Rattle.wb_rows.specs.Moves.{IsNow}
-use Rattle.wb_rows.specs.Nodes.{IsAt}
-use Rattle.wb_symbols.specs.Lent.{lent_file}
+use Rattle.wb_names_theory.specs.Declarations.{extensibles}
+use Rattle.wb_names_rows.specs.Moves.{IsNow}
+use Rattle.wb_names_rows.specs.Nodes.{IsAt}
+use Rattle.wb_names_symbols.specs.Lent.{lent_file}
 use Rattle.wb_names.proofs.RestLemmas.{base_alone, each_after, each_fresh, extensible_within, items_there, plains_after, tables_of}
 use Rattle.wb_names.proofs.StartLemmas.{extensibles_there}
 use Rattle.wb_names.proofs.rest.add_rest.Goals as goal

@@ -1,7 +1,7 @@
 use Rattle.std.proofs.Common.{◌<◌, ℕ, length, subst, sym}
 use Rattle.std.specs.Prelude.{option_to_list}
-use Rattle.wb_rows.specs.Moves.{IsNow}
-use Rattle.wb_symbols.specs.Lent.{lent_file}
+use Rattle.wb_names_rows.specs.Moves.{IsNow}
+use Rattle.wb_names_symbols.specs.Lent.{lent_file}
 use Rattle.wb_names.proofs.RestLemmas.{start_within, tables_of}
 use Rattle.wb_names.proofs.RestStart.{start_before, start_declared}
 use Rattle.wb_names.proofs.StartLemmas.{starts_few, starts_there}

@@ -3,9 +3,9 @@ use Rattle.wb_lemmas.proofs.Members.{contains_at}
 use Rattle.wb_lemmas.proofs.Places.{read_at}
 use Rattle.wb_syntax.specs.declared.item.Item.{Item}
 use Rattle.wb_syntax.specs.declared.pattern.Pattern.{Pattern}
-use Rattle.wb_rows.specs.GrammarNames.{form_starts}
-use Rattle.wb_rows.specs.Nodes.{IsAt}
-use Rattle.wb_rows.proofs.GrammarNameLemmas.{starts_flat}
+use Rattle.wb_names_rows.specs.GrammarNames.{form_starts}
+use Rattle.wb_names_rows.specs.Nodes.{IsAt}
+use Rattle.wb_names_rows.proofs.GrammarNameLemmas.{starts_flat}
 use Rattle.wb_names.proofs.RestStart.{all_of_one}
 use Rattle.wb_names.proofs.StartLemmas.{none_at_all, only_start}
 use Rattle.wb_names.proofs.rest.written_start.Goals as goal

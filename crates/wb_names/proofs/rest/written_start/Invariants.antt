@@ -2,7 +2,7 @@ use Rattle.std.proofs.Common.{◌≡◌, [], take}
 use Rattle.std.specs.List.{flat_map}
 use Rattle.wb_syntax.specs.declared.item.Item.{Item}
 use Rattle.wb_syntax.specs.declared.pattern.Pattern.{Pattern}
-use Rattle.wb_rows.specs.GrammarNames.{form_starts}
+use Rattle.wb_names_rows.specs.GrammarNames.{form_starts}
 use Rattle.wb_names.proofs.rest.written_start.Given as goal
 
 abbrev pub invariant-items : goal.invariant-items

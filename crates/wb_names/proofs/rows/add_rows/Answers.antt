@@ -1,5 +1,5 @@
 use Rattle.std.proofs.lemmas.Result.{on_ok_weaker}
-use Rattle.wb_symbols.proofs.WritersLemmas.{no_items}
+use Rattle.wb_names_symbols.proofs.WritersLemmas.{no_items}
 use Rattle.wb_names.proofs.rows.add_rows.Goals as goal
 
 pub add_items-requires : goal.add_items-requires

@@ -1,6 +1,6 @@
 use Rattle.std.proofs.Common.{subst, sym, refl, ◌∙◌, ap, ◌≡◌}
-use Rattle.wb_grammars.specs.Productions.{end_of}
-use Rattle.wb_languages.specs.Tokens.{over}
+use Rattle.wb_grammar_theory.specs.Productions.{end_of}
+use Rattle.wb_scan_theory.specs.Tokens.{over}
 use Rattle.wb_parser.specs.Inner.Steps.{IsOutcome}
 use Rattle.wb_parser.proofs.LeafLemmas.{over_whole, over_stops}
 use Rattle.wb_parser.proofs.leaf.finish.Goals as goal

@@ -1,6 +1,6 @@
 use Rattle.std.proofs.Common.{subst, sym, refl, ◌∙◌, ap, ◌<◌, slice_range}
 use Rattle.wb_lookahead.specs.Contents.{size_of}
-use Rattle.wb_languages.specs.Tokens.{token, over, missing}
+use Rattle.wb_scan_theory.specs.Tokens.{token, over, missing}
 use Rattle.wb_parser.specs.Inner.Stacks.{last_or}
 use Rattle.wb_parser.specs.Inner.Steps.{IsOutcome}
 use Rattle.wb_parser.proofs.StateLemmas.{last_below, zero_below}

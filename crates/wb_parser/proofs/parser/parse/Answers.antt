@@ -1,6 +1,6 @@
 use Rattle.std.proofs.Common.{subst}
 use Rattle.wb_values.specs.ValuesIn.{tree_in}
-use Rattle.wb_languages.proofs.ShownLemmas.{tree_fits}
+use Rattle.wb_scan_theory.proofs.ShownLemmas.{tree_fits}
 use Rattle.wb_parser.specs.Parses.{IsTreeOf, IsParsed}
 use Rattle.wb_parser.proofs.parser.parse.Goals as goal
 

@@ -1,7 +1,7 @@
 use Rattle.std.proofs.Common.{◌≡◌, ℕ, ◌-◌, ◌^◌, List, length}
 use Rattle.wb_base.specs.declared.symbol.Symbol.{Symbol}
-use Rattle.wb_languages.specs.Tokens.{Next, NextToken}
-use Rattle.wb_languages.specs.Readings.{Gives}
+use Rattle.wb_scan_theory.specs.Tokens.{Next, NextToken}
+use Rattle.wb_scan_theory.specs.Readings.{Gives}
 use Rattle.wb_parser.specs.Parses.{Extends}
 use Rattle.wb_parser.specs.Inner.Stacks.{last_or}
 use Rattle.wb_parser.specs.Inner.Steps.{IsAt, IsSound}

@@ -1,17 +1,17 @@
 -- What is composed of a host and extensions comes after the checks of them.
 use Rattle.std.proofs.Common.{List, subst}
-use Rattle.wb_beside.specs.Kept.{ExtensionView}
+use Rattle.wb_certify.specs.Kept.{ExtensionView}
 use Rattle.wb_operations.specs.Operations.{OperationSignature}
-use Rattle.wb_resolved.specs.declared.resolved.ResolvedParts.{ResolvedParts}
-use Rattle.wb_united_texts.specs.Unions.{all_resolved}
-use Rattle.wb_words.specs.Words.{texts}
-use Rattle.wb_inputs.specs.Checks.{Report, Ends}
-use Rattle.wb_inputs.specs.Composable.{AreRead, RefusesAny}
-use Rattle.wb_inputs.specs.declared.status.Status.TheVariants.{Done}
-use Rattle.wb_inputs.proofs.ComposeLemmas.{several_ended, several_read}
-use Rattle.wb_inputs.proofs.CauseLemmas.{err_of, ok_of}
+use Rattle.wb_syntax_resolved.specs.declared.resolved.ResolvedParts.{ResolvedParts}
+use Rattle.wb_compose_texts.specs.Unions.{all_resolved}
+use Rattle.wb_program_words.specs.Words.{texts}
+use Rattle.wb_program_inputs.specs.Checks.{Report, Ends}
+use Rattle.wb_program_inputs.specs.Composable.{AreRead, RefusesAny}
+use Rattle.wb_program_inputs.specs.declared.status.Status.TheVariants.{Done}
+use Rattle.wb_program_inputs.proofs.ComposeLemmas.{several_ended, several_read}
+use Rattle.wb_program_inputs.proofs.CauseLemmas.{err_of, ok_of}
 use Rattle.wb_program.specs.ComposeReport.{ComposedLines}
-use Rattle.wb_inputs.proofs.MakesLemmas.{answered, handed, exhausted}
+use Rattle.wb_program_inputs.proofs.MakesLemmas.{answered, handed, exhausted}
 use Rattle.wb_program.proofs.compose.answer_compose.Goals as goal
 
 pub returns-in_ok-answer-in-Ok : goal.returns-in_ok-answer-in-Ok

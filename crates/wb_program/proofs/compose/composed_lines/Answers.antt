@@ -1,14 +1,14 @@
 -- The lines show the host, how many extensions there are, and the markers without a bare form.
 use Rattle.std.proofs.Common.{◌≡◌, ◌∙◌, ℕ, List, length, ap, sym}
 use Rattle.std.proofs.lemmas.List.{length-map}
-use Rattle.wb_beside.specs.Kept.{ExtensionView}
+use Rattle.wb_certify.specs.Kept.{ExtensionView}
 use Rattle.wb_report.specs.Lines.{report_of}
 use Rattle.wb_report.specs.declared.done.Done.TheVariants as done
 use Rattle.wb_report.specs.declared.outcome.Outcome.TheVariants as o
-use Rattle.wb_united_texts.specs.Unions.{all_resolved}
-use Rattle.wb_inputs.specs.Checks.{Ends}
-use Rattle.wb_inputs.specs.declared.status.Status.TheVariants.{Done}
-use Rattle.wb_inputs.proofs.CauseLemmas.{on_both_ok}
+use Rattle.wb_compose_texts.specs.Unions.{all_resolved}
+use Rattle.wb_program_inputs.specs.Checks.{Ends}
+use Rattle.wb_program_inputs.specs.declared.status.Status.TheVariants.{Done}
+use Rattle.wb_program_inputs.proofs.CauseLemmas.{on_both_ok}
 use Rattle.wb_program.specs.ComposeReport.{ComposedLines}
 use Rattle.wb_program.proofs.compose.composed_lines.Goals as goal
 

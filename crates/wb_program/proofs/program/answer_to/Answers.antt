@@ -2,15 +2,15 @@
 use Rattle.std.proofs.Common.{rules, ◌≡◌, ◌≢◌, ◌<◌, ℕ, List, [], ◌∷◌, inl, inr, length, map, ap, sym, subst}
 use Rattle.std.proofs.lemmas.List.{nil_from_length}
 use Rattle.wb_operations.specs.Operations.{Operations}
-use Rattle.wb_words.specs.Asked as a
-use Rattle.wb_words.specs.Words.{texts}
-use Rattle.wb_inputs.specs.Reads.{specification, certified_host, well_defined_host, certified_extension, parsed_text, written_term}
-use Rattle.wb_inputs.specs.Reads.{StopsComposed}
-use Rattle.wb_inputs.specs.Stopped.{outside}
-use Rattle.wb_inputs.proofs.WordLemmas.{some_texts}
-use Rattle.wb_runs.specs.GenerateReport.{GenerateReport}
-use Rattle.wb_runs.specs.RunReport.{RunReport, RunStops}
-use Rattle.wb_inputs.specs.Makes.{Answers}
+use Rattle.wb_program_words.specs.Asked as a
+use Rattle.wb_program_words.specs.Words.{texts}
+use Rattle.wb_program_inputs.specs.Reads.{specification, certified_host, well_defined_host, certified_extension, parsed_text, written_term}
+use Rattle.wb_program_inputs.specs.Reads.{StopsComposed}
+use Rattle.wb_program_inputs.specs.Stopped.{outside}
+use Rattle.wb_program_inputs.proofs.WordLemmas.{some_texts}
+use Rattle.wb_program_runs.specs.GenerateReport.{GenerateReport}
+use Rattle.wb_program_runs.specs.RunReport.{RunReport, RunStops}
+use Rattle.wb_program_inputs.specs.Makes.{Answers}
 use Rattle.wb_program.specs.Report.{IsReportOf, run_report, generate_report}
 use Rattle.wb_program.specs.Report.{value_report, show_report, check_report, certify_report, compose_report, tree_report}
 use Rattle.wb_program.specs.Reads.{ReadsTo, value_reads, show_reads, check_reads, certify_reads, tree_reads}

@@ -3,10 +3,10 @@ use Rattle.std.proofs.Common.{◌≡◌, ◌∙◌, ℕ, List, Some, ap, sym, su
 use Rattle.wb_report.specs.Lines.{report_of}
 use Rattle.wb_report.specs.declared.outcome.Outcome.TheVariants as o
 use Rattle.wb_report.specs.declared.refusal.Refusal.TheVariants as r
-use Rattle.wb_shown.specs.Shows.{written_reason, of_spec}
-use Rattle.wb_inputs.specs.Checks.{Ends}
-use Rattle.wb_inputs.specs.declared.status.Status.TheVariants.{SpecRefused}
-use Rattle.wb_inputs.proofs.CauseLemmas.{on_both_ok}
+use Rattle.wb_certify_shown.specs.Shows.{written_reason, of_spec}
+use Rattle.wb_program_inputs.specs.Checks.{Ends}
+use Rattle.wb_program_inputs.specs.declared.status.Status.TheVariants.{SpecRefused}
+use Rattle.wb_program_inputs.proofs.CauseLemmas.{on_both_ok}
 use Rattle.wb_program.specs.Inner.Shown.{ShowsRefusal}
 use Rattle.wb_program.proofs.show.refused.Goals as goal
 

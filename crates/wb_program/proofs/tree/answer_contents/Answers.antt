@@ -1,9 +1,9 @@
 -- What was read is a text, and its answer is shown.
 use Rattle.std.proofs.Common.{ℕ, List, IfOk, sym, subst}
-use Rattle.wb_inputs.specs.Texts.{ReadText}
-use Rattle.wb_inputs.specs.declared.reading.Contents.{Contents}
-use Rattle.wb_inputs.proofs.CauseLemmas.{on_ok}
-use Rattle.wb_trees.specs.Answers.{IsTextAnswer}
+use Rattle.wb_program_inputs.specs.Texts.{ReadText}
+use Rattle.wb_program_inputs.specs.declared.reading.Contents.{Contents}
+use Rattle.wb_program_inputs.proofs.CauseLemmas.{on_ok}
+use Rattle.wb_compose_trees.specs.Answers.{IsTextAnswer}
 use Rattle.wb_program.specs.TreeReport.{ShownText, TextReport}
 use Rattle.wb_program.proofs.HostLemmas.{text_report}
 use Rattle.wb_program.proofs.tree.answer_contents.Goals as goal

@@ -1,8 +1,8 @@
 -- The report of what was read is that of the file.
 use Rattle.std.proofs.Common.{ℕ, List}
-use Rattle.wb_inputs.proofs.HostLemmas.{text_checks}
+use Rattle.wb_program_inputs.proofs.HostLemmas.{text_checks}
 use Rattle.wb_program.specs.TreeReport.{TextReport}
-use Rattle.wb_inputs.proofs.MakesLemmas.{answered, handed, exhausted}
+use Rattle.wb_program_inputs.proofs.MakesLemmas.{answered, handed, exhausted}
 use Rattle.wb_program.proofs.tree.answer_text.Goals as goal
 
 pub returns : goal.returns

@@ -1,16 +1,16 @@
 -- A text is read after its host, and its report comes after that host's checks.
 use Rattle.std.proofs.Common.{rules, ℕ, List, [], ◌∷◌, Option, inl, inr, subst}
 use Rattle.wb_world.specs.Shelf.{Files}
-use Rattle.wb_inputs.specs.Checks.{Check, Report}
-use Rattle.wb_inputs.specs.Texts.{IsText, IsTooLongText}
-use Rattle.wb_inputs.specs.HostChecks.{IsHostFile, RefusesHost}
-use Rattle.wb_inputs.specs.Reads.{certified_host, parsed_text}
-use Rattle.wb_inputs.specs.declared.status.Status.TheVariants.{TextTooLong}
-use Rattle.wb_inputs.proofs.CauseLemmas.{err_of, some_certified}
+use Rattle.wb_program_inputs.specs.Checks.{Check, Report}
+use Rattle.wb_program_inputs.specs.Texts.{IsText, IsTooLongText}
+use Rattle.wb_program_inputs.specs.HostChecks.{IsHostFile, RefusesHost}
+use Rattle.wb_program_inputs.specs.Reads.{certified_host, parsed_text}
+use Rattle.wb_program_inputs.specs.declared.status.Status.TheVariants.{TextTooLong}
+use Rattle.wb_program_inputs.proofs.CauseLemmas.{err_of, some_certified}
 use Rattle.wb_program.specs.TreeReport.{TextReport}
-use Rattle.wb_inputs.proofs.MakesLemmas.{answered, handed_first, made_since}
+use Rattle.wb_program_inputs.proofs.MakesLemmas.{answered, handed_first, made_since}
 use Rattle.wb_program.proofs.HostLemmas.{tree_certified, tree_refused}
-use Rattle.wb_hosts.specs.HostContents.{IsHostRefusal}
+use Rattle.wb_certify_files.specs.HostContents.{IsHostRefusal}
 use Rattle.wb_program.proofs.tree.answer_tree.Goals as goal
 
 pub returns-in-Ok : goal.returns-in-Ok

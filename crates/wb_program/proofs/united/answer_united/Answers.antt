@@ -1,20 +1,20 @@
 -- A text is read after the host and the extensions, and its report comes after theirs.
 use Rattle.std.proofs.Common.{ℕ, List, Option, inr, subst}
-use Rattle.wb_beside.specs.Kept.{ExtensionView}
+use Rattle.wb_certify.specs.Kept.{ExtensionView}
 use Rattle.wb_operations.specs.Operations.{OperationSignature}
-use Rattle.wb_resolved.specs.declared.resolved.ResolvedParts.{ResolvedParts}
-use Rattle.wb_united_texts.specs.Unions.{all_resolved}
-use Rattle.wb_words.specs.Words.{texts}
+use Rattle.wb_syntax_resolved.specs.declared.resolved.ResolvedParts.{ResolvedParts}
+use Rattle.wb_compose_texts.specs.Unions.{all_resolved}
+use Rattle.wb_program_words.specs.Words.{texts}
 use Rattle.wb_world.specs.Shelf.{Files}
-use Rattle.wb_inputs.specs.Checks.{Check, Report}
-use Rattle.wb_inputs.specs.Composable.{AreRead, RefusesAny}
-use Rattle.wb_inputs.specs.Stopped.{outside}
-use Rattle.wb_inputs.specs.Texts.{IsText, IsTooLongText}
-use Rattle.wb_inputs.specs.declared.status.Status.TheVariants.{TextTooLong}
-use Rattle.wb_inputs.proofs.CauseLemmas.{err_of, ok_of}
-use Rattle.wb_inputs.proofs.ComposeLemmas.{composed_ended, several_ended, several_read}
+use Rattle.wb_program_inputs.specs.Checks.{Check, Report}
+use Rattle.wb_program_inputs.specs.Composable.{AreRead, RefusesAny}
+use Rattle.wb_program_inputs.specs.Stopped.{outside}
+use Rattle.wb_program_inputs.specs.Texts.{IsText, IsTooLongText}
+use Rattle.wb_program_inputs.specs.declared.status.Status.TheVariants.{TextTooLong}
+use Rattle.wb_program_inputs.proofs.CauseLemmas.{err_of, ok_of}
+use Rattle.wb_program_inputs.proofs.ComposeLemmas.{composed_ended, several_ended, several_read}
 use Rattle.wb_program.specs.ComposeReport.{UnitedReport}
-use Rattle.wb_inputs.proofs.MakesLemmas.{answered, handed, made_since}
+use Rattle.wb_program_inputs.proofs.MakesLemmas.{answered, handed, made_since}
 use Rattle.wb_program.proofs.united.answer_united.Goals as goal
 
 pub returns-in-Ok : goal.returns-in-Ok

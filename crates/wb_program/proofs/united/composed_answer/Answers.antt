@@ -1,6 +1,6 @@
 -- The answer of a text is shown.
-use Rattle.wb_united_texts.specs.Unions.{all_resolved}
-use Rattle.wb_inputs.proofs.CauseLemmas.{on_ok}
+use Rattle.wb_compose_texts.specs.Unions.{all_resolved}
+use Rattle.wb_program_inputs.proofs.CauseLemmas.{on_ok}
 use Rattle.wb_program.specs.ComposeReport.{UnitedReport}
 use Rattle.wb_program.specs.TreeReport.{ShownText}
 use Rattle.wb_program.proofs.united.composed_answer.Goals as goal

@@ -1,8 +1,8 @@
 -- What was read is a text, and its answer is shown.
 use Rattle.std.proofs.Common.{ℕ, List, IfOk, sym, subst}
-use Rattle.wb_united_texts.specs.Unions.{all_resolved}
-use Rattle.wb_inputs.specs.Texts.{ReadText}
-use Rattle.wb_inputs.specs.declared.reading.Contents.{Contents}
+use Rattle.wb_compose_texts.specs.Unions.{all_resolved}
+use Rattle.wb_program_inputs.specs.Texts.{ReadText}
+use Rattle.wb_program_inputs.specs.declared.reading.Contents.{Contents}
 use Rattle.wb_program.specs.ComposeReport.{UnitedReport}
 use Rattle.wb_program.proofs.united.united_contents.Goals as goal
 

@@ -1,10 +1,10 @@
 -- What was read is a term, and its answer is shown.
 use Rattle.std.proofs.Common.{ℕ, List, IfOk, sym, subst}
 use Rattle.wb_operations.specs.Operations.{Operations}
-use Rattle.wb_root_values.specs.Answers.{IsRootAnswer}
-use Rattle.wb_inputs.specs.Texts.{ReadText}
-use Rattle.wb_inputs.specs.declared.reading.Contents.{Contents}
-use Rattle.wb_inputs.proofs.CauseLemmas.{on_ok}
+use Rattle.wb_eval_root.specs.Answers.{IsRootAnswer}
+use Rattle.wb_program_inputs.specs.Texts.{ReadText}
+use Rattle.wb_program_inputs.specs.declared.reading.Contents.{Contents}
+use Rattle.wb_program_inputs.proofs.CauseLemmas.{on_ok}
 use Rattle.wb_program.specs.ValueReport.{RootReport, TermReport}
 use Rattle.wb_program.proofs.value.answer_contents.Goals as goal
 

@@ -1,5 +1,5 @@
 use Rattle.std.proofs.Common.{subst}
-use Rattle.wb_grammars.specs.Lookaheads.{HasNoConflict}
+use Rattle.wb_grammar_theory.specs.Lookaheads.{HasNoConflict}
 use Rattle.wb_scan.specs.Inner.Written.{language_of_written}
 use Rattle.wb_scan.specs.Refusals.{IsFree}
 use Rattle.wb_scan.proofs.LanguageLemmas.{language_parts}

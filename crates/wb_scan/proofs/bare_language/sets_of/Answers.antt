@@ -1,7 +1,7 @@
 use Rattle.std.proofs.Common.{refl}
 use Rattle.std.proofs.lemmas.Result.{IfOk-weaker}
-use Rattle.wb_contexts.specs.Considered.{LexiconView}
-use Rattle.wb_contexts.specs.Sets.{AreConsideredSets}
+use Rattle.wb_determinism_contexts.specs.Considered.{LexiconView}
+use Rattle.wb_determinism_contexts.specs.Sets.{AreConsideredSets}
 use Rattle.wb_items.specs.Kernels.{count_of}
 use Rattle.wb_scan.specs.Inner.Lexicons.{AreStateSets}
 use Rattle.wb_scan.specs.Inner.Written.{language_of_written}

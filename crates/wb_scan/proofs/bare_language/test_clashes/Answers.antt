@@ -1,6 +1,6 @@
 use Rattle.std.proofs.Common.{◌∙◌, subst, sym, refl, List}
 use Rattle.wb_base.specs.declared.symbol.Symbol.{Symbol}
-use Rattle.wb_grammars.specs.Lookaheads.{HasNoConflict}
+use Rattle.wb_grammar_theory.specs.Lookaheads.{HasNoConflict}
 use Rattle.wb_scan.specs.Inner.Written.{language_of_written}
 use Rattle.wb_scan.specs.Refusals.{IsFormClash}
 use Rattle.wb_scan.proofs.ClashLemmas.{clash_of_forms, no_clash_of_forms}

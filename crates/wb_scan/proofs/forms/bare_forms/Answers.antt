@@ -1,5 +1,5 @@
 use Rattle.std.proofs.Common.{◌∙◌, ◌++◌, ◌∷◌, [], ap, sym, List, ℕ}
-use Rattle.wb_languages.specs.declared.form.Form.{Form}
+use Rattle.wb_scan_theory.specs.declared.form.Form.{Form}
 use Rattle.wb_scan.specs.Bare.{bare_forms}
 use Rattle.wb_scan.proofs.FormLemmas.{bare_more}
 use Rattle.wb_scan.proofs.forms.bare_forms.Goals as goal

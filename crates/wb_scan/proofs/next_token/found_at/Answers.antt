@@ -1,5 +1,5 @@
 use Rattle.std.proofs.Common.{refl, subst}
-use Rattle.wb_languages.specs.Parts.{AreLanguageParts}
+use Rattle.wb_scan_theory.specs.Parts.{AreLanguageParts}
 use Rattle.wb_scan.proofs.FoundLemmas.{none_wins, all_below, is_found, is_not_found}
 use Rattle.wb_scan.proofs.next_token.found_at.Goals as goal
 

@@ -1,6 +1,6 @@
 use Rattle.std.proofs.Common.{◌<◌, ◌≤◌, length, refl, subst, arith}
 use Rattle.wb_lemmas.proofs.Places.{at_within}
-use Rattle.wb_languages.specs.Parts.{AreLanguageParts}
+use Rattle.wb_scan_theory.specs.Parts.{AreLanguageParts}
 use Rattle.wb_scan.proofs.ScanLemmas.{skips_more, token_next, token_inside, over_next}
 use Rattle.wb_scan.proofs.next_token.scan.Goals as goal
 

@@ -1,8 +1,8 @@
 use Rattle.std.proofs.Common.{List, subst}
-use Rattle.wb_predictive.specs.Reading.{IsOutcome}
-use Rattle.wb_tokens.specs.declared.token.Layout.TheVariants.{Plain}
+use Rattle.wb_text_predictive.specs.Reading.{IsOutcome}
+use Rattle.wb_text_tokens.specs.declared.token.Layout.TheVariants.{Plain}
 use Rattle.wb_terms.specs.declared.event.Event.{Event}
-use Rattle.wb_tokens.specs.NextToken.{IsNextIn}
+use Rattle.wb_text_tokens.specs.NextToken.{IsNextIn}
 use Rattle.wb_terms.specs.Inner.TermTable.{term_grammar}
 use Rattle.wb_terms.proofs.ReadingLemmas.{term_reading}
 use Rattle.wb_terms.proofs.reading.read_events.Goals as goal

@@ -1,10 +1,10 @@
 use Rattle.wb_lemmas.proofs.Elements.{all_contained}
-use Rattle.wb_expressions.specs.Expression.{IsWhole}
-use Rattle.wb_resolved.specs.Named.{IsNamedEquation}
+use Rattle.wb_syntax_expressions.specs.Expression.{IsWhole}
+use Rattle.wb_syntax_resolved.specs.Named.{IsNamedEquation}
 use Rattle.std.proofs.Common.{sym, ◌≡◌, Some, refl, subst}
 use Rattle.wb_base.specs.declared.symbol.Kind.{Kind}
 use Rattle.wb_lemmas.proofs.Refusals.{handed_on}
-use Rattle.wb_resolved.specs.declared.equation.Equation.{Equation}
+use Rattle.wb_syntax_resolved.specs.declared.equation.Equation.{Equation}
 use Rattle.wb_types.specs.Expected.{attribute_of}
 use Rattle.wb_types.specs.Expected as s
 use Rattle.wb_types.specs.Kinds.{IsAttributeKind}

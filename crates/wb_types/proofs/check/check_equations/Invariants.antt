@@ -1,6 +1,6 @@
 use Rattle.std.proofs.Common.{All, take}
 use Rattle.wb_base.specs.declared.symbol.Kind.{Kind}
-use Rattle.wb_resolved.specs.declared.equation.Equation.{Equation}
+use Rattle.wb_syntax_resolved.specs.declared.equation.Equation.{Equation}
 use Rattle.wb_types.specs.Expected.{attribute_of}
 use Rattle.wb_types.specs.Kinds.{IsAttributeKind}
 use Rattle.wb_types.specs.Inner.Passes.{Passes}

@@ -1,7 +1,7 @@
 use Rattle.std.proofs.Common.{Contains}
 use Rattle.std.proofs.lemmas.Result.{IfOk-weaker, IfErr-weaker}
 use Rattle.wb_lemmas.proofs.Refusals.{handed_on}
-use Rattle.wb_resolved.specs.declared.production.Production.{Production}
+use Rattle.wb_syntax_resolved.specs.declared.production.Production.{Production}
 use Rattle.wb_types.specs.declared.context.Rule.TheVariants.{Known, Arity, Kind}
 use Rattle.wb_types.specs.Refusals.{IsTrueRefusal}
 use Rattle.wb_types.specs.Rules.{KindsOk}

@@ -1,5 +1,5 @@
 use Rattle.wb_lemmas.proofs.Elements.{all_contained}
-use Rattle.wb_resolved.specs.Named.{IsNamedProduction}
+use Rattle.wb_syntax_resolved.specs.Named.{IsNamedProduction}
 use Rattle.wb_lemmas.proofs.Refusals.{handed_on}
 use Rattle.wb_types.specs.Inner.Passes.{AllPass, SomeFails, AnyFails}
 use Rattle.wb_types.proofs.PassLemmas.{all_pass, any_fails, taken_more, each_taken, read_contained}

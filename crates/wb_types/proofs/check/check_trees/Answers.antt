@@ -1,14 +1,14 @@
-use Rattle.wb_resolved.specs.declared.production.Forward.{Forward}
-use Rattle.wb_resolved.specs.Named.{IsNamedExpression}
+use Rattle.wb_syntax_resolved.specs.declared.production.Forward.{Forward}
+use Rattle.wb_syntax_resolved.specs.Named.{IsNamedExpression}
 use Rattle.wb_types.proofs.OperationLemmas.{fact_at}
 use Rattle.std.proofs.Common.{refl, subst, sym}
 use Rattle.std.proofs.lemmas.Result.{IfOk-weaker, IfErr-weaker}
 use Rattle.wb_base.specs.declared.symbol.Kind.TheVariants.{Tree}
 use Rattle.wb_lemmas.proofs.Elements.{all_contained}
 use Rattle.wb_lemmas.proofs.Refusals.{handed_on}
-use Rattle.wb_expressions.specs.Expression.{IsWhole}
-use Rattle.wb_resolved.specs.declared.production.Local.{Local}
-use Rattle.wb_resolved.specs.Named.{IsNamedLocal}
+use Rattle.wb_syntax_expressions.specs.Expression.{IsWhole}
+use Rattle.wb_syntax_resolved.specs.declared.production.Local.{Local}
+use Rattle.wb_syntax_resolved.specs.Named.{IsNamedLocal}
 use Rattle.wb_types.specs.Expected as s
 use Rattle.wb_types.specs.Inner.Passes.{Passes, Fails, SomeFails}
 use Rattle.wb_types.proofs.PassLemmas.{forward_passes, some_fails, taken_more, each_taken, read_contained}

@@ -1,6 +1,6 @@
 use Rattle.std.proofs.Common.{All, take}
 use Rattle.wb_base.specs.declared.symbol.Kind.TheVariants.{Tree}
-use Rattle.wb_resolved.specs.declared.production.Local.{Local}
+use Rattle.wb_syntax_resolved.specs.declared.production.Local.{Local}
 use Rattle.wb_types.specs.Inner.Passes.{Passes}
 use Rattle.wb_types.proofs.check.check_trees.Given as goal
 

@@ -1,7 +1,7 @@
 use Rattle.std.proofs.Common.{◌<◌, ◌≤◌, sym, subst, refl, ◌∙◌, length}
 use Rattle.std.proofs.lemmas.Bool.{eq-eqb, le-leb}
 use Rattle.wb_lemmas.proofs.Numbers.{eqb_true}
-use Rattle.wb_expressions.specs.declared.node.Node.TheVariants as n
+use Rattle.wb_syntax_expressions.specs.declared.node.Node.TheVariants as n
 use Rattle.wb_types.specs.Rules.{HasArity}
 use Rattle.wb_types.proofs.OperationLemmas.{unknown_none, arity_found, built_past, built_exact}
 use Rattle.wb_types.proofs.PassLemmas.{other_arity}

@@ -1,5 +1,5 @@
 use Rattle.std.proofs.Common.{◌∙◌, sym}
-use Rattle.wb_resolved.specs.declared.attributes.Attribute.{Attribute}
+use Rattle.wb_syntax_resolved.specs.declared.attributes.Attribute.{Attribute}
 use Rattle.wb_types.proofs.PlaceLemmas.{map_at, map_past, nothing_exact}
 use Rattle.wb_types.proofs.kinds.attribute_kind.Goals as goal
 

@@ -1,10 +1,10 @@
 use Rattle.std.proofs.Common.{◌≡◌, ◌≤◌, ◌↔◌, ◌+◌, ◌∷◌, [], List, Option, Some, length, subst, sym, ◌∙◌, arith, length-append}
 use Rattle.std.proofs.lemmas.List.{get_or_default}
 use Rattle.wb_base.specs.declared.symbol.Kind.{Kind}
-use Rattle.wb_expressions.specs.Places.{HasNode}
+use Rattle.wb_syntax_expressions.specs.Places.{HasNode}
 use Rattle.wb_types.specs.Inner.Nodes.{NodeHasKind, AreKept}
 use Rattle.wb_types.proofs.NodeLemmas.{kept_more}
-use Rattle.wb_expressions.proofs.PartLemmas.{whole_some, whole_has_parts_before}
+use Rattle.wb_syntax_expressions.proofs.PartLemmas.{whole_some, whole_has_parts_before}
 use Rattle.wb_types.proofs.PassLemmas.{last_whole, whole_last}
 use Rattle.wb_types.proofs.kinds.has_kind.Goals as goal
 

@@ -1,8 +1,8 @@
 use Rattle.std.proofs.Common.{Some, ap, ◌∙◌}
 use Rattle.wb_base.specs.declared.symbol.Kind.TheVariants.{Tree}
-use Rattle.wb_resolved.specs.declared.production.Child.{Child}
-use Rattle.wb_resolved.specs.declared.production.ChildKind.TheVariants.{Value}
-use Rattle.wb_resolved.specs.declared.production.Local.{Local}
+use Rattle.wb_syntax_resolved.specs.declared.production.Child.{Child}
+use Rattle.wb_syntax_resolved.specs.declared.production.ChildKind.TheVariants.{Value}
+use Rattle.wb_syntax_resolved.specs.declared.production.Local.{Local}
 use Rattle.wb_types.proofs.PlaceLemmas.{map_at, map_past, nothing_exact, terminal_exact, value_exact, child_is, local_is}
 use Rattle.wb_types.proofs.kinds.place_kind.Goals as goal
 

@@ -1,6 +1,6 @@
 use Rattle.std.proofs.Common.{subst, ℕ, List}
 use Rattle.std.specs.Prelude.{Contains, ◌↔◌}
-use Rattle.wb_positions.specs.Rows.{row}
+use Rattle.wb_automata_positions.specs.Rows.{row}
 use Rattle.wb_automata.specs.Automata.{AutomatonView, LeadsTo, MatchesIn}
 use Rattle.wb_automata.proofs.WalkLemmas.{accepted_means}
 use Rattle.wb_automata.proofs.automaton.Automaton.accepted.Goals as goal

@@ -1,7 +1,7 @@
 use Rattle.std.proofs.Common.{◌≡◌, ◌<◌, ◌≤◌, ◌∙◌, List, Some, get_or, slice_get, length, sym, subst, arith}
 use Rattle.std.proofs.lemmas.Option.{slice_get-get_or}
 use Rattle.wb_flow.proofs.IndexLemmas.{index_start, index_more, index_all, nonterminal_within}
-use Rattle.wb_resolved.specs.declared.attributes.Occurrence.{Occurrence}
+use Rattle.wb_syntax_resolved.specs.declared.attributes.Occurrence.{Occurrence}
 use Rattle.wb_flow.proofs.occurrences.OccurrenceIndex.new.Goals as goal
 
 pub occurrences-init : goal.occurrences-init

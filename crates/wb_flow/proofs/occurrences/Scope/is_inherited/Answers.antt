@@ -1,6 +1,6 @@
 use Rattle.std.proofs.Common.{refl, sym, true≢false}
 use Rattle.wb_flow.proofs.ReadLemmas.{goes_when, goes_not}
-use Rattle.wb_resolved.specs.declared.attributes.Direction.TheVariants.{Inherited}
+use Rattle.wb_syntax_resolved.specs.declared.attributes.Direction.TheVariants.{Inherited}
 use Rattle.wb_flow.proofs.occurrences.Scope.is_inherited.Goals as goal
 
 pub returns-in-Inherited : goal.returns-in-Inherited

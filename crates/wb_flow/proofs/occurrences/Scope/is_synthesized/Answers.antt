@@ -1,6 +1,6 @@
 use Rattle.std.proofs.Common.{refl, sym, true≢false}
 use Rattle.wb_flow.proofs.ReadLemmas.{goes_when, goes_not}
-use Rattle.wb_resolved.specs.declared.attributes.Direction.TheVariants.{Synthesized}
+use Rattle.wb_syntax_resolved.specs.declared.attributes.Direction.TheVariants.{Synthesized}
 use Rattle.wb_flow.proofs.occurrences.Scope.is_synthesized.Goals as goal
 
 pub returns-in-Synthesized : goal.returns-in-Synthesized

@@ -1,7 +1,7 @@
 use Rattle.std.proofs.Common.{◌≤◌, ℕ, List, Contains, get_or, length, sym, subst, arith}
 use Rattle.std.specs.Prelude.{◌↔◌}
 use Rattle.std.proofs.lemmas.Option.{slice_get-get_or}
-use Rattle.wb_attributes.specs.Occurrences.{Needs}
+use Rattle.wb_flow_theory.specs.Occurrences.{Needs}
 use Rattle.wb_flow.proofs.IndexLemmas.{row_number, number_within, needs_found, others_more, needs_nothing, on_of_number}
 use Rattle.wb_flow.proofs.occurrences.Scope.needs.Goals as goal
 

@@ -1,7 +1,7 @@
 use Rattle.std.proofs.Common.{◌≡◌, ◌≤◌, ◌<◌, min, arith, rules}
 use Rattle.std.specs.Prelude.{slice_index}
 use Rattle.std.specs.BinaryHeap.{heap_items}
-use Rattle.wb_grammars.proofs.ProductionLemmas.{production_read}
+use Rattle.wb_grammar_theory.proofs.ProductionLemmas.{production_read}
 use Rattle.wb_generate.specs.Counts.{total}
 use Rattle.wb_generate.specs.Inner.Lowerings.{state_of}
 use Rattle.wb_generate.proofs.CountLemmas.{above_of, index_read}

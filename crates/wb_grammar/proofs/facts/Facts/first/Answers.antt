@@ -3,7 +3,7 @@ use Rattle.std.specs.Prelude.{◌↔◌, ◌∷◌}
 use Rattle.std.proofs.lemmas.Option.{slice_get-get_or, get_or_from_slice_get}
 use Rattle.wb_base.specs.declared.symbol.Symbol.TheVariants.{Nonterminal}
 use Rattle.wb_termset.specs.Sets.{IsMember}
-use Rattle.wb_grammars.specs.Derives.{IsFirst}
+use Rattle.wb_grammar_theory.specs.Derives.{IsFirst}
 use Rattle.wb_grammar.specs.Facts.{FactsView, set_of}
 use Rattle.wb_grammar.proofs.facts.Facts.first.Goals as goal
 

@@ -1,7 +1,7 @@
 use Rattle.std.proofs.Common.{List, ℕ, refl, sym, subst}
 use Rattle.std.specs.Prelude.{slice_set}
 use Rattle.std.proofs.lemmas.Result.{on_ok_weaker}
-use Rattle.wb_grammars.proofs.ProductionLemmas.{production_read, production_within}
+use Rattle.wb_grammar_theory.proofs.ProductionLemmas.{production_read, production_within}
 use Rattle.wb_grammar.specs.Inner.Worklists.{State, state_of, Passes}
 use Rattle.wb_grammar.proofs.WorklistLemmas.{passes_added, passes_nonterminal, passes_no_nonterminal, rule_read}
 use Rattle.wb_grammar.proofs.least_fixpoint.Worklist.pass.Goals as goal

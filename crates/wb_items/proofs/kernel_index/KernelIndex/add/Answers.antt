@@ -1,6 +1,6 @@
 use Rattle.std.proofs.Common.{◌≡◌, ◌<◌, ◌++◌, ◌∷◌, [], List, Some, length, sym, ◌∙◌, ap, subst, arith}
 use Rattle.std.specs.Prelude.{slice_get}
-use Rattle.wb_grammars.specs.declared.item.Item.{Item}
+use Rattle.wb_grammar_theory.specs.declared.item.Item.{Item}
 use Rattle.wb_items.specs.declared.kernel_index.Step.{Step}
 use Rattle.wb_items.specs.Index.{IndexView}
 use Rattle.wb_items.specs.Inner.Searches.{LiesWithin}

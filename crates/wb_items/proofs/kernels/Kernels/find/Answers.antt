@@ -1,7 +1,7 @@
 use Rattle.std.proofs.Common.{◌<◌, subst, List}
 use Rattle.std.specs.Prelude.{IfSome, IsNone, ◌↔◌}
 use Rattle.wb_items.specs.Kernels.{KernelsView, ListsKernel, count_of, prefix_of}
-use Rattle.wb_grammars.specs.Items.{IsViablePrefix}
+use Rattle.wb_grammar_theory.specs.Items.{IsViablePrefix}
 use Rattle.wb_base.specs.declared.symbol.Symbol.{Symbol}
 use Rattle.wb_items.proofs.KernelsLemmas.{find_some, find_none}
 use Rattle.wb_items.proofs.kernels.Kernels.find.Goals as goal

@@ -1,7 +1,0 @@
-mod BesideLemmas
-mod MarkLemmas
-mod PreferenceLemmas
-mod ValueLemmas
-mod ExtensionLemmas
-mod AnswerLemmas
-mod NameLemmas

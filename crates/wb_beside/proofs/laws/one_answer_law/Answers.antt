@@ -1,5 +1,0 @@
-use Rattle.wb_beside.proofs.AnswerLemmas.{one_answer}
-use Rattle.wb_beside.proofs.laws.one_answer_law.Goals as goal
-
-pub returns : goal.returns
-returns c = one_answer c.extension_refusals_law.ensures c.one_answer_law.ensures

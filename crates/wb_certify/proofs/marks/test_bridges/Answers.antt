@@ -1,0 +1,11 @@
+use Rattle.wb_marking.specs.Bridges.{AreBridges}
+use Rattle.wb_certify.proofs.BesideLemmas.{with_some}
+use Rattle.wb_certify.proofs.MarkLemmas.{bridge_refused}
+use Rattle.wb_certify.proofs.marks.test_bridges.Goals as goal
+
+pub returns-in-Ok-clause-ok : goal.returns-in-Ok-clause-ok
+returns-in-Ok-clause-ok c = with_some c.args.resolved.now.grammar (AreBridges c.args.resolved.now) c.in-Ok.ensures.ok
+
+pub returns-in-Err-clause-refused : goal.returns-in-Err-clause-refused
+returns-in-Err-clause-refused c =
+    bridge_refused c.args.resolved.now c.in-Err.refusal c.reason_of.result c.reason_of.ensures c.in-Err.ensures.refused

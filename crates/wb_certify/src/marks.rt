@@ -1,0 +1,88 @@
+//! Do markers keep their rules, and do preferences form no cycle?
+//!
+//! Each test in the order in which refusals are shown: bridges, preferences, and then clashes of markers.
+
+ghost use Rattle.std.specs.Prelude.{◌≡◌, IfErr, IfOk, IsSome};
+ghost use Rattle.wb_determinism_host.specs.Hosts.{AreAcyclic};
+ghost use Rattle.wb_certify.specs.Inner.Tests.{HaveBridges, IsMarkReason, KeepMarkers, reason_of};
+
+use std::alloc::Global;
+use wb_base::Sequence;
+use wb_determinism_host::{DeterminismRefusal, pairs_of};
+use wb_lexical::preference_cycle;
+use wb_marking::{MarkRefusal, check_bridges, check_clashes};
+use wb_syntax_resolved::Resolved;
+
+// Whether markers keep their rules, and preferences form no cycle.
+pub(crate) fn test_marks(alloc: Global, resolved: &Resolved) -> Result<(), DeterminismRefusal>
+    requires { IsSome resolved.now.grammar }
+    ensures ok { IfOk result (λ done. KeepMarkers resolved.now) }
+    ensures refused { IfErr result (IsMarkReason resolved.now) }
+{
+    test_bridges(alloc, resolved)?;
+    test_preferences(alloc, resolved)?;
+    test_clashes(alloc, resolved)
+}
+
+// Whether the rules on bridges hold.
+fn test_bridges(alloc: Global, resolved: &Resolved) -> Result<(), DeterminismRefusal>
+    requires { IsSome resolved.now.grammar }
+    ensures ok { IfOk result (λ done. HaveBridges resolved.now) }
+    ensures refused { IfErr result (IsMarkReason resolved.now) }
+{
+    match check_bridges(alloc, resolved) {
+        Ok(()) => Ok(()),
+        Err(refusal) => Err(reason_of(refusal)),
+    }
+}
+
+// Whether preferences form no cycle.
+fn test_preferences(alloc: Global, resolved: &Resolved) -> Result<(), DeterminismRefusal>
+    requires { HaveBridges resolved.now }
+    ensures ok { IfOk result (λ done. AreAcyclic resolved.now) }
+    ensures refused { IfErr result (IsMarkReason resolved.now) }
+{
+    let parts = resolved.parts();
+    let pairs = pairs_of(alloc, parts.preferences.as_slice())?;
+    let found = preference_cycle(alloc, parts.terminals.len(), &pairs);
+    drop(pairs);
+    match found {
+        Ok(Some(cycle)) => Err(DeterminismRefusal::PreferenceCycle(Sequence::from_vec(cycle))),
+        Ok(None) => Ok(()),
+        Err(error) => Err(DeterminismRefusal::NoMemory(error)),
+    }
+}
+
+// Whether no marker clashes.
+fn test_clashes(alloc: Global, resolved: &Resolved) -> Result<(), DeterminismRefusal>
+    requires bridges { HaveBridges resolved.now }
+    requires acyclic { AreAcyclic resolved.now }
+    ensures ok { IfOk result (λ done. KeepMarkers resolved.now) }
+    ensures refused { IfErr result (IsMarkReason resolved.now) }
+{
+    match check_clashes(alloc, resolved) {
+        Ok(()) => Ok(()),
+        Err(refusal) => Err(reason_of(refusal)),
+    }
+}
+
+// The same reason, as one for which an extension isn't deterministic.
+fn reason_of(refusal: MarkRefusal) -> DeterminismRefusal
+    ensures { result ≡ reason_of refusal }
+{
+    match refusal {
+        MarkRefusal::NotBridge(production) => DeterminismRefusal::NotBridge(production),
+        MarkRefusal::MarkerElsewhere(marker) => DeterminismRefusal::MarkerElsewhere(marker),
+        MarkRefusal::NotExtensible(production) => DeterminismRefusal::NotExtensible(production),
+        MarkRefusal::MarkerClash {
+            marker,
+            other,
+            text,
+        } => DeterminismRefusal::MarkerClash {
+            marker,
+            other,
+            text,
+        },
+        MarkRefusal::NoMemory(error) => DeterminismRefusal::NoMemory(error),
+    }
+}

@@ -1,0 +1,20 @@
+use Rattle.std.proofs.Common.{List}
+use Rattle.wb_lemmas.proofs.Refusals.{handed_on}
+use Rattle.wb_operations.specs.Operations.{OperationSignature}
+use Rattle.wb_certify_files.specs.Specifications.{IsSpecRefusal}
+use Rattle.wb_certify_files.specs.declared.extension_refusal.FileRefusal.{FileRefusal}
+use Rattle.wb_certify_files.proofs.extension_contents.extension_of_spec.Goals as goal
+
+pub returns-in_err-resolved-clause-refused : goal.returns-in_err-resolved-clause-refused
+returns-in_err-resolved-clause-refused g c =
+    let host = c.args.host.now.resolved in
+    let spec = c.args.spec.now in
+    handed_on (λ (z : FileRefusal). (operations : List OperationSignature) → IsSpecRefusal host operations spec z)
+    (IsSpecRefusal host c.args.host.now.operations spec) c.from_residual.result c.in_err-resolved.field-0.0 c.from_residual.ensures.1
+    (λ f p. p c.args.host.now.operations) c.in_err-resolved.ensures.refused
+
+pub returns-clause-extension : goal.returns-clause-extension
+returns-clause-extension g c = c.certified-answer.ensures.extension c.args.spec.now c.in_ok-resolved.ensures.ok
+
+pub returns-clause-refused : goal.returns-clause-refused
+returns-clause-refused g c = c.certified-answer.ensures.refused c.args.spec.now c.in_ok-resolved.ensures.ok

@@ -1,0 +1,15 @@
+use Rattle.std.proofs.Common.{rules}
+use Rattle.wb_certify_files.specs.Inner.RefusedHosts.{IsCertifyMemory}
+use Rattle.wb_certify_files.proofs.ShownHosts.{ill_defined_shown}
+use Rattle.wb_certify_files.proofs.HostLemmas.{shown_ill_defined}
+use Rattle.wb_certify_files.proofs.well_defined.check_attributes.Goals as goal
+
+pub bad_value-shown-requires : goal.bad_value-shown-requires
+bad_value-shown-requires g c =
+    let other : ¬ IsCertifyMemory c.in-Err.refusal = search rules in
+    ill_defined_shown c.args.resolved.now c.args.operations.now.signatures c.in-Err.refusal c.in-Err.ensures.refused other
+
+pub returns-in-Err-clause-refused : goal.returns-in-Err-clause-refused
+returns-in-Err-clause-refused g c = λ contents stands.
+    shown_ill_defined c.args.resolved.now c.in-Err.refusal c.args.operations.now.signatures contents stands c.in-Err.ensures.refused
+    c.bad_value-shown.result c.bad_value-shown.ensures

@@ -1,0 +1,11 @@
+-- What a specification stands for with a host.
+use Rattle.wb_names.specs.Resolving.{ResolvesExtension}
+use Rattle.wb_syntax_resolved.specs.declared.resolved.ResolvedParts.{ResolvedParts}
+use Rattle.wb_syntax_resolved.specs.Resolved.{IsResolved}
+use Rattle.wb_syntax.specs.SpecText.{SpecView}
+
+-- the specification is an extension of this host whose names are right, and with the host it stands for this value, which is a resolved
+-- specification
+pub record IsNumbered (host : ResolvedParts) (spec : SpecView) (r : ResolvedParts) : Type 0 where
+  pub names : ResolvesExtension host spec r
+  pub resolved : IsResolved r

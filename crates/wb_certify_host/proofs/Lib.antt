@@ -1,0 +1,3 @@
+mod ValueLemmas
+mod HostLemmas
+mod RefusalLemmas

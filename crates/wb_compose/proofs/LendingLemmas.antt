@@ -1,0 +1,69 @@
+-- What is lent is written as what is certified.
+use Rattle.std.proofs.Common.{◌≡◌, ◌∙◌, ◌∷◌, [], ℕ, List, Option, None, Some, map, slice_get, refl, ap}
+use Rattle.wb_base.specs.Grammar.{GrammarView}
+use Rattle.wb_certify.specs.Kept.{ExtensionView}
+use Rattle.wb_determinism_host.specs.Lexicons as certified
+use Rattle.wb_determinism.specs.Images as image
+use Rattle.wb_compose.specs.Joined as joined
+use Rattle.wb_compose.specs.Written.{written_with}
+use Rattle.wb_syntax_resolved.specs.declared.resolved.ResolvedParts.{ResolvedParts}
+use Rattle.wb_syntax_resolved.specs.declared.terminal.Preference.{Preference}
+use Rattle.wb_syntax_resolved.specs.declared.terminal.Terminal.{Terminal}
+use Rattle.wb_syntax_resolved.specs.declared.terminal.TerminalKind.{TerminalKind}
+use Rattle.wb_syntax_resolved.specs.declared.terminal.TerminalKind.TheVariants.{Plain, Ignore, Marking}
+use Rattle.wb_compose_theory_grammar.specs.Bridges.{piece_of}
+use Rattle.wb_compose_language.specs.declared.addition.Addition.{Addition}
+use Rattle.wb_compose_language.specs.Lents.{is_layout, is_marker_in, is_marker_row, lexicon_with, written_in}
+use Rattle.wb_compose.specs.Inner.Lending.{IsLent}
+
+-- which rows are markers, and which are layout
+marker_row : (o : Option Terminal) → is_marker_row o ≡ image.is_marker_row o
+marker_row None = refl
+marker_row (Some t) = of_kind t.kind
+  where
+    of_kind : (kind : TerminalKind) →
+        is_marker_row (Some (record t { kind = kind })) ≡ image.is_marker_row (Some (record t { kind = kind }))
+    of_kind Plain = refl
+    of_kind Ignore = refl
+    of_kind Marking = refl
+
+layout_row : (kind : TerminalKind) → is_layout kind ≡ certified.is_layout kind
+layout_row Plain = refl
+layout_row Ignore = refl
+layout_row Marking = refl
+
+layout_rows : (rows : List Terminal) →
+    map (λ (t : Terminal). is_layout t.kind) rows ≡ map (λ (t : Terminal). certified.is_layout t.kind) rows
+layout_rows [] = refl
+layout_rows (t ∷ rows) = λ j. layout_row t.kind j ∷ layout_rows rows j
+
+-- what is scanned of these rows and preferences
+pub lexicon_is : (r : ResolvedParts) (g h : GrammarView) (rows : List Terminal) (preferences : List Preference) → g ≡ h →
+    rows ≡ r.terminals → preferences ≡ r.preferences → lexicon_with g rows preferences ≡ certified.lexicon_of r h
+lexicon_is r g h rows preferences grammar_is rows_are preferences_are =
+    ap (λ z. lexicon_with z rows preferences) grammar_is ∙ (ap (λ z. lexicon_with h z preferences) rows_are ∙
+    (ap (λ z. lexicon_with h r.terminals z) preferences_are ∙ (λ j. record {
+      expressions = map (λ (t : Terminal). t.pattern) r.terminals;
+      scanned = h.terminals;
+      layout = layout_rows r.terminals j;
+      preferences = map (λ (p : Preference). (p.first, p.second)) r.preferences;
+    })))
+
+-- the markers of an extension
+markers_are : (e : ExtensionView) (x : Addition) → IsLent e x → (t : ℕ) → is_marker_in x t ≡ joined.is_marker_in e.resolved t
+markers_are e x is t =
+    ap (λ rows. is_marker_row (slice_get rows t)) is.terminals_are ∙ marker_row (slice_get e.resolved.terminals t)
+
+pub marker_flags : (e : ExtensionView) (x : Addition) → IsLent e x → is_marker_in x ≡ joined.is_marker_in e.resolved
+marker_flags e x is = λ j. λ t. markers_are e x is t j
+
+-- an extension is written as it was certified
+pub written_is : (e : ExtensionView) (x : Addition) → IsLent e x → written_in x ≡ written_with e.resolved x.grammar.now
+written_is e x is = λ j. record { piece = piece_is j; name = is.name_is j; lexicon = scanned_is j }
+  where
+    piece_is : piece_of x.grammar.now (is_marker_in x) ≡ joined.piece_in e.resolved x.grammar.now
+    piece_is = ap (piece_of x.grammar.now) (marker_flags e x is)
+
+    scanned_is : lexicon_with x.grammar.now x.terminals.now x.preferences.now ≡ certified.lexicon_of e.resolved x.grammar.now
+    scanned_is = lexicon_is e.resolved x.grammar.now x.grammar.now x.terminals.now x.preferences.now refl is.terminals_are
+        is.preferences_are

@@ -1,0 +1,36 @@
+-- A certified host and an extension that is certified with it, as what unions are made of.
+use Rattle.std.specs.Prelude.{◌≡◌, ℕ, Bool, List, Some, All, map, slice_get}
+use Rattle.wb_base.specs.Grammar.{GrammarView}
+use Rattle.wb_certify.specs.Kept.{AreCertifiedBoth}
+use Rattle.wb_certify_host.specs.Hosts.{IsCertifiedValue}
+use Rattle.wb_determinism.specs.Images.{is_marker_row}
+use Rattle.wb_operations.specs.Operations.{OperationSignature}
+use Rattle.wb_syntax_resolved.specs.declared.resolved.ResolvedParts.{ResolvedParts}
+use Rattle.wb_syntax_resolved.specs.Resolved.{IsResolved}
+use Rattle.wb_compose_theory_grammar.specs.Bridges.{piece_of}
+use Rattle.wb_compose_theory_grammar.specs.Pieces.{Piece}
+
+-- which terminals are markers
+abbrev pub is_marker_in : ResolvedParts → ℕ → Bool
+is_marker_in r t = is_marker_row (slice_get r.terminals t)
+
+-- the extension with this grammar, and with the markers of r
+abbrev pub piece_in : ResolvedParts → GrammarView → Piece
+piece_in r g = piece_of g (is_marker_in r)
+
+-- a host with some extension, by numbers, and its grammar
+pub record Extended : Type 0 where
+  pub resolved : ResolvedParts
+  pub grammar : GrammarView
+
+-- the host is resolved, has this grammar and is certified, and so is each extension, with the host alone
+pub record AreCertifiedApart (host : ResolvedParts) (host_grammar : GrammarView) (operations : List OperationSignature)
+    (extensions : List Extended) : Type 0 where
+  pub host_resolved : IsResolved host
+  pub host_start : host.grammar ≡ Some host_grammar
+  pub host_certified : IsCertifiedValue host operations
+  pub each : All (λ (e : Extended). AreCertifiedBoth host e.resolved host_grammar e.grammar operations) extensions
+
+-- the extensions with their markers
+abbrev pub pieces_in : List Extended → List Piece
+pieces_in extensions = map (λ (e : Extended). piece_in e.resolved e.grammar) extensions

@@ -1,0 +1,71 @@
+//! Laws of the definitions: what each says is proved, and there is nothing to run.
+
+ghost use Rattle.std.specs.Prelude.{◌≡◌, List, [], ◌∷◌, map};
+ghost use Rattle.wb_base.specs.Different.{Differ};
+ghost use Rattle.wb_base.specs.Grammar.{GrammarView};
+ghost use Rattle.wb_determinism_host.specs.Lexicons.{lexicon_of};
+ghost use Rattle.wb_operations.specs.Operations.{OperationSignature};
+ghost use Rattle.wb_syntax_resolved.specs.declared.resolved.ResolvedParts.{ResolvedParts};
+ghost use Rattle.wb_compose_theory_grammar.specs.Certificates.{AreCertified, IsCertifiedPiece};
+ghost use Rattle.wb_compose_theory_grammar.specs.Laws.{HasSameKernels, HasTogether, IsUnited, KeepsHost};
+ghost use Rattle.wb_compose_theory_grammar.specs.Pieces.{ArePieces};
+ghost use Rattle.wb_compose_theory_language.specs.Apart.{AreWrittenApart};
+ghost use Rattle.wb_compose_theory_language.specs.Written.{pieces_of};
+ghost use Rattle.wb_certify.specs.Kept.{AreCertifiedBoth};
+ghost use Rattle.wb_compose.specs.Joined.{AreCertifiedApart, Extended, piece_in, pieces_in};
+ghost use Rattle.wb_compose.specs.Numbers.{KeepsNumbers};
+ghost use Rattle.wb_compose.specs.Written.{name_in, written_in};
+
+/// With a certified extension what is of the grammar of a certified host keeps its numbers, and what is added is the extension's own: no
+/// abstract nonterminal of the host becomes one of the grammar.
+pub fn numbers_law()
+    ensures { (host r : ResolvedParts) (h g : GrammarView) (operations : List OperationSignature) → AreCertifiedBoth host r h g operations → KeepsNumbers host r h g }
+{}
+
+/// With an extension the nonterminals of a certified host that are extensible keep their numbers.
+pub fn extensible_law()
+    ensures { (host r : ResolvedParts) (h g : GrammarView) (operations : List OperationSignature) → AreCertifiedBoth host r h g operations → r.extensible ≡ host.extensible }
+{}
+
+/// A certified extension is a piece of a union: its grammar extends its host's, in numbers, and its markers are as they should be.
+pub fn piece_law()
+    ensures { (host r : ResolvedParts) (h g : GrammarView) (operations : List OperationSignature) → AreCertifiedBoth host r h g operations → ArePieces h host.extensible (piece_in r g ∷ []) }
+{}
+
+/// Each prefix of a certified host has the same kernel with a certified extension, in numbers.
+pub fn kernels_law()
+    ensures { (host r : ResolvedParts) (h g : GrammarView) (operations : List OperationSignature) → AreCertifiedBoth host r h g operations → HasSameKernels h host.extensible (piece_in r g) }
+{}
+
+/// A certified extension is certified as a piece of a union: in numbers it meets the lookahead rule and the envelope rule.
+pub fn certified_piece_law()
+    ensures { (host r : ResolvedParts) (h g : GrammarView) (operations : List OperationSignature) → AreCertifiedBoth host r h g operations → IsCertifiedPiece h host.extensible (piece_in r g) }
+{}
+
+/// A certified host and extensions that are certified, each with the host alone, are what unions ask for.
+pub fn certified_law()
+    ensures { (host : ResolvedParts) (h : GrammarView) (operations : List OperationSignature) (extensions : List Extended) → AreCertifiedApart host h operations extensions → AreCertified h host.extensible (pieces_in extensions) }
+{}
+
+/// So their union is reduced, and has no unit cycle, no hidden left recursion and no conflict.
+pub fn united_law()
+    ensures { (host : ResolvedParts) (h : GrammarView) (operations : List OperationSignature) (extensions : List Extended) → AreCertifiedApart host h operations extensions → IsUnited h host.extensible (pieces_in extensions) }
+{}
+
+/// At each prefix of the host the valid terminals of their union are, besides markers, those of the host.
+pub fn host_law()
+    ensures { (host : ResolvedParts) (h : GrammarView) (operations : List OperationSignature) (extensions : List Extended) → AreCertifiedApart host h operations extensions → KeepsHost h host.extensible (pieces_in extensions) }
+{}
+
+/// Two terminals that are valid together in their union, no markers, or one a marker and the other of its extension, are so in one of the
+/// certified grammars or in an envelope, and those of two extensions that are no markers never are.
+pub fn together_law()
+    ensures { (host : ResolvedParts) (h : GrammarView) (operations : List OperationSignature) (extensions : List Extended) → AreCertifiedApart host h operations extensions → HasTogether h host.extensible (pieces_in extensions) }
+{}
+
+/// A certified host and extensions that are certified with it alone, and have different names, are what the laws on forms ask for: they are
+/// certified, and written so that no two terminals or layouts clash.
+pub fn written_law()
+    ensures certified { (host : ResolvedParts) (h : GrammarView) (operations : List OperationSignature) (extensions : List Extended) → AreCertifiedApart host h operations extensions → AreCertified h host.extensible (pieces_of (written_in extensions)) }
+    ensures apart { (host : ResolvedParts) (h : GrammarView) (operations : List OperationSignature) (extensions : List Extended) → AreCertifiedApart host h operations extensions → Differ (map (λ (e : Extended). name_in e.resolved) extensions) → AreWrittenApart h host.extensible (lexicon_of host h) (written_in extensions) }
+{}

@@ -1,0 +1,17 @@
+use Rattle.wb_compose_attributes.specs.NewNumbers.{map_of}
+use Rattle.wb_names_rows.proofs.ListLemmas.{map_all, map_next}
+use Rattle.wb_compose_theory_attributes.specs.Rows.{new_occurrence}
+use Rattle.wb_compose_attributes.proofs.rows.add_occurrences.Goals as goal
+
+pub rows-preserved : goal.rows-preserved
+rows-preserved c =
+    let n = c.args.numbers.now in
+    map_next (new_occurrence (map_of n) n.owner) c.args.rows.now c.rows.row-index c.row-item.result c.in_ok-next.next c.args.made.now.items
+    c.rows.made.items c.push.new.list.items
+    c.rows.invariant c.rows-test.true c.row-item.is c.in_ok-next.ensures c.in_ok-push.ensures.ok
+
+pub returns : goal.returns
+returns c =
+    let n = c.args.numbers.now in
+    map_all (new_occurrence (map_of n) n.owner) c.args.rows.now c.rows.row-index c.args.made.now.items c.rows.made.items c.rows.invariant
+    c.rows-test.false

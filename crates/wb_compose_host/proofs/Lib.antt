@@ -1,0 +1,2 @@
+mod HostLemmas
+mod RangeLemmas

@@ -1,0 +1,2 @@
+-- the language of a host by itself
+pub mod HostLanguage

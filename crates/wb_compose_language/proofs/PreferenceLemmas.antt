@@ -1,0 +1,204 @@
+-- Preferences of the union, as they are gathered extension by extension.
+use Rattle.std.proofs.Common.{◌≡◌, ◌∙◌, ◌≤◌, ◌+◌, ◌++◌, ◌∷◌, [], ℕ, suc, List, Some, Contains, length, map, slice_get}
+use Rattle.std.proofs.Common.{refl, sym, ap, subst, inl, inr, arith}
+use Rattle.std.proofs.lemmas.Bool.{cases_lt}
+use Rattle.std.proofs.lemmas.List.{length-map}
+use Rattle.std.proofs.lemmas.Option.{slice_get_within}
+use Rattle.wb_lemmas.proofs.Members.{append_contains_left, append_contains_right, contains_append, contains_at, place_of}
+use Rattle.wb_lemmas.proofs.Places.{at_once}
+use Rattle.wb_syntax_resolved.specs.declared.terminal.Preference.{Preference}
+use Rattle.wb_compose_theory_grammar.proofs.FactLemmas.{at_map, map_at, size_at}
+use Rattle.wb_compose_theory_grammar.proofs.PlaceLemmas.{within_total}
+use Rattle.wb_compose_theory_grammar.specs.Places.{count_before}
+use Rattle.wb_compose_theory_grammar.specs.Unions.{added_terminals}
+use Rattle.wb_compose_theory_language.specs.Rows.{by_extension, by_host, host_row, piece_row}
+use Rattle.wb_compose_theory_language.specs.Written.{WrittenPiece, pieces_of}
+use Rattle.wb_compose_theory_language.proofs.RowLemmas.{more, piece_there}
+use Rattle.wb_compose_language.specs.declared.addition.Addition.{Addition}
+use Rattle.wb_compose_language.specs.declared.addition.Lent.{Lent}
+use Rattle.wb_compose_language.specs.Lents.{IsUnitable, all_in, own_in, written_in}
+use Rattle.wb_compose_language.specs.declared.row.Block.{Block}
+use Rattle.wb_compose_language.specs.Inner.Rows.{AreGathered, ArePreferences, IsPreferred, IsPreferredBefore, pair_in, row_in, sizes_of}
+use Rattle.wb_compose_language.specs.Inner.Rows.{total}
+use Rattle.wb_compose_language.specs.Inner.Rows as before
+use Rattle.wb_compose_language.proofs.RowLemmas.{count_next, row_is}
+
+-- what a list that was mapped has
+mapped : {X Y : Type 0} (f : X → Y) (xs : List X) (y : Y) → Contains (map f xs) y → (x : X) × Contains xs x × (y ≡ f x)
+mapped f xs y has =
+    let (i, at) = place_of (map f xs) y has in
+    let (x, there, is) = map_at f xs i y at in (x, contains_at xs x i there, is)
+
+map_contains : {X Y : Type 0} (f : X → Y) (xs : List X) (x : X) → Contains xs x → Contains (map f xs) (f x)
+map_contains f xs x has = let (i, at) = place_of xs x has in contains_at (map f xs) (f x) i (at_map f xs i x at)
+
+-- a preference as a pair
+abbrev pair_of : Preference → ℕ × ℕ
+pair_of p = (p.first, p.second)
+
+-- a pair of numbers of the union, by the numbers of the block
+record IsPairOf (block : Block) (ps : List Preference) (one other : ℕ) : Type 0 where
+  t : ℕ
+  u : ℕ
+  one_is : one ≡ row_in block t
+  other_is : other ≡ row_in block u
+  listed : Contains (map pair_of ps) (t, u)
+
+pair_there : (block : Block) (ps : List Preference) (one other : ℕ) → Contains (map (pair_in block) ps) (one, other) →
+    IsPairOf block ps one other
+pair_there block ps one other has =
+    let (p, listed, is) = mapped (pair_in block) ps (one, other) has in record {
+      t = p.first;
+      u = p.second;
+      one_is = ap (λ (z : ℕ × ℕ). z.0) is;
+      other_is = ap (λ (z : ℕ × ℕ). z.1) is;
+      listed = map_contains pair_of ps p listed;
+    }
+
+pair_back : (block : Block) (ps : List Preference) (one other t u : ℕ) → one ≡ row_in block t → other ≡ row_in block u →
+    Contains (map pair_of ps) (t, u) → Contains (map (pair_in block) ps) (one, other)
+pair_back block ps one other t u one_is other_is has =
+    let (p, listed, is) = mapped pair_of ps (t, u) has in
+    let first = ap (row_in block) (ap (λ (z : ℕ × ℕ). z.0) (sym is)) ∙ sym one_is in
+    let second = ap (row_in block) (ap (λ (z : ℕ × ℕ). z.1) (sym is)) ∙ sym other_is in
+    subst (Contains (map (pair_in block) ps)) (λ j. (first j, second j)) (map_contains (pair_in block) ps p listed)
+
+-- the terminals of an extension among those of all
+abbrev pub block_of : (own before size total : ℕ) → Block
+block_of own before size total = record { own = own; before = before; size = size; total = total }
+
+module _ (lent : Lent) where
+  abbrev host_row_in : ℕ → ℕ
+  host_row_in t = host_row lent.grammar.now lent.extensible.now (own_in lent) (all_in lent) t
+
+  abbrev piece_row_in : ℕ → WrittenPiece → ℕ → ℕ
+  piece_row_in k x t = piece_row lent.grammar.now lent.extensible.now (own_in lent) (all_in lent) k x t
+
+  -- the host's preferences alone
+  pub gathered_first : (own all : ℕ) (none pairs : List (ℕ × ℕ)) → own ≡ lent.grammar.now.terminals → all ≡ total lent → none ≡ [] →
+      pairs ≡ none ++ map (pair_in (block_of own 0 0 all)) lent.preferences.now → AreGathered lent 0 0 pairs
+  gathered_first own all none pairs own_is all_is nothing with_host =
+      record { before_is = nothing_before sizes; each = λ one other. (there one other, back one other) }
+    where
+      sizes : List ℕ
+      sizes = sizes_of lent
+
+      nothing_before : (xs : List ℕ) → 0 ≡ count_before xs 0
+      nothing_before [] = refl
+      nothing_before (x ∷ xs) = refl
+
+      block : Block
+      block = block_of own 0 0 all
+
+      same : (t : ℕ) → row_in block t ≡ host_row_in t
+      same = row_is block lent.grammar.now.terminals 0 0 (total lent) own_is refl refl all_is
+
+      is : pairs ≡ map (pair_in block) lent.preferences.now
+      is = with_host ∙ ap (λ zs. zs ++ map (pair_in block) lent.preferences.now) nothing
+
+      there : (one other : ℕ) → Contains pairs (one, other) → IsPreferredBefore lent 0 one other
+      there one other has =
+          let p = pair_there block lent.preferences.now one other (subst (λ zs. Contains zs (one, other)) is has) in
+          before.by_host p.t p.u (p.one_is ∙ same p.t) (p.other_is ∙ same p.u) p.listed
+
+      back : (one other : ℕ) → IsPreferredBefore lent 0 one other → Contains pairs (one, other)
+      back one other (before.by_host t u one_is other_is has) = subst (λ zs. Contains zs (one, other)) (sym is)
+          (pair_back block lent.preferences.now one other t u (one_is ∙ sym (same t)) (other_is ∙ sym (same u)) has)
+      back one other (before.by_extension k x t u less at one_is other_is has) = absurd (omega (arith, less))
+
+  -- all of them
+  pub gathered_all : (n count : ℕ) (pairs : List (ℕ × ℕ)) → AreGathered lent n count pairs → length lent.extensions.now ≤ n →
+      ArePreferences lent pairs
+  gathered_all n count pairs are past one other = (there, back)
+    where
+      up : IsPreferredBefore lent n one other → IsPreferred lent one other
+      up (before.by_host t u one_is other_is has) = by_host t u one_is other_is has
+      up (before.by_extension k x t u less at one_is other_is has) = by_extension k x t u at one_is other_is has
+
+      down : IsPreferred lent one other → IsPreferredBefore lent n one other
+      down (by_host t u one_is other_is has) = before.by_host t u one_is other_is has
+      down (by_extension k x t u at one_is other_is has) =
+          let within = slice_get_within (all_in lent) k x at in
+          let len = length-map lent.extensions.now written_in in
+          before.by_extension k x t u (omega (arith, within, len, past)) at one_is other_is has
+
+      there : Contains pairs (one, other) → IsPreferred lent one other
+      there has = up ((are.each one other).0 has)
+
+      back : IsPreferred lent one other → Contains pairs (one, other)
+      back p = (are.each one other).1 (down p)
+
+  module _ (ok : IsUnitable lent) (k : ℕ) (x : Addition) (at : slice_get lent.extensions.now k ≡ Some x) where
+    listed : slice_get (all_in lent) k ≡ Some (written_in x)
+    listed = at_map written_in lent.extensions.now k x at
+
+    -- an extension has no fewer terminals than the host
+    pub no_fewer : lent.grammar.now.terminals ≤ x.grammar.now.terminals
+    no_fewer = more lent.grammar.now lent.extensible.now (own_in lent) (all_in lent) ok.certified.are_pieces k (written_in x) listed
+
+    size_there : slice_get (sizes_of lent) k ≡ Some (added_terminals lent.grammar.now x.grammar.now)
+    size_there = size_at lent.grammar.now lent.extensible.now (pieces_of (all_in lent)) (added_terminals lent.grammar.now) k
+        ((written_in x).piece) (piece_there lent.grammar.now lent.extensible.now (own_in lent) (all_in lent) ok.certified.are_pieces k
+        (written_in x) listed)
+
+    -- and its own terminals are among those of all
+    pub block_fits : count_before (sizes_of lent) k + added_terminals lent.grammar.now x.grammar.now ≤ total lent
+    block_fits = within_total (sizes_of lent) k (added_terminals lent.grammar.now x.grammar.now) size_there
+
+    -- one extension more
+    pub gathered_more : (own size all count : ℕ) (old new : List (ℕ × ℕ)) → own ≡ lent.grammar.now.terminals →
+        size ≡ added_terminals lent.grammar.now x.grammar.now → all ≡ total lent → AreGathered lent k count old →
+        new ≡ old ++ map (pair_in (block_of own count size all)) x.preferences.now → AreGathered lent (k + 1) (count + size) new
+    gathered_more own size all count old new own_is size_is all_is was is = record {
+      before_is =
+          (let next = count_next (sizes_of lent) k (added_terminals lent.grammar.now x.grammar.now) size_there in
+          let here = was.before_is in
+          let step : k + 1 ≡ suc k = omega arith in
+          let sum : count + size ≡ count_before (sizes_of lent) (suc k) = omega (arith, next, here, size_is) in
+          sum ∙ ap (count_before (sizes_of lent)) (sym step));
+      each = λ one other. (there one other, back one other);
+    }
+      where
+        block : Block
+        block = block_of own count size all
+
+        same : (t : ℕ) → row_in block t ≡ piece_row_in k (written_in x) t
+        same = row_is block lent.grammar.now.terminals (count_before (sizes_of lent) k) (added_terminals lent.grammar.now x.grammar.now)
+            (total lent) own_is was.before_is size_is all_is
+
+        added : List (ℕ × ℕ)
+        added = map (pair_in block) x.preferences.now
+
+        up : (one other : ℕ) → IsPreferredBefore lent k one other → IsPreferredBefore lent (k + 1) one other
+        up one other (before.by_host t u one_is other_is has) = before.by_host t u one_is other_is has
+        up one other (before.by_extension l y t u less there one_is other_is has) =
+            before.by_extension l y t u (omega (arith, less)) there one_is other_is has
+
+        there : (one other : ℕ) → Contains new (one, other) → IsPreferredBefore lent (k + 1) one other
+        there one other has = elim (contains_append old added (one, other) (subst (λ zs. Contains zs (one, other)) is has)) [
+          | inl early ↦ up one other ((was.each one other).0 early)
+          | inr late ↦
+              let p = pair_there block x.preferences.now one other late in
+              before.by_extension k (written_in x) p.t p.u (omega arith) listed (p.one_is ∙ same p.t) (p.other_is ∙ same p.u) p.listed
+        ]
+
+        early : (one other : ℕ) → IsPreferredBefore lent k one other → Contains new (one, other)
+        early one other p = subst (λ zs. Contains zs (one, other)) (sym is)
+            (append_contains_left old added (one, other) ((was.each one other).1 p))
+
+        back : (one other : ℕ) → IsPreferredBefore lent (k + 1) one other → Contains new (one, other)
+        back one other (before.by_host t u one_is other_is has) = early one other (before.by_host t u one_is other_is has)
+        back one other (before.by_extension l y t u less there one_is other_is has) = elim (cases_lt l k) [
+          | inl low ↦ early one other (before.by_extension l y t u low there one_is other_is has)
+          | inr high ↦ last (omega (arith, less, high))
+        ]
+          where
+            last : l ≡ k → Contains new (one, other)
+            last e =
+                let here = subst (λ z. slice_get (all_in lent) z ≡ Some y) e there in
+                let y_is : y ≡ written_in x = at_once (all_in lent) k y (written_in x) here listed in
+                let one_there = one_is ∙ (ap (λ z. piece_row_in z y t) e ∙ (ap (λ z. piece_row_in k z t) y_is ∙ sym (same t))) in
+                let other_there = other_is ∙ (ap (λ z. piece_row_in z y u) e ∙ (ap (λ z. piece_row_in k z u) y_is ∙ sym (same u))) in
+                subst (λ zs. Contains zs (one, other)) (sym is) (append_contains_right old added (one, other)
+                (pair_back block x.preferences.now one other t u one_there other_there
+                (subst (λ (z : WrittenPiece). Contains z.lexicon.preferences (t, u)) y_is has)))

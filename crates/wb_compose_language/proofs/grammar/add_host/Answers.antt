@@ -1,0 +1,9 @@
+use Rattle.std.proofs.Common.{arith}
+use Rattle.wb_compose_language.proofs.GrammarLemmas.{copied_more}
+use Rattle.wb_compose_language.proofs.grammar.add_host.Goals as goal
+
+pub productions-preserved : goal.productions-preserved
+productions-preserved c =
+    copied_more c.args.made.now c.productions.made c.add.new.self c.args.host.now c.productions.production c.left.result c.right.result.now
+    (omega (arith, c.productions-test.true, c.productions-production-end.ensures.count)) c.left.ensures.left c.right.ensures.right
+    c.productions.invariant c.in_ok-add.ensures.ok

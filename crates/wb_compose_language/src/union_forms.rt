@@ -1,0 +1,126 @@
+//! Builds the forms of the language of a union with their expressions, and finds the markers that are withdrawn.
+//!
+//! The host's terminals come first, then those of each extension (`extension_forms`), and the expressions of layout last.
+
+ghost use Rattle.std.specs.Prelude.{◌≡◌, ◌≤◌, ◌<◌, [], IfOk, OnOk, length};
+ghost use Rattle.wb_compose_theory_language.specs.Languages.{AreForms, AreWithdrawn};
+ghost use Rattle.wb_compose_language.specs.Expressions.{AreExpressions};
+ghost use Rattle.wb_compose_language.specs.Lents.{IsUnitable, all_in, own_in};
+ghost use Rattle.wb_compose_language.specs.Inner.FormsMade.{AreLayoutAdded, AreMadeBelow};
+ghost use Rattle.wb_compose_language.specs.Inner.Opened.{IsOpened, union_terminals};
+
+use crate::Lent;
+use crate::extension_forms::add_extension;
+use crate::first_bytes::{FirstBytes, all_first_bytes};
+use crate::own_productions::sum;
+use crate::written::add_bare;
+use std::alloc::{AllocError, Global};
+use wb_base::push;
+use wb_regex::Regex;
+use wb_scan_theory::Form;
+
+/// The forms of a union, and what they match. A form is named by its place, and a marker by its number in the union.
+#[derive(Drop)]
+pub struct UnitedForms {
+    pub forms: Vec<Form>,
+    /// One for each form, and then one for each layout of the host.
+    pub expressions: Vec<Regex>,
+    /// The markers without a bare form, in the order of their numbers.
+    pub withdrawn: Vec<usize>,
+}
+
+/// The forms of the union of a host and its extensions.
+///
+/// A marker is compared with a terminal of another extension only where texts of both may begin with one byte.
+pub fn united_forms(alloc: Global, lent: &Lent) -> Result<UnitedForms, AllocError>
+    requires { IsUnitable lent.now }
+    ensures forms { IfOk result (λ made. AreForms lent.now.grammar.now lent.now.extensible.now (own_in lent.now) (all_in lent.now) made.forms.items) }
+    ensures expressions { IfOk result (λ made. AreExpressions lent.now made.forms.items made.expressions.items) }
+    ensures withdrawn { IfOk result (λ made. AreWithdrawn lent.now.grammar.now lent.now.extensible.now (own_in lent.now) (all_in lent.now) made.withdrawn.items) }
+{
+    let first_bytes = all_first_bytes(alloc, lent.grammar.terminals(), lent.extensions)?;
+    let opened = Opened {
+        lent: *lent,
+        first_bytes: &first_bytes,
+    };
+    forms_with(alloc, &opened)
+}
+
+// A host with extensions, and with which bytes their own terminals begin.
+#[derive(Clone, Copy)]
+pub(crate) struct Opened<'a> {
+    pub(crate) lent: Lent<'a>,
+    pub(crate) first_bytes: &'a [FirstBytes],
+}
+
+// Like `united_forms`, where first bytes are known.
+fn forms_with(alloc: Global, opened: &Opened) -> Result<UnitedForms, AllocError>
+    requires { IsOpened opened.now }
+    ensures forms { IfOk result (λ made. AreForms opened.now.lent.grammar.now opened.now.lent.extensible.now (own_in opened.now.lent) (all_in opened.now.lent) made.forms.items) }
+    ensures expressions { IfOk result (λ made. AreExpressions opened.now.lent made.forms.items made.expressions.items) }
+    ensures withdrawn { IfOk result (λ made. AreWithdrawn opened.now.lent.grammar.now opened.now.lent.extensible.now (own_in opened.now.lent) (all_in opened.now.lent) made.withdrawn.items) }
+{
+    let mut made = no_forms(alloc);
+    add_host(&opened.lent, &mut made)?;
+    add_extensions(alloc, opened, &mut made)?;
+    add_layout(&opened.lent, &mut made.expressions)?;
+    Ok(made)
+}
+
+fn no_forms(alloc: Global) -> UnitedForms
+    ensures forms { result.forms.items ≡ [] }
+    ensures expressions { result.expressions.items ≡ [] }
+    ensures withdrawn { result.withdrawn.items ≡ [] }
+{
+    UnitedForms {
+        forms: Vec::new(alloc),
+        expressions: Vec::new(alloc),
+        withdrawn: Vec::new(alloc),
+    }
+}
+
+// Adds the forms of the host's terminals to none.
+fn add_host(lent: &Lent, made: &mut UnitedForms) -> Result<(), AllocError>
+    requires unitable { IsUnitable lent.now }
+    requires made { AreMadeBelow lent.now 0 made.old }
+    ensures { OnOk result (AreMadeBelow lent.now lent.now.grammar.now.terminals made.new) }
+{
+    'terminals: for terminal in 0..lent.grammar.terminals() {
+        add_bare(
+            &mut made.forms,
+            &mut made.expressions,
+            terminal,
+            &lent.terminals[terminal].pattern,
+        )?;
+    }
+    Ok(())
+}
+
+// Adds the forms of the extensions' own terminals to those of the host's.
+fn add_extensions(alloc: Global, opened: &Opened, made: &mut UnitedForms) -> Result<(), AllocError>
+    requires opened { IsOpened opened.now }
+    requires made { AreMadeBelow opened.now.lent opened.now.lent.grammar.now.terminals made.old }
+    ensures { OnOk result (AreMadeBelow opened.now.lent (union_terminals opened.now.lent) made.new) }
+{
+    let own = opened.lent.grammar.terminals();
+    let mut before = 0;
+    'extensions: for number in 0..opened.lent.extensions.len() {
+        add_extension(alloc, opened, number, before, made)?;
+        before = sum(
+            before,
+            opened.lent.extensions[number].grammar.terminals() - own,
+        )?;
+    }
+    Ok(())
+}
+
+// Adds the expressions of the host's layout.
+fn add_layout(lent: &Lent, expressions: &mut Vec<Regex>) -> Result<(), AllocError>
+    requires { lent.now.grammar.now.terminals ≤ length lent.now.terminals.now }
+    ensures { OnOk result (AreLayoutAdded lent.now expressions.old.items expressions.new.items) }
+{
+    'layout: for row in lent.grammar.terminals()..lent.terminals.len() {
+        push(expressions, lent.terminals[row].pattern.copy()?)?;
+    }
+    Ok(())
+}

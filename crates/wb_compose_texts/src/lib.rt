@@ -1,0 +1,33 @@
+//! Texts in the language of a certified host with certified extensions: the tree of a text, the values at its root, and the text that a
+//! number makes.
+//!
+//! The language and its attributes are made in `wb_compose`; here their numbers get the names that reports show, the host's and then each
+//! extension's. Trees of a host by itself are in `wb_compose_trees`, values of attributes of a tree in `wb_eval_root`.
+#![tactic(auto)]
+
+mod expression_rows;
+mod expressions;
+mod generated;
+pub mod generated_laws;
+mod names;
+mod question;
+mod root;
+mod signatures;
+mod text_values;
+pub mod tree_laws;
+mod trees;
+mod value;
+pub mod value_laws;
+mod withdrawn;
+mod written;
+
+pub use expressions::united_expressions;
+pub use generated::generated_text;
+pub use names::united_terminals;
+pub use question::Question;
+pub use root::root_attribute;
+pub use signatures::united_signatures;
+pub use text_values::text_value;
+pub use trees::{united_stop, united_text_answer};
+pub use value::TextValue;
+pub use withdrawn::withdrawn_names;

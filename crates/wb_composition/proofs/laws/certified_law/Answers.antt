@@ -1,5 +1,0 @@
-use Rattle.wb_composition.proofs.CertifiedLemmas.{certified_apart}
-use Rattle.wb_composition.proofs.laws.certified_law.Goals as goal
-
-pub returns : goal.returns
-returns c = certified_apart

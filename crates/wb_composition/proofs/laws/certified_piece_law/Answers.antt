@@ -1,5 +1,0 @@
-use Rattle.wb_composition.proofs.CertifiedLemmas.{certified_piece}
-use Rattle.wb_composition.proofs.laws.certified_piece_law.Goals as goal
-
-pub returns : goal.returns
-returns c = certified_piece

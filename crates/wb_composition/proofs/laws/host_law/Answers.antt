@@ -1,5 +1,0 @@
-use Rattle.wb_composition.proofs.CertifiedLemmas.{host_apart}
-use Rattle.wb_composition.proofs.laws.host_law.Goals as goal
-
-pub returns : goal.returns
-returns c = host_apart

@@ -1,5 +1,0 @@
-use Rattle.wb_composition.proofs.JoinedLemmas.{kernels_are}
-use Rattle.wb_composition.proofs.laws.kernels_law.Goals as goal
-
-pub returns : goal.returns
-returns c = kernels_are

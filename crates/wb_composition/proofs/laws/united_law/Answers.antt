@@ -1,5 +1,0 @@
-use Rattle.wb_composition.proofs.CertifiedLemmas.{united_apart}
-use Rattle.wb_composition.proofs.laws.united_law.Goals as goal
-
-pub returns : goal.returns
-returns c = united_apart

@@ -1,8 +1,0 @@
-use Rattle.wb_composition.proofs.WrittenApart.{all_apart, all_certified}
-use Rattle.wb_composition.proofs.laws.written_law.Goals as goal
-
-pub returns : goal.returns
-returns c = record {
-  certified = λ host h operations extensions apart. all_certified host h operations extensions apart;
-  apart = λ host h operations extensions apart differ. all_apart host h operations extensions apart differ;
-}

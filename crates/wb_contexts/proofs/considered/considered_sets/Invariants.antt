@@ -1,5 +1,0 @@
-use Rattle.wb_contexts.specs.Sets.{AreConsideredSets, lent}
-use Rattle.wb_contexts.proofs.considered.considered_sets.Given as goal
-
-abbrev pub invariant-kernels : goal.invariant-kernels
-invariant-kernels l = AreConsideredSets l.kernels (lent l.lexicon) l.state l.sets.items

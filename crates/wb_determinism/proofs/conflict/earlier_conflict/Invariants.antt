@@ -1,0 +1,5 @@
+use Rattle.wb_determinism.specs.Inner.Conflicts.{AreApartBefore}
+use Rattle.wb_determinism.proofs.conflict.earlier_conflict.Given as goal
+
+abbrev pub invariant-places : goal.invariant-places
+invariant-places l = AreApartBefore l.grammar l.row l.other l.looks

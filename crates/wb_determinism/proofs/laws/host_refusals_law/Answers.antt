@@ -1,5 +1,0 @@
-use Rattle.wb_determinism.proofs.RefusalLemmas.{excluded}
-use Rattle.wb_determinism.proofs.laws.host_refusals_law.Goals as goal
-
-pub returns : goal.returns
-returns c = excluded

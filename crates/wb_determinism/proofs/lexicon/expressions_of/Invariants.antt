@@ -1,6 +1,0 @@
-use Rattle.std.proofs.Common.{◌≡◌, take, map}
-use Rattle.wb_resolved.specs.declared.terminal.Terminal.{Terminal}
-use Rattle.wb_determinism.proofs.lexicon.expressions_of.Given as goal
-
-abbrev pub invariant-terminals : goal.invariant-terminals
-invariant-terminals l = l.expressions.items ≡ map (λ (t : Terminal). t.pattern) (take l.terminal-index l.terminals)

@@ -1,0 +1,3 @@
+mod FlagLemmas
+pub mod HostLemmas
+pub mod RefusalLemmas

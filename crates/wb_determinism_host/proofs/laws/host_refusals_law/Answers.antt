@@ -1,0 +1,5 @@
+use Rattle.wb_determinism_host.proofs.RefusalLemmas.{excluded}
+use Rattle.wb_determinism_host.proofs.laws.host_refusals_law.Goals as goal
+
+pub returns : goal.returns
+returns c = excluded

@@ -1,0 +1,3 @@
+-- Words of private functions, and what loops keep.
+pub mod Flags
+pub mod Lists

@@ -1,0 +1,54 @@
+-- Why a host isn't deterministic: each reason with a true example, where no earlier one holds.
+use Rattle.std.specs.Prelude.{◌<◌}
+use Rattle.wb_base.specs.Different.{Differ}
+use Rattle.wb_base.specs.Grammar.{GrammarView}
+use Rattle.wb_determinism_contexts.specs.Conflicts.{IsConflictAt}
+use Rattle.wb_determinism_contexts.specs.Considered.{IsClashAt}
+use Rattle.wb_grammar.specs.Refusals.{IsTrueReason}
+use Rattle.wb_grammar_theory.specs.Cycles.{HasNoUnitCycle, IsUnitCycle, IsHiddenCycle}
+use Rattle.wb_grammar_theory.specs.Lookaheads.{HasNoConflict}
+use Rattle.wb_graph.specs.Orders.{IsSimpleCycle}
+use Rattle.wb_marking_holes.specs.Holes.{with_holes_of}
+use Rattle.wb_syntax_resolved.specs.declared.resolved.ResolvedParts.{ResolvedParts}
+use Rattle.wb_determinism_host.specs.declared.refusal.DeterminismRefusal.{DeterminismRefusal}
+use Rattle.wb_determinism_host.specs.declared.refusal.DeterminismRefusal.TheVariants as d
+use Rattle.wb_determinism_host.specs.Lexicons.{lexicon_of, preference_pairs}
+use Rattle.wb_determinism_host.specs.Hosts.{AreAcyclic, IsSound, IsFitForParsing}
+
+-- what is shown is an example of the first of these that holds of a host with this grammar: preferences form a cycle; the grammar isn't
+-- reduced; with holes it has a unit cycle, hidden left recursion, a conflict, or a clash, whose lesser terminal is first. The other reasons
+-- are of extensions alone, and out of memory says nothing of the host
+abbrev pub IsHostRefusal : ResolvedParts → GrammarView → DeterminismRefusal → Type 0
+IsHostRefusal r g (d.NotBridge _) = ⊥
+IsHostRefusal r g (d.MarkerElsewhere _) = ⊥
+IsHostRefusal r g (d.NotExtensible _) = ⊥
+IsHostRefusal r g (d.PreferenceCycle cycle) = IsSimpleCycle (preference_pairs r) cycle
+IsHostRefusal r g (d.MarkerClash _ _ _) = ⊥
+IsHostRefusal r g (d.NotReduced reason) = AreAcyclic r × IsTrueReason g reason
+IsHostRefusal r g (d.UnitCycle list) = IsSound r g × IsUnitCycle (with_holes_of g r.extensible) list × Differ list
+IsHostRefusal r g (d.HiddenLeftRecursion list) =
+    IsSound r g × HasNoUnitCycle (with_holes_of g r.extensible) × IsHiddenCycle (with_holes_of g r.extensible) list × Differ list
+IsHostRefusal r g (d.Conflict prefix terminal first second) =
+    IsFitForParsing r g × IsConflictAt (with_holes_of g r.extensible) prefix terminal first second
+IsHostRefusal r g (d.Clash prefix left right text) =
+    IsFitForParsing r g × HasNoConflict (with_holes_of g r.extensible)
+    × IsClashAt (with_holes_of g r.extensible) (lexicon_of r g) prefix left right text × (left < right)
+IsHostRefusal r g (d.Lookahead _ _ _) = ⊥
+IsHostRefusal r g (d.Envelope _ _) = ⊥
+IsHostRefusal r g (d.NoMemory _) = Unit {0}
+
+-- the refusal is that memory ran out
+abbrev pub IsNoMemory : DeterminismRefusal → Type 0
+IsNoMemory (d.NotBridge _) = ⊥
+IsNoMemory (d.MarkerElsewhere _) = ⊥
+IsNoMemory (d.NotExtensible _) = ⊥
+IsNoMemory (d.PreferenceCycle _) = ⊥
+IsNoMemory (d.MarkerClash _ _ _) = ⊥
+IsNoMemory (d.NotReduced _) = ⊥
+IsNoMemory (d.UnitCycle _) = ⊥
+IsNoMemory (d.HiddenLeftRecursion _) = ⊥
+IsNoMemory (d.Conflict _ _ _ _) = ⊥
+IsNoMemory (d.Clash _ _ _ _) = ⊥
+IsNoMemory (d.Lookahead _ _ _) = ⊥
+IsNoMemory (d.Envelope _ _) = ⊥
+IsNoMemory (d.NoMemory _) = Unit {0}

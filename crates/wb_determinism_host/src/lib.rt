@@ -1,0 +1,17 @@
+//! Determinism of hosts: what an extension's author may rely on, before any extension is there.
+//!
+//! A host is tested with holes, terminals that match no text and stand where markers of extensions may come. What the words mean is in
+//! `wb_grammar_theory`, `wb_marking_holes` and `wb_determinism_contexts`.
+#![tactic(auto)]
+
+mod host;
+mod laws;
+mod lexicon;
+mod parts;
+mod refusal;
+
+pub use host::host_determinism;
+pub use laws::host_refusals_law;
+pub use lexicon::{expressions_of, pairs_of};
+pub use parts::HostParts;
+pub use refusal::{DeterminismRefusal, EnvelopeFault};

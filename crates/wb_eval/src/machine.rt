@@ -1,0 +1,129 @@
+//! What does an evaluation keep from one instance to the next?
+//!
+//! The memo, and the instances that wait, each for the one above it. How one is worked on is in `run`.
+
+ghost use Rattle.std.specs.Prelude.{◌≡◌, ◌≤◌, ◌<◌, ◌+◌, ◌^◌, OnOk, IfOk};
+ghost use Rattle.wb_eval.specs.Inner.Machines.{HasMore, HasTree, IsBlank, IsKey, IsTreeKnown, known, with_memo};
+ghost use Rattle.wb_eval.specs.Inner.Piles.{IsPiled};
+ghost use Rattle.wb_eval_memo.specs.Memos.{count, IsWhole, IsGrown};
+ghost use Rattle.wb_eval.specs.Inner.Reached.{IsReady, IsGivenTree, IsReached};
+
+use crate::frames::Frames;
+use std::alloc::{AllocError, Global};
+use wb_base::push;
+use wb_eval_memo::{Memo, Step};
+use wb_values::{TreeId, TreeStore, Value};
+
+// An instance, by the site of its path.
+#[derive(Clone, Copy)]
+pub(crate) enum Key {
+    Synthesized { site: usize, attribute: usize },
+    Inherited { site: usize, attribute: usize },
+    Tree { site: usize },
+}
+
+// The memo, the attribute that is asked of the root, the instances that wait with the one at work last, the frames of those whose
+// expressions wait, and how many were entered.
+pub(crate) struct Machine<'a> {
+    pub memo: Memo,
+    pub root: TreeId,
+    pub attribute: usize,
+    pub stack: Vec<Key>,
+    pub frames: Frames<'a>,
+    pub entered: u64,
+}
+
+impl<'a> Machine<'a> {
+    // An attribute is asked of a root, and no instance was entered. A site with values has room for so many at least.
+    pub(crate) fn new(
+        alloc: Global,
+        root: TreeId,
+        attribute: usize,
+        room: usize,
+    ) -> Result<Machine<'a>, AllocError>
+        ensures { IfOk result (IsBlank root attribute) }
+    {
+        let memo = Memo::new(alloc, root, room)?;
+        Ok(Machine {
+            memo,
+            root,
+            attribute,
+            stack: Vec::new(alloc),
+            frames: Frames::new(alloc),
+            entered: 0,
+        })
+    }
+
+    // Enters the instance of a key, for the one at work to wait for.
+    pub(crate) fn push(&mut self, key: Key) -> Result<(), AllocError>
+        requires piled { IsPiled self.old.frames }
+        requires room { self.old.entered + 1 < 2 ^ 64 }
+        ensures { OnOk result (HasMore self.old self.new key) }
+    {
+        push(&mut self.frames.rows, None)?;
+        push(&mut self.stack, key)?;
+        self.entered += 1;
+        Ok(())
+    }
+
+    // The value that is known for a key.
+    pub(crate) fn known(&self, key: Key) -> Result<Option<Value>, AllocError>
+        requires whole { IsWhole self.now.memo }
+        requires key { IsKey self.now.memo key }
+        ensures { IfOk result (λ found. found ≡ known self.now.memo key) }
+    {
+        match key {
+            Key::Synthesized { site, attribute } => self.memo.attribute(site, attribute),
+            Key::Inherited { site, attribute } => self.memo.attribute(site, attribute),
+            Key::Tree { site } => Ok(match self.memo.trees[site] {
+                Some(tree) => Some(Value::Tree(tree)),
+                None => None,
+            }),
+        }
+    }
+
+    // The site one step down from another, whose tree is known.
+    pub(crate) fn below(
+        &mut self,
+        store: &TreeStore,
+        site: usize,
+        step: Step,
+    ) -> Result<usize, AllocError>
+        requires whole { IsWhole self.old.memo }
+        requires there { site ≤ count self.old.memo }
+        requires ready { IsReady store.now self.old.memo site step }
+        ensures same { OnOk result (self.new ≡ with_memo self.old self.new.memo) }
+        ensures whole { OnOk result (IsWhole self.new.memo) }
+        ensures grown { OnOk result (IsGrown self.old.memo self.new.memo) }
+        ensures site { IfOk result (IsReached store.now self.old.memo self.new.memo site step) }
+    {
+        let tree = self.tree_below(store, site, step);
+        self.memo.below(site, step, tree)
+    }
+
+    // The tree of the site one step down, where that is a child.
+    fn tree_below(&self, store: &TreeStore, site: usize, step: Step) -> Option<TreeId>
+        requires { IsReady store.now self.now.memo site step }
+        ensures { IsGivenTree store.now self.now.memo site step result }
+    {
+        match step {
+            Step::Child(k) => {
+                let tree = tree_at(&self.memo, site);
+                store.child_tree(tree, k)
+            }
+            Step::Local(_) => None,
+            Step::Forward => None,
+        }
+    }
+}
+
+// The tree of a site, which is known.
+pub(crate) fn tree_at(memo: &Memo, site: usize) -> TreeId
+    requires { IsTreeKnown memo.now site }
+    ensures { HasTree memo.now site result }
+{
+    match memo.trees[site] {
+        Some(tree) => tree,
+        None => unreachable!(),
+    }
+}

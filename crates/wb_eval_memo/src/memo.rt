@@ -1,0 +1,142 @@
+//! What is known of the sites of an evaluation?
+//!
+//! The tree of each, and the values of its attributes. What they stand for is said where they are used.
+
+ghost use Rattle.std.specs.Prelude.{◌≡◌, ◌≢◌, ◌⊎◌, ◌≤◌, ◌<◌, ℕ, suc, [], ◌∷◌, ◌++◌, Some, None, length, slice_get, OnOk, IfOk};
+ghost use Rattle.wb_eval_memo.specs.Sites.{link, step_of, path_at, paths_of};
+ghost use Rattle.wb_eval_memo.specs.Memos.{recall, IsWhole, IsGrown, IsBelow};
+
+use crate::rows::Rows;
+use crate::sites::{Sites, Step};
+use std::alloc::{AllocError, Global};
+use wb_values::{TreeId, Value};
+
+/// The sites, their trees and the values of their attributes, as far as they are known.
+pub struct Memo {
+    /// The sites.
+    pub sites: Sites,
+    /// The tree of each site, where it is known.
+    pub trees: Vec<Option<TreeId>>,
+    /// The numbers of values from 1 on, by site and attribute.
+    pub cells: Rows,
+    /// The values.
+    pub values: Vec<Value>,
+}
+
+impl Memo {
+    /// The root alone, with its tree. A site with values has room for so many at least.
+    pub fn new(alloc: Global, root: TreeId, room: usize) -> Result<Memo, AllocError>
+        ensures whole { IfOk result IsWhole }
+        ensures origins { IfOk result (λ made. made.sites.origins.items ≡ []) }
+        ensures trees { IfOk result (λ made. made.trees.items ≡ Some root ∷ []) }
+        ensures values { IfOk result (λ made. made.values.items ≡ []) }
+    {
+        let mut trees = Vec::new(alloc);
+        push_tree(&mut trees, Some(root))?;
+        Ok(Memo {
+            sites: Sites::new(alloc),
+            trees,
+            cells: Rows::new(alloc, room),
+            values: Vec::new(alloc),
+        })
+    }
+
+    /// Lets go of the memo. A crate that calls this proves no drop of what it holds.
+    pub fn release(self) {
+        drop(self)
+    }
+
+    /// The value of an attribute, where it is known. The only error is that a text has too many copies to be counted.
+    pub fn attribute(&self, site: usize, attribute: usize) -> Result<Option<Value>, AllocError>
+        requires { IsWhole self.now }
+        ensures { IfOk result (λ found. found ≡ recall self.now site attribute) }
+    {
+        let number = self.cells.get(site, attribute);
+        if number == 0 {
+            return Ok(None);
+        }
+        let value = self.values[number - 1].copy()?;
+        Ok(Some(value))
+    }
+
+    /// Keeps the value of an attribute.
+    pub fn set_attribute(
+        &mut self,
+        site: usize,
+        attribute: usize,
+        value: Value,
+    ) -> Result<(), AllocError>
+        requires whole { IsWhole self.old }
+        requires there { site ≤ length self.old.sites.origins.items }
+        ensures whole { OnOk result (IsWhole self.new) }
+        ensures sites { OnOk result (self.new.sites ≡ self.old.sites) }
+        ensures trees { OnOk result (self.new.trees ≡ self.old.trees) }
+        ensures set { OnOk result (recall self.new site attribute ≡ Some value) }
+        ensures kept { OnOk result ((i other : ℕ) → (i ≢ site) ⊎ (other ≢ attribute) → recall self.new i other ≡ recall self.old i other) }
+    {
+        self.values.reserve(1)?;
+        let number = self.values.len() + 1;
+        self.cells.put(site, attribute, number)?;
+        self.values.push_reserved(value);
+        Ok(())
+    }
+
+    /// The site one step down from another, with its tree where that is known; it is added where it isn't there.
+    pub fn below(
+        &mut self,
+        parent: usize,
+        step: Step,
+        tree: Option<TreeId>,
+    ) -> Result<usize, AllocError>
+        requires whole { IsWhole self.old }
+        requires there { parent ≤ length self.old.sites.origins.items }
+        ensures whole { OnOk result (IsWhole self.new) }
+        ensures grown { OnOk result (IsGrown self.old self.new) }
+        ensures site { IfOk result (λ site. IsBelow self.old self.new parent step tree site) }
+    {
+        let site = self.sites.find(parent, step);
+        if site == 0 {
+            self.add(parent, step, tree)
+        } else {
+            Ok(site)
+        }
+    }
+
+    // Adds a site that isn't there.
+    fn add(&mut self, parent: usize, step: Step, tree: Option<TreeId>) -> Result<usize, AllocError>
+        requires whole { IsWhole self.old }
+        requires there { parent ≤ length self.old.sites.origins.items }
+        requires new { link self.old.sites parent step ≡ 0 }
+        ensures whole { OnOk result (IsWhole self.new) }
+        ensures grown { OnOk result (IsGrown self.old self.new) }
+        ensures site { IfOk result (λ site. IsBelow self.old self.new parent step tree site) }
+    {
+        self.trees.reserve(1)?;
+        let site = self.sites.add(parent, step)?;
+        self.trees.push_reserved(tree);
+        Ok(site)
+    }
+}
+
+impl Drop for Memo {
+    fn drop(self) {
+        let Memo {
+            sites,
+            trees,
+            cells: _,
+            values,
+        } = self;
+        drop(sites);
+        drop(trees);
+        drop(values);
+    }
+}
+
+// Adds a tree after others.
+fn push_tree(trees: &mut Vec<Option<TreeId>>, tree: Option<TreeId>) -> Result<(), AllocError>
+    ensures { OnOk result (trees.new.items ≡ trees.old.items ++ tree ∷ []) }
+{
+    trees.reserve(1)?;
+    trees.push_reserved(tree);
+    Ok(())
+}

@@ -1,0 +1,110 @@
+//! Which nodes has an evaluation come to, and how are they found from the node above in constant time?
+//!
+//! A site is a node by its path: site 0 is the root, and each other site has an origin. Trees are in `memo`.
+
+ghost use Rattle.std.specs.Prelude.{◌≡◌, ◌≢◌, ◌≤◌, ℕ, suc, [], ◌∷◌, ◌++◌, length, OnOk, IfOk};
+ghost use Rattle.wb_eval_memo.specs.Sites.{link, IsSites};
+ghost use Rattle.wb_eval_memo.specs.Inner.Steps.{IsOther};
+
+use crate::rows::Rows;
+use std::alloc::{AllocError, Global};
+
+/// A step down from a node.
+#[derive(Clone, Copy)]
+pub enum Step {
+    /// To a child.
+    Child(usize),
+    /// To the tree of a local.
+    Local(usize),
+    /// To the forwarded tree.
+    Forward,
+}
+
+/// How a site is reached from another.
+#[derive(Clone, Copy)]
+pub struct Origin {
+    /// The site above.
+    pub parent: usize,
+    /// The step down from it.
+    pub step: Step,
+}
+
+/// The sites, by number.
+pub struct Sites {
+    /// How each is reached, but for the root.
+    pub origins: Vec<Origin>,
+    /// The sites of children, by site and child.
+    pub children: Rows,
+    /// Those of the trees of locals, by site and local.
+    pub locals: Rows,
+    /// Those of forwarded trees, by site.
+    pub forwards: Rows,
+}
+
+impl Sites {
+    /// The root alone.
+    pub fn new(alloc: Global) -> Sites
+        ensures origins { result.origins.items ≡ [] }
+        ensures whole { IsSites result }
+    {
+        Sites {
+            origins: Vec::new(alloc),
+            children: Rows::new(alloc, 0),
+            locals: Rows::new(alloc, 0),
+            forwards: Rows::new(alloc, 0),
+        }
+    }
+
+    /// The site one step down from another, or 0.
+    pub fn find(&self, parent: usize, step: Step) -> usize
+        ensures { result ≡ link self.now parent step }
+    {
+        match step {
+            Step::Child(k) => self.children.get(parent, k),
+            Step::Local(x) => self.locals.get(parent, x),
+            Step::Forward => self.forwards.get(parent, 0),
+        }
+    }
+
+    /// Adds the site one step down from another, which isn't there.
+    pub fn add(&mut self, parent: usize, step: Step) -> Result<usize, AllocError>
+        requires whole { IsSites self.old }
+        requires there { parent ≤ length self.old.origins.items }
+        requires new { link self.old parent step ≡ 0 }
+        ensures number { IfOk result (λ site. site ≡ suc (length self.old.origins.items)) }
+        ensures origins { OnOk result (self.new.origins.items ≡ self.old.origins.items ++ record { parent = parent; step = step } ∷ []) }
+        ensures whole { OnOk result (IsSites self.new) }
+    {
+        let site = self.origins.len() + 1;
+        self.origins.reserve(1)?;
+        self.set_link(parent, step, site)?;
+        self.origins.push_reserved(Origin { parent, step });
+        Ok(site)
+    }
+
+    // Writes which site is one step down from another.
+    fn set_link(&mut self, parent: usize, step: Step, site: usize) -> Result<(), AllocError>
+        ensures origins { OnOk result (self.new.origins ≡ self.old.origins) }
+        ensures set { OnOk result (link self.new parent step ≡ site) }
+        ensures kept { OnOk result ((i : ℕ) (other : Step) → IsOther parent step i other → link self.new i other ≡ link self.old i other) }
+    {
+        match step {
+            Step::Child(k) => self.children.put(parent, k, site)?,
+            Step::Local(x) => self.locals.put(parent, x, site)?,
+            Step::Forward => self.forwards.put(parent, 0, site)?,
+        }
+        Ok(())
+    }
+}
+
+impl Drop for Sites {
+    fn drop(self) {
+        let Sites {
+            origins,
+            children: _,
+            locals: _,
+            forwards: _,
+        } = self;
+        drop(origins);
+    }
+}

@@ -1,5 +1,0 @@
-use Rattle.wb_evaluation.proofs.ReadBackLemmas.{is_read_back}
-use Rattle.wb_evaluation.proofs.laws.read_back_law.Goals as goal
-
-pub returns : goal.returns
-returns c = is_read_back

@@ -1,5 +1,0 @@
-use Rattle.wb_extensions.specs.Inner.Conflicts.{AreApartBefore}
-use Rattle.wb_extensions.proofs.conflict.earlier_conflict.Given as goal
-
-abbrev pub invariant-places : goal.invariant-places
-invariant-places l = AreApartBefore l.grammar l.row l.other l.looks

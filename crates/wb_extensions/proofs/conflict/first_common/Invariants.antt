@@ -1,6 +1,0 @@
-use Rattle.std.proofs.Common.{◌<◌, ℕ}
-use Rattle.wb_termset.specs.Sets.{IsMember}
-use Rattle.wb_extensions.proofs.conflict.first_common.Given as goal
-
-abbrev pub invariant-numbers : goal.invariant-numbers
-invariant-numbers l = (t : ℕ) → t < l.number → ¬ (IsMember l.one t × IsMember l.other t)

@@ -1,6 +1,0 @@
-use Rattle.std.proofs.Common.{◌<◌, ℕ}
-use Rattle.wb_extensions.specs.Inner.Conflicts.{HasNoConflictAt}
-use Rattle.wb_extensions.proofs.conflict.row_conflict.Given as goal
-
-abbrev pub invariant-items : goal.invariant-items
-invariant-items l = (p : ℕ) → p < l.place → HasNoConflictAt l.grammar l.shifts l.row p

@@ -1,5 +1,0 @@
-use Rattle.wb_extensions.specs.Inner.Considered.{AreConsidered}
-use Rattle.wb_extensions.proofs.envelope_test.envelope_sets.Given as goal
-
-abbrev pub invariant-kernels : goal.invariant-kernels
-invariant-kernels l = AreConsidered l.context l.layout l.regions l.state l.sets.items

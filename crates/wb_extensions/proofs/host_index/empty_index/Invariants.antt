@@ -1,5 +1,0 @@
-use Rattle.std.proofs.Common.{◌≡◌, [], replicate}
-use Rattle.wb_extensions.proofs.host_index.empty_index.Given as goal
-
-abbrev pub invariant-rows : goal.invariant-rows
-invariant-rows l = l.index.items ≡ replicate l._row []

@@ -1,5 +1,0 @@
-use Rattle.wb_extensions.specs.Regions.{AreRegions}
-use Rattle.wb_extensions.proofs.regions.regions_of.Given as goal
-
-abbrev pub invariant-kernels : goal.invariant-kernels
-invariant-kernels l = AreRegions l.host l.both l.numbers l.state l.regions.items

@@ -1,5 +1,0 @@
-use Rattle.std.proofs.Common.{◌<◌, length}
-use Rattle.wb_format_tests.proofs.terms.shared.Given as goal
-
-abbrev pub invariant-loop-step : goal.invariant-loop-step
-invariant-loop-step l = l.last.0 < length l.store

@@ -1,5 +1,0 @@
-use Rattle.wb_hosts.proofs.header.spec_of.Goals as goal
-
-pub returns-in-Err : goal.returns-in-Err
-returns-in-Err c =
-    record { ok = tt; refused = λ host. c.bad_text.ensures host c.args.contents.now c.in-Err.ensures.refused }

@@ -1,5 +1,0 @@
-use Rattle.wb_hosts.proofs.OneExtensionAnswer.{one_answer}
-use Rattle.wb_hosts.proofs.laws.one_extension_answer_law.Goals as goal
-
-pub returns : goal.returns
-returns c = one_answer c.one_answer_law.ensures c.names_law.ensures

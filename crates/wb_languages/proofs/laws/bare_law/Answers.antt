@@ -1,5 +1,0 @@
-use Rattle.wb_languages.proofs.BareLemmas.{bare_decided}
-use Rattle.wb_languages.proofs.laws.bare_law.Goals as goal
-
-pub returns : goal.returns
-returns c l written ok = bare_decided ok written

@@ -1,5 +1,0 @@
-use Rattle.wb_languages.proofs.WordLemmas.{one_tree_of_words}
-use Rattle.wb_languages.proofs.laws.unambiguous_law.Goals as goal
-
-pub returns : goal.returns
-returns c = one_tree_of_words

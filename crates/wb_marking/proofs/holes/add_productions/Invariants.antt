@@ -1,5 +1,0 @@
-use Rattle.std.proofs.Common.{◌≡◌, take}
-use Rattle.wb_marking.proofs.holes.add_productions.Given as goal
-
-abbrev pub invariant-productions : goal.invariant-productions
-invariant-productions l = l.made ≡ record l.initial.made { productions = take l.production l.grammar.productions }

@@ -1,0 +1,4 @@
+mod HoleLemmas
+pub mod LiftLemmas
+mod ShiftLemmas
+pub mod UpLemmas

@@ -1,9 +1,0 @@
-mod BeginLemmas
-mod PlaceLemmas
-mod ClashLemmas
-mod ListedLemmas
-mod MarkedLemmas
-mod RefusalLemmas
-mod ScopeLemmas
-pub mod CallerLemmas
-mod TextLemmas

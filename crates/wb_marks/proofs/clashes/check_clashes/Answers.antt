@@ -1,8 +1,0 @@
-use Rattle.std.proofs.Common.{IfOk, subst}
-use Rattle.wb_resolved.specs.declared.resolved.ResolvedParts.{ResolvedParts}
-use Rattle.wb_marks.specs.Clashes.{HasNoMarkerClash}
-use Rattle.wb_marks.proofs.clashes.check_clashes.Goals as goal
-
-pub returns-clause-ok : goal.returns-clause-ok
-returns-clause-ok c =
-    subst (λ (r : ResolvedParts). IfOk c.check_by.result (λ done. HasNoMarkerClash r)) c.parts-parts.ensures.parts c.check_by.ensures.ok

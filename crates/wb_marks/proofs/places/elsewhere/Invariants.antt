@@ -1,6 +1,0 @@
-use Rattle.std.proofs.Common.{◌<◌, ℕ}
-use Rattle.wb_marks.specs.Inner.Begun.{BeginsAll}
-use Rattle.wb_marks.proofs.places.elsewhere.Given as goal
-
-abbrev pub invariant-productions : goal.invariant-productions
-invariant-productions l = (n : ℕ) → n < l.number → BeginsAll l.scope.parts.now l.scope.grammar.now l.table n

@@ -1,6 +1,0 @@
-use Rattle.std.proofs.Common.{◌<◌, ℕ}
-use Rattle.wb_marks.specs.Inner.Begun.{IsUnused}
-use Rattle.wb_marks.proofs.places.unused.Given as goal
-
-abbrev pub invariant-terminals : goal.invariant-terminals
-invariant-terminals l = (marker : ℕ) → marker < l.number → ¬ IsUnused l.scope.parts.now l.table marker

@@ -1,8 +1,0 @@
-use Rattle.std.proofs.Common.{◌≡◌, ◌++◌, take, map}
-use Rattle.wb_resolved.specs.declared.terminal.Terminal.{Terminal}
-use Rattle.wb_naming.specs.declared.declaration.Declaration.TheVariants as d
-use Rattle.wb_naming.specs.Declares.{terminal_sort}
-use Rattle.wb_name_lists.proofs.base.add_terminals.Given as goal
-
-abbrev pub invariant-terminals : goal.invariant-terminals
-invariant-terminals l = l.out.items ≡ l.fn.out.items ++ map (λ (x : Terminal). d.Symbol x.name (terminal_sort x.kind)) (take l.terminal-index l.terminals)

@@ -1,6 +1,0 @@
-use Rattle.std.proofs.Common.{◌≡◌, ◌++◌, take}
-use Rattle.wb_naming.specs.WrongKind.{misplaced}
-use Rattle.wb_name_lists.proofs.place.add_misplaced.Given as goal
-
-abbrev pub invariant-items : goal.invariant-items
-invariant-items l = l.out.items ≡ l.fn.out.items ++ misplaced l.owner (take l.item-index l.items)

@@ -1,7 +1,0 @@
-use Rattle.std.proofs.Common.{◌≡◌, ◌++◌, take}
-use Rattle.std.specs.List.{flat_map}
-use Rattle.wb_naming.specs.Uses.{needs_uses}
-use Rattle.wb_name_lists.proofs.uses.add_needs.Given as goal
-
-abbrev pub invariant-needs : goal.invariant-needs
-invariant-needs l = l.out.items ≡ l.fn.out.items ++ flat_map (needs_uses l.nonterminal) (take l.attribute-index l.needs)

@@ -1,4 +1,0 @@
-use Rattle.wb_name_rules.proofs.kinds.check_kinds.Goals as goal
-
-pub returns-clause-refused : goal.returns-clause-refused
-returns-clause-refused c = c.check_usages.ensures.refused c.args.unplaced.now

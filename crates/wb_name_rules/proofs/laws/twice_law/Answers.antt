@@ -1,5 +1,0 @@
-use Rattle.wb_name_rules.proofs.TwiceLemmas.{each_shown}
-use Rattle.wb_name_rules.proofs.laws.twice_law.Goals as goal
-
-pub returns : goal.returns
-returns c = each_shown

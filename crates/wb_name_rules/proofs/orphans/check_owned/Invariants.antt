@@ -1,6 +1,0 @@
-use Rattle.std.proofs.Common.{All, take}
-use Rattle.wb_name_rules.specs.Inner.Owners.{MayDeclare}
-use Rattle.wb_name_rules.proofs.orphans.check_owned.Given as goal
-
-abbrev pub invariant-own : goal.invariant-own
-invariant-own l = All (MayDeclare l.index l.from) (take l.declaration-index l.own)

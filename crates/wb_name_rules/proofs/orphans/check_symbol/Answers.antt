@@ -1,7 +1,0 @@
-use Rattle.std.proofs.Common.{◌≡◌}
-use Rattle.wb_naming.specs.declared.declaration.Sort.TheVariants.{Layout}
-use Rattle.wb_name_rules.proofs.OwnerLemmas.{orphan_if}
-use Rattle.wb_name_rules.proofs.orphans.check_symbol.Goals as goal
-
-pub returns-in-Layout-clause-refused : goal.returns-in-Layout-clause-refused
-returns-in-Layout-clause-refused c = orphan_if (c.args.is ≡ Layout) c.args.name.now c.orphan.result c.in-Layout.is c.orphan.ensures

@@ -1,6 +1,0 @@
-use Rattle.std.proofs.Common.{All, take}
-use Rattle.wb_name_rules.specs.Inner.Tests.{IsKnown}
-use Rattle.wb_name_rules.proofs.unknown.check_declared.Given as goal
-
-abbrev pub invariant-usages : goal.invariant-usages
-invariant-usages l = All (IsKnown l.index) (take l.usage-index l.used)

@@ -1,0 +1,10 @@
+use Rattle.std.proofs.Common.{take}
+use Rattle.wb_syntax.specs.declared.expression.Equation.{Equation}
+use Rattle.wb_names_numbers_theory.specs.Written.{makes_forward}
+use Rattle.wb_names_rows.specs.Nodes.{IsFoundForward, AddsAll}
+use Rattle.wb_names_rows.proofs.local.add_forwards.Given as goal
+
+abbrev pub invariant-loop-equation : goal.invariant-loop-equation
+invariant-loop-equation l =
+    AddsAll (λ (q : Equation). makes_forward q.target) (IsFoundForward l.scope l.labels) (take l.equation-index l.equations) l.fn.made.items
+    l.made.items

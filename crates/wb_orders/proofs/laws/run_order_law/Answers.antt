@@ -1,5 +1,0 @@
-use Rattle.wb_orders.proofs.RunLemmas.{one_run_order}
-use Rattle.wb_orders.proofs.laws.run_order_law.Goals as goal
-
-pub returns : goal.returns
-returns c = one_run_order

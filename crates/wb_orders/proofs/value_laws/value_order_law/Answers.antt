@@ -1,5 +1,0 @@
-use Rattle.wb_orders.proofs.OrderLemmas.{roots_there, values_there}
-use Rattle.wb_orders.proofs.value_laws.value_order_law.Goals as goal
-
-pub returns : goal.returns
-returns c = record { values = values_there; roots = roots_there }

@@ -1,0 +1,18 @@
+use Rattle.std.proofs.Common.{rules, [], arith}
+use Rattle.wb_program_words.specs.Words.{Check, texts}
+use Rattle.wb_program_words.specs.Inner.Sayings.{GivesOnly}
+use Rattle.wb_program_words.proofs.SayingLemmas.{never_with_options, no_options}
+use Rattle.wb_program_words.proofs.SaidLemmas.{said_check, one_text}
+use Rattle.wb_program_words.proofs.words.check_of.Goals as goal
+
+pub returns-then-not-gives_only-clause-none : goal.returns-then-not-gives_only-clause-none
+returns-then-not-gives_only-clause-none c =
+    let given_some : ¬ GivesOnly c.args.slots.now [] = search rules in
+    never_with_options Check c.args.slots.now (texts c.args.positional.now) tt c.told-slots given_some
+
+pub returns-clause-some : goal.returns-clause-some
+returns-clause-some c =
+    let only : GivesOnly c.args.slots.now [] = search rules in
+    λ options are. said_check options (texts c.args.positional.now) (no_options options c.args.slots.now are c.told-slots only)
+    c.as_str-host.result.now
+    (one_text c.args.positional.now c.host-item.result c.as_str-host.result.now (omega arith) c.host-item.is c.as_str-host.ensures.value)

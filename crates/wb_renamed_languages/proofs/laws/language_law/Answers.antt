@@ -1,5 +1,0 @@
-use Rattle.wb_renamed_languages.proofs.FactLemmas.{language_there}
-use Rattle.wb_renamed_languages.proofs.laws.language_law.Goals as goal
-
-pub returns : goal.returns
-returns c r s l m same numbered ok = language_there same numbered ok

@@ -1,5 +1,0 @@
-use Rattle.wb_renamed_languages.proofs.PrintedLemmas.{printed_alike}
-use Rattle.wb_renamed_languages.proofs.laws.printed_law.Goals as goal
-
-pub returns : goal.returns
-returns c r g signatures others named f is value other one two = printed_alike r g signatures others named f is value other one two

@@ -1,5 +1,0 @@
-use Rattle.wb_renamed_languages.proofs.OrderLemmas.{same_members}
-use Rattle.wb_renamed_languages.proofs.laws.reordering_law.Goals as goal
-
-pub returns : goal.returns
-returns c written others one two same = same_members written others one two same

@@ -1,6 +1,0 @@
-use Rattle.std.proofs.Common.{take}
-use Rattle.wb_renumbered.specs.Inner.Filled.{Leading}
-use Rattle.wb_renumbered.proofs.lists.add_leading.Given as goal
-
-abbrev pub invariant-placed : goal.invariant-placed
-invariant-placed l = Leading l.host (take l.extension-index l.host.placed.now) l.made

@@ -1,6 +1,0 @@
-use Rattle.std.proofs.Common.{◌≡◌, ◌++◌, take}
-use Rattle.wb_renumbered.specs.Inner.Gathered.{attributes_by}
-use Rattle.wb_renumbered.proofs.rows.add_attributes.Given as goal
-
-abbrev pub invariant-rows : goal.invariant-rows
-invariant-rows l = l.made.items ≡ l.initial.made.items ++ attributes_by l.numbers (take l.row-index l.rows)

@@ -1,9 +1,0 @@
-use Rattle.std.proofs.Common.{◌≡◌, ◌++◌, take}
-use Rattle.std.specs.List.{flat_map}
-use Rattle.wb_syntax.specs.declared.item.Item.{Item}
-use Rattle.wb_syntax.specs.declared.pattern.Pattern.{Pattern}
-use Rattle.wb_rows.specs.Inner.GrammarNames.{form_concretes}
-use Rattle.wb_rows.proofs.grammar_names.add_concretes.Given as goal
-
-abbrev pub invariant-items : goal.invariant-items
-invariant-items l = l.names ≡ l.fn.names ++ flat_map (λ (item : Item Pattern). form_concretes item.form) (take l.item-index l.items)

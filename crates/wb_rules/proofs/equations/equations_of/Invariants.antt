@@ -1,9 +1,0 @@
-use Rattle.std.proofs.Common.{◌≡◌}
-use Rattle.wb_rules.specs.Indexes.{IsIndexOf}
-use Rattle.wb_rules.proofs.equations.equations_of.Given as goal
-
-abbrev pub invariant-equations : goal.invariant-equations
-invariant-equations l = record {
-  counted : l.number ≡ l.equation-index;
-  index : IsIndexOf l.production.equations l.equation-index l.made;
-}

@@ -1,9 +1,0 @@
-use Rattle.std.proofs.Common.{◌≡◌, ◌++◌, take}
-use Rattle.std.specs.List.{flat_map}
-use Rattle.wb_syntax.specs.declared.item.Item.{Item}
-use Rattle.wb_syntax.specs.declared.pattern.Pattern.{Pattern}
-use Rattle.wb_symbols.specs.Inner.Names.{form_attributes}
-use Rattle.wb_symbols.proofs.names.add_declared_attributes.Given as goal
-
-abbrev pub invariant-items : goal.invariant-items
-invariant-items l = l.names ≡ l.fn.names ++ flat_map (λ (item : Item Pattern). form_attributes item.form) (take l.item-index l.items)

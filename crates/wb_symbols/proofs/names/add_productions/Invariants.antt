@@ -1,8 +1,0 @@
-use Rattle.std.proofs.Common.{◌≡◌, ◌++◌, take}
-use Rattle.std.specs.List.{flat_map}
-use Rattle.wb_resolved.specs.declared.production.Production.{Production}
-use Rattle.wb_symbols.specs.Inner.Names.{row_names}
-use Rattle.wb_symbols.proofs.names.add_productions.Given as goal
-
-abbrev pub invariant-rows : goal.invariant-rows
-invariant-rows l = l.names ≡ l.fn.names ++ flat_map (λ (p : Production). row_names l.concrete p) (take l.row-index l.rows)

@@ -1,5 +1,0 @@
-use Rattle.wb_tokens.proofs.PrintLemmas.{integer_printed}
-use Rattle.wb_tokens.proofs.print.print_int.Goals as goal
-
-pub returns-clause-token : goal.returns-clause-token
-returns-clause-token c = (integer_printed c.args.value c.ranges.value, c.ranges.value)

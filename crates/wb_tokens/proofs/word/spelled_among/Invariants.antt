@@ -1,7 +1,0 @@
-use Rattle.std.proofs.Common.{◌≡◌, ℕ, ◌<◌, get_or}
-use Rattle.wb_tokens.specs.Words.{word_text}
-use Rattle.wb_tokens.specs.declared.word.Word.{Word}
-use Rattle.wb_tokens.proofs.word.spelled_among.Given as goal
-
-abbrev pub invariant-loop-word : goal.invariant-loop-word
-invariant-loop-word l = (k : ℕ) (d : Word) → k < l.word-index → l.text ≡ word_text (get_or l.words k d) → ⊥

@@ -1,5 +1,0 @@
-use Rattle.wb_unions.proofs.LookaheadLemmas.{host_lookaheads, home_of}
-use Rattle.wb_unions.proofs.laws.cases_law.Goals as goal
-
-pub returns : goal.returns
-returns c = record { of_host = host_lookaheads; of_extension = λ w n ok. home_of ok }

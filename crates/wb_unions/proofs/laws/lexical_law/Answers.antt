@@ -1,5 +1,0 @@
-use Rattle.wb_unions.proofs.TerminalLemmas.{valid_together}
-use Rattle.wb_unions.proofs.laws.lexical_law.Goals as goal
-
-pub returns : goal.returns
-returns c = λ w n ok apart. valid_together ok apart

@@ -1,6 +1,0 @@
-use Rattle.wb_unions.proofs.ConflictLemmas.{no_conflict}
-use Rattle.wb_unions.proofs.CycleLemmas.{fit}
-use Rattle.wb_unions.proofs.laws.tables_law.Goals as goal
-
-pub returns : goal.returns
-returns c = λ w n ok apart. record { fit = fit w n ok apart; no_conflict = no_conflict w n ok apart }

@@ -1,5 +1,0 @@
-use Rattle.wb_unions.proofs.ComposedLemmas.{composed_host_terminals, composed_together}
-use Rattle.wb_unions.proofs.laws.terminals_law.Goals as goal
-
-pub returns : goal.returns
-returns c = record { host = composed_host_terminals; together = composed_together }

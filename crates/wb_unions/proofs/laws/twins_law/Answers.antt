@@ -1,9 +1,0 @@
-use Rattle.wb_unions.proofs.TerminalLemmas.{twins}
-use Rattle.wb_unions.proofs.TwinLemmas.{valid_twin}
-use Rattle.wb_unions.proofs.laws.twins_law.Goals as goal
-
-pub returns : goal.returns
-returns c = record {
-  items = λ w part ok live prefix i t u valid has same. twins ok live valid u has same;
-  terminals = λ w part ok live prefix t u valid has same. valid_twin ok live prefix t u valid has same;
-}

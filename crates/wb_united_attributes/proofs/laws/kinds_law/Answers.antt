@@ -1,5 +1,0 @@
-use Rattle.wb_united_attributes.proofs.UnitedKindLemmas.{united_kinds}
-use Rattle.wb_united_attributes.proofs.laws.kinds_law.Goals as goal
-
-pub returns : goal.returns
-returns c = united_kinds

@@ -1,5 +1,0 @@
-use Rattle.wb_united_attributes.proofs.ExtensionLemmas.{stays_extension, stays_part}
-use Rattle.wb_united_attributes.proofs.laws.numbers_law.Goals as goal
-
-pub returns : goal.returns
-returns c = record { part = stays_part; extension = stays_extension }

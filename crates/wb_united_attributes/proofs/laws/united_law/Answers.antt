@@ -1,5 +1,0 @@
-use Rattle.wb_united_attributes.proofs.UnitedLemmas.{united_attributes}
-use Rattle.wb_united_attributes.proofs.laws.united_law.Goals as goal
-
-pub returns : goal.returns
-returns c = united_attributes

@@ -1,6 +1,0 @@
-use Rattle.wb_united_texts.specs.Inner.Added.{AreAdded}
-use Rattle.wb_united_texts.proofs.AddedLemmas.{blocks_to}
-use Rattle.wb_united_texts.proofs.expressions.add_extensions.Given as goal
-
-abbrev pub invariant-extensions : goal.invariant-extensions
-invariant-extensions l = AreAdded (blocks_to l.host l.extensions l.extension-index) l.initial.expressions.items l.expressions.items

@@ -1,9 +1,0 @@
-use Rattle.std.proofs.Common.{◌≡◌, ◌++◌, map, take}
-use Rattle.wb_renamed_languages.specs.Names.{all_of}
-use Rattle.wb_united_texts.specs.Names.{added_names}
-use Rattle.wb_united_texts.specs.Unions.{all_resolved}
-use Rattle.wb_united_texts.proofs.names.add_extensions.Given as goal
-
-abbrev pub invariant-extensions : goal.invariant-extensions
-invariant-extensions l =
-    l.names.items ≡ l.initial.names.items ++ all_of (map (added_names l.host) (all_resolved (take l.extension-index l.extensions)))

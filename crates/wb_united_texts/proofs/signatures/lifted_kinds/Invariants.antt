@@ -1,7 +1,0 @@
-use Rattle.std.proofs.Common.{◌≡◌, map, take}
-use Rattle.wb_unions.specs.Blocks.{lift}
-use Rattle.wb_united_texts.specs.Signatures.{kind_by}
-use Rattle.wb_united_texts.proofs.signatures.lifted_kinds.Given as goal
-
-abbrev pub invariant-kinds : goal.invariant-kinds
-invariant-kinds l = l.made.items ≡ map (kind_by (lift l.own l.before)) (take l.kind-index l.kinds)

@@ -1,5 +1,0 @@
-use Rattle.wb_united_texts.proofs.AnswerLemmas.{only_answer}
-use Rattle.wb_united_texts.proofs.tree_laws.one_answer_law.Goals as goal
-
-pub returns : goal.returns
-returns c = only_answer

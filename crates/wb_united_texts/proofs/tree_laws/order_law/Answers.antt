@@ -1,5 +1,0 @@
-use Rattle.wb_united_texts.proofs.AnswerLemmas.{same_answer}
-use Rattle.wb_united_texts.proofs.tree_laws.order_law.Goals as goal
-
-pub returns : goal.returns
-returns c = same_answer

@@ -1,5 +1,0 @@
-use Rattle.wb_united_texts.proofs.AgreesLemmas.{agrees}
-use Rattle.wb_united_texts.proofs.tree_laws.signatures_law.Goals as goal
-
-pub returns : goal.returns
-returns c = agrees

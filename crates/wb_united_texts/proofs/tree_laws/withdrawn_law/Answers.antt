@@ -1,5 +1,0 @@
-use Rattle.wb_united_texts.proofs.WithdrawnLemmas.{one_withdrawn}
-use Rattle.wb_united_texts.proofs.tree_laws.withdrawn_law.Goals as goal
-
-pub returns : goal.returns
-returns c = one_withdrawn

@@ -1,6 +1,0 @@
-use Rattle.std.proofs.Common.{◌≡◌, map, take}
-use Rattle.wb_united_texts.specs.Names.{name_at}
-use Rattle.wb_united_texts.proofs.withdrawn.names_of.Given as goal
-
-abbrev pub invariant-numbers : goal.invariant-numbers
-invariant-numbers l = l.made.items ≡ map (name_at l.names) (take l.number-index l.numbers)

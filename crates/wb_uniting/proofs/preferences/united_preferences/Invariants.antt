@@ -1,5 +1,0 @@
-use Rattle.wb_uniting.specs.Inner.Rows.{AreGathered}
-use Rattle.wb_uniting.proofs.preferences.united_preferences.Given as goal
-
-abbrev pub invariant-extensions : goal.invariant-extensions
-invariant-extensions l = AreGathered l.lent l.number l.before l.pairs.items

@@ -1,5 +1,0 @@
-use Rattle.wb_uniting.specs.Inner.FormsMade.{AreMadeBelow}
-use Rattle.wb_uniting.proofs.union_forms.add_host.Given as goal
-
-abbrev pub invariant-terminals : goal.invariant-terminals
-invariant-terminals l = AreMadeBelow l.lent l.terminal l.made

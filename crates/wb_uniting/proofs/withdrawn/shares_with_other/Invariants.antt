@@ -1,6 +1,0 @@
-use Rattle.wb_uniting.specs.Inner.Sharing.{SharesAmong}
-use Rattle.wb_uniting.proofs.withdrawn.shares_with_other.Given as goal
-
-abbrev pub invariant-extensions : goal.invariant-extensions
-invariant-extensions l =
-    ¬ SharesAmong l.opened.lent.grammar.now.terminals l.other l.opened.lent.extensions.now l.number l.marker.pattern.now

@@ -1,5 +1,0 @@
-use Rattle.wb_words.proofs.OneAsked.{one_asked}
-use Rattle.wb_words.proofs.laws.one_asked_law.Goals as goal
-
-pub returns : goal.returns
-returns c = one_asked

@@ -1,5 +1,0 @@
-use Rattle.wb_worlds.proofs.AttributionLemmas.{is_union, are_union}
-use Rattle.wb_worlds.proofs.laws.attribution_law.Goals as goal
-
-pub returns : goal.returns
-returns c = record { production = is_union; whole = are_union }

@@ -1,5 +1,0 @@
-use Rattle.wb_worlds.proofs.NamedLemmas.{is_named}
-use Rattle.wb_worlds.proofs.laws.names_law.Goals as goal
-
-pub returns : goal.returns
-returns c = is_named

@@ -1,5 +1,0 @@
-use Rattle.wb_worlds.proofs.PartLemmas.{host_tested, extension_tested}
-use Rattle.wb_worlds.proofs.laws.tested_law.Goals as goal
-
-pub returns : goal.returns
-returns c = record { host = host_tested; extension = extension_tested }
