@@ -4,7 +4,7 @@
 //! extension is in `certify`.
 
 use crate::runs::{Row, each_ends_so};
-use wb_inputs::Status;
+use wb_program_inputs::Status;
 
 // Whether an amount keeps to a limit, with places for relations, factors and units.
 const LIMITS: &str = r#"format 1; host limits;
@@ -83,7 +83,9 @@ static ROWS: [Row; 5] = [
         "workbench tree --text v h t u",
         &[LIMITS, LENGTHS, RANGES, "2 km + 300 m between (2000, 2500)"],
         Status::Done,
-        "limit(add(factor(number(\"2\", lengths:kilometres(\"km\"))), \"+\", number(\"300\", lengths:metres(\"m\"))), ranges:between(\"between\", \"(\", factor(number(\"2000\", no_unit())), \",\", factor(number(\"2500\", no_unit())), \")\"))\n",
+        "limit(add(factor(number(\"2\", lengths:kilometres(\"km\"))), \"+\", number(\"300\", lengths:metres(\"m\"))), \
+            ranges:between(\"between\", \"(\", factor(number(\"2000\", no_unit())), \",\", factor(number(\"2500\", no_unit())), \
+            \")\"))\n",
     ),
     (
         "workbench run --text v --attr holds h u t",
