@@ -13,7 +13,7 @@ pub fn one_answer_law()
     ensures { (host r : ResolvedParts) (operations : List OperationSignature) → HasOneAnswer host r operations }
 {
     extension_refusals_law();
-    wb_complete::one_answer_law();
+    wb_complete::one_forward_answer_law();
 }
 
 /// That an extension's names are right excludes each refusal of names but out of memory.

@@ -34,7 +34,7 @@ use Rattle.wb_syntax.specs.declared.header.Header.TheVariants as h
 use Rattle.wb_certify_files.specs.ExtensionContents.{StandsFor, IsExtensionText, IsBadText, HasBadNames, IsOfKinds, IsRefusedValue}
 use Rattle.wb_certify_files.specs.ExtensionContents.{NamesOtherHost}
 use Rattle.wb_certify_files.specs.ExtensionContents.{IsExtensionRefusal}
-use Rattle.wb_certify_files.specs.OneExtensionAnswer.{HaveOneAnswer, HaveOneHeader, IsFileMemory}
+use Rattle.wb_certify_files.specs.OneExtensionAnswer.{HaveOneExtensionAnswer, HaveOneHeader, IsFileMemory}
 use Rattle.wb_certify_files.specs.Specifications.{IsHeaderRefusal, IsSpecFor}
 use Rattle.wb_certify_files.proofs.ExtensionLemmas.{header_refused}
 use Rattle.wb_certify_files.specs.declared.extension_refusal.FileRefusal.{FileRefusal}
@@ -244,7 +244,7 @@ module _ (beside : ExcludesBeside) (names : ExcludesNames) (host : ResolvedParts
         kinds_or_others first.value operations first.refusal second.refusal other first.reason first.meets reason second.meets shows
 
     -- contents have one answer
-    pub one_answer : HaveOneAnswer host operations contents
+    pub one_answer : HaveOneExtensionAnswer host operations contents
     one_answer = record {
       one = λ r s first second. one_value host contents r s first.stands second.stands;
       certified = certified_excludes;

@@ -44,7 +44,7 @@ use Rattle.wb_types.specs.declared.refusal.TypeRefusal.TheVariants as k
 use Rattle.wb_certify_host.specs.Refusals.{IsTypeMemory, IsAttributeMemory}
 use Rattle.wb_certify_host.specs.WellDefined.{HasWellDefinedAttributes, IsWellDefinedRefusal}
 use Rattle.wb_certify_files.specs.HostContents.{StandsFor, IsHostText, IsBadText, HasBadNames, IsOfKinds, IsRefusedValue}
-use Rattle.wb_certify_files.specs.OneHostAnswer.{HaveOneAnswer, HaveOneWellDefined}
+use Rattle.wb_certify_files.specs.OneHostAnswer.{HaveOneHostAnswer, HaveOneWellDefined}
 use Rattle.wb_certify_files.specs.WellDefined.{IsWellDefinedText, IsIllDefined}
 
 -- nothing is no something, and a host no extension
@@ -210,7 +210,7 @@ module _ (operations : List OperationSignature) (contents : List ℕ) where
       refused.refusal refused.reason refused.shows
 
   -- contents have one answer
-  pub one_answer : HaveOneAnswer operations contents
+  pub one_answer : HaveOneHostAnswer operations contents
   one_answer = record {
     one = λ r s first second. one_value contents r s first.stands second.stands;
     no_specification = λ r shown is refused. elim refused [

@@ -28,7 +28,7 @@ module _ (host : ResolvedParts) (operations : List OperationSignature) (contents
 
   -- contents are a certified extension of one value at most; where they are one they aren't refused, except when memory runs out; and
   -- refusals are of one sort
-  pub record HaveOneAnswer : Type 0 where
+  pub record HaveOneExtensionAnswer : Type 0 where
     pub one : (r s : ResolvedParts) → IsExtensionText host operations contents r → IsExtensionText host operations contents s → r ≡ s
     pub certified : (r : ResolvedParts) → IsExtensionText host operations contents r → (refusal : FileRefusal)
         → IsExtensionRefusal host operations contents refusal → IsFileMemory refusal

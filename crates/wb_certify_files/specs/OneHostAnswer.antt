@@ -8,7 +8,7 @@ use Rattle.wb_certify_files.specs.WellDefined.{IsWellDefinedText, IsWellDefinedT
 use Rattle.wb_certify_files.specs.declared.host_refusal.HostRefusal.TheVariants as h
 
 -- contents are a certified host of one value at most; they are none where they are refused; and a refusal is of one sort
-pub record HaveOneAnswer (operations : List OperationSignature) (contents : List ℕ) : Type 0 where
+pub record HaveOneHostAnswer (operations : List OperationSignature) (contents : List ℕ) : Type 0 where
   pub one : (r s : ResolvedParts) → IsHostText operations contents r → IsHostText operations contents s → r ≡ s
   pub no_specification : (r : ResolvedParts) (shown : Refusal) → IsHostText operations contents r
       → ¬ IsHostRefusal operations contents (h.Specification shown)

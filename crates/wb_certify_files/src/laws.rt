@@ -1,14 +1,14 @@
 //! What do the definitions say of themselves?
 
 ghost use Rattle.std.specs.Prelude.{List, ℕ};
-ghost use Rattle.wb_certify_files.specs.OneExtensionAnswer.{HaveOneAnswer, HaveOneHeader};
-ghost use Rattle.wb_certify_files.specs.OneHostAnswer.{HaveOneAnswer, HaveOneWellDefined};
+ghost use Rattle.wb_certify_files.specs.OneExtensionAnswer.{HaveOneExtensionAnswer, HaveOneHeader};
+ghost use Rattle.wb_certify_files.specs.OneHostAnswer.{HaveOneHostAnswer, HaveOneWellDefined};
 ghost use Rattle.wb_operations.specs.Operations.{OperationSignature};
 ghost use Rattle.wb_syntax_resolved.specs.declared.resolved.ResolvedParts.{ResolvedParts};
 
 /// Contents are at most one certified host. Where they are one, no refusal but out of memory is true of them; and refusals are of one sort.
 pub fn one_host_answer_law()
-    ensures { (operations : List OperationSignature) (contents : List ℕ) → HaveOneAnswer operations contents }
+    ensures { (operations : List OperationSignature) (contents : List ℕ) → HaveOneHostAnswer operations contents }
 {}
 
 /// Contents are at most one host with well-defined attributes. Where they are one, no refusal but out of memory is true of them; and
@@ -19,9 +19,9 @@ pub fn one_well_defined_law()
 
 /// Contents are one certified extension of a host at most, a refusal of none is true of one, and refusals are of one sort.
 pub fn one_extension_answer_law()
-    ensures { (host : ResolvedParts) (operations : List OperationSignature) (contents : List ℕ) → HaveOneAnswer host operations contents }
+    ensures { (host : ResolvedParts) (operations : List OperationSignature) (contents : List ℕ) → HaveOneExtensionAnswer host operations contents }
 {
-    wb_certify::one_extension_answer_law();
+    wb_certify::one_answer_law();
     wb_certify::names_law();
 }
 

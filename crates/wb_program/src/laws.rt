@@ -12,7 +12,7 @@ use wb_compose_texts::value_laws::{one_root_law, one_value_law};
 pub fn one_status_law()
     ensures { HaveOneStatus }
 {
-    wb_certify_files::one_answer_law();
+    wb_certify_files::one_extension_answer_law();
     wb_certify_files::header_law();
     withdrawn_law();
     one_answer_law();
@@ -25,7 +25,7 @@ pub fn one_status_law()
 pub fn one_text_law()
     ensures { HaveOneText }
 {
-    wb_certify_files::one_answer_law();
+    wb_certify_files::one_extension_answer_law();
     wb_certify_files::header_law();
     withdrawn_law();
     one_answer_law();
@@ -39,7 +39,7 @@ pub fn one_text_law()
 pub fn complete_law()
     ensures { EndAsReported }
 {
-    wb_certify_files::one_answer_law();
+    wb_certify_files::one_extension_answer_law();
     wb_certify_files::header_law();
     withdrawn_law();
     one_answer_law();
