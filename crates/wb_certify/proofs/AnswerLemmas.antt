@@ -19,6 +19,7 @@ use Rattle.wb_flow.specs.declared.refusal.AttributeRefusal.{AttributeRefusal}
 use Rattle.wb_flow.specs.declared.refusal.AttributeRefusal.TheVariants as a
 use Rattle.wb_flow.proofs.CheckLemmas.{flows_one_answer}
 use Rattle.wb_complete.specs.ForwardRefusals.{HasForwardRead, IsTrueForwardRefusal}
+use Rattle.wb_marking.proofs.RefusalLemmas.{bridges_excluded, clash_excluded}
 use Rattle.wb_marking_holes.specs.Holes.{with_holes_of}
 use Rattle.wb_operations.specs.Operations.{OperationSignature}
 use Rattle.wb_syntax_resolved.specs.declared.attribution.AttributionParts.{AttributionParts}
@@ -59,12 +60,11 @@ types_excluded x operations ok (t.NoMemory error) is = tt
 -- markers and determinism
 reasons_excluded : RulesOut → (r : ResolvedParts) (g host : GrammarView) → AreMarkersKept r g → IsDeterministicExtension r g host
     → (refusal : DeterminismRefusal) → IsReason r g host refusal → IsNoMemory refusal
-reasons_excluded out r g host kept is (d.NotBridge number) reason = absurd (reason.lacks (kept.bridges.begin number reason.on_host))
-reasons_excluded out r g host kept is (d.MarkerElsewhere marker) reason = absurd (reason.lacks (kept.bridges.once marker reason.is_marker))
-reasons_excluded out r g host kept is (d.NotExtensible number) reason =
-    absurd (reason.closed.closed (kept.bridges.extensible number reason.closed.marked))
+reasons_excluded out r g host kept is (d.Markers refusal) reason = elim reason [
+  | inl bridge ↦ bridges_excluded r g refusal kept.bridges bridge
+  | inr clash ↦ clash_excluded r refusal kept.clashes clash.2
+]
 reasons_excluded out r g host kept is (d.PreferenceCycle cycle) reason = absurd (is.both.fit.sound.acyclic cycle reason.1.cycle_is)
-reasons_excluded out r g host kept is (d.MarkerClash marker other text) reason = absurd (kept.clashes marker other text reason.2.clash)
 reasons_excluded out r g host kept is (d.NotReduced x) reason = out r g host (d.NotReduced x) reason.1 is
 reasons_excluded out r g host kept is (d.UnitCycle list) reason = out r g host (d.UnitCycle list) reason.1 is
 reasons_excluded out r g host kept is (d.HiddenLeftRecursion list) reason = out r g host (d.HiddenLeftRecursion list) reason.1 is

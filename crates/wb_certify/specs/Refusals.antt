@@ -17,7 +17,8 @@ use Rattle.wb_complete.specs.ForwardRefusals.{IsTrueForwardRefusal}
 use Rattle.wb_graph.specs.Orders.{IsSimpleCycle}
 use Rattle.wb_marking_holes.specs.Holes.{with_holes_of}
 use Rattle.wb_marking.specs.Bridges.{AreBridges}
-use Rattle.wb_marking.specs.Refusals.{IsElsewhere, IsNoBridge, IsNotExtensible, IsShownClash}
+use Rattle.wb_marking.specs.Refusals.{IsBridgeRefusal, IsClashRefusal}
+use Rattle.wb_marking.specs.declared.refusal.MarkRefusal.{MarkRefusal}
 use Rattle.wb_names.specs.Resolving.{IsExtensionNameRefusal, ResolvesExtension}
 use Rattle.wb_operations.specs.Operations.{OperationSignature}
 use Rattle.wb_syntax_resolved.specs.declared.attribution.AttributionParts.{AttributionParts}
@@ -27,15 +28,17 @@ use Rattle.wb_types.specs.Refusals.{IsTrueRefusal}
 use Rattle.wb_types.specs.Rules.{KindsOk}
 use Rattle.wb_certify.specs.Extensions.{AreMarkersKept, IsDeterministicBeside}
 
+-- markers are refused for this reason: a rule on bridges fails; or these hold, preferences form no cycle, and a marker clashes. Out of memory
+-- says nothing
+abbrev pub AreMarkersRefused : ResolvedParts → GrammarView → MarkRefusal → Type 0
+AreMarkersRefused r g refusal = IsBridgeRefusal r g refusal ⊎ (AreBridges r g × AreAcyclic r × IsClashRefusal r refusal)
+
 -- what is shown is an example of the first of these that holds of a host with an extension, where g is its grammar and the other that of
 -- the host with holes: a rule on bridges fails; preferences form a cycle; a marker clashes; or markers keep their rules, and the extension
 -- isn't deterministic beside the host. Out of memory says nothing
 abbrev pub IsReason : ResolvedParts → (g host : GrammarView) → DeterminismRefusal → Type 0
-IsReason r g host (d.NotBridge production) = IsNoBridge r g production
-IsReason r g host (d.MarkerElsewhere marker) = IsElsewhere r g marker
-IsReason r g host (d.NotExtensible production) = IsNotExtensible r g production
+IsReason r g host (d.Markers refusal) = AreMarkersRefused r g refusal
 IsReason r g host (d.PreferenceCycle cycle) = AreBridges r g × IsSimpleCycle (preference_pairs r) cycle
-IsReason r g host (d.MarkerClash marker other text) = AreBridges r g × AreAcyclic r × IsShownClash r marker other text
 IsReason r g host (d.NoMemory error) = Unit {0}
 IsReason r g host refusal = AreMarkersKept r g × IsExtensionRefusal r g host refusal
 

@@ -4,13 +4,13 @@
 
 ghost use Rattle.std.specs.Prelude.{◌≡◌, IfErr, IfOk, IsSome};
 ghost use Rattle.wb_determinism_host.specs.Hosts.{AreAcyclic};
-ghost use Rattle.wb_certify.specs.Inner.Tests.{HaveBridges, IsMarkReason, KeepMarkers, reason_of};
+ghost use Rattle.wb_certify.specs.Inner.Tests.{HaveBridges, IsMarkReason, KeepMarkers};
 
 use std::alloc::Global;
 use wb_base::Sequence;
 use wb_determinism_host::{DeterminismRefusal, pairs_of};
 use wb_lexical::preference_cycle;
-use wb_marking::{MarkRefusal, check_bridges, check_clashes};
+use wb_marking::{check_bridges, check_clashes};
 use wb_syntax_resolved::Resolved;
 
 // Whether markers keep their rules, and preferences form no cycle.
@@ -32,7 +32,7 @@ fn test_bridges(alloc: Global, resolved: &Resolved) -> Result<(), DeterminismRef
 {
     match check_bridges(alloc, resolved) {
         Ok(()) => Ok(()),
-        Err(refusal) => Err(reason_of(refusal)),
+        Err(refusal) => Err(DeterminismRefusal::Markers(refusal)),
     }
 }
 
@@ -62,27 +62,6 @@ fn test_clashes(alloc: Global, resolved: &Resolved) -> Result<(), DeterminismRef
 {
     match check_clashes(alloc, resolved) {
         Ok(()) => Ok(()),
-        Err(refusal) => Err(reason_of(refusal)),
-    }
-}
-
-// The same reason, as one for which an extension isn't deterministic.
-fn reason_of(refusal: MarkRefusal) -> DeterminismRefusal
-    ensures { result ≡ reason_of refusal }
-{
-    match refusal {
-        MarkRefusal::NotBridge(production) => DeterminismRefusal::NotBridge(production),
-        MarkRefusal::MarkerElsewhere(marker) => DeterminismRefusal::MarkerElsewhere(marker),
-        MarkRefusal::NotExtensible(production) => DeterminismRefusal::NotExtensible(production),
-        MarkRefusal::MarkerClash {
-            marker,
-            other,
-            text,
-        } => DeterminismRefusal::MarkerClash {
-            marker,
-            other,
-            text,
-        },
-        MarkRefusal::NoMemory(error) => DeterminismRefusal::NoMemory(error),
+        Err(refusal) => Err(DeterminismRefusal::Markers(refusal)),
     }
 }

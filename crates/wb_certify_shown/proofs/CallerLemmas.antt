@@ -3,6 +3,9 @@ use Rattle.std.proofs.Common.{◌≡◌, None, Some}
 use Rattle.wb_determinism_host.specs.Refusals.{IsNoMemory}
 use Rattle.wb_determinism_host.specs.declared.refusal.DeterminismRefusal.{DeterminismRefusal}
 use Rattle.wb_determinism_host.specs.declared.refusal.DeterminismRefusal.TheVariants as d
+use Rattle.wb_marking.specs.Refusals as M
+use Rattle.wb_marking.specs.declared.refusal.MarkRefusal.{MarkRefusal}
+use Rattle.wb_marking.specs.declared.refusal.MarkRefusal.TheVariants as m
 use Rattle.wb_syntax_resolved.specs.declared.resolved.ResolvedParts.{ResolvedParts}
 use Rattle.wb_certify_shown.specs.Extensions.{determinism_shown}
 
@@ -10,13 +13,18 @@ use Rattle.wb_certify_shown.specs.Extensions.{determinism_shown}
 some_none : {X : Type 0} {x : X} → Some x ≡ None → ⊥
 some_none e = cc
 
+-- a reason for which markers are refused is shown, but out of memory
+marker_shown : (r : ResolvedParts) (refusal : MarkRefusal) → ¬ M.IsNoMemory refusal → determinism_shown r (d.Markers refusal) ≡ None → ⊥
+marker_shown r (m.NotBridge production) other is = some_none is
+marker_shown r (m.MarkerElsewhere marker) other is = some_none is
+marker_shown r (m.NotExtensible production) other is = some_none is
+marker_shown r (m.MarkerClash marker terminal text) other is = some_none is
+marker_shown r (m.NoMemory error) other is = other tt
+
 -- a reason that isn't out of memory is shown
 pub reason_shown : (r : ResolvedParts) (refusal : DeterminismRefusal) → ¬ IsNoMemory refusal → determinism_shown r refusal ≡ None → ⊥
-reason_shown r (d.NotBridge production) other is = some_none is
-reason_shown r (d.MarkerElsewhere marker) other is = some_none is
-reason_shown r (d.NotExtensible production) other is = some_none is
+reason_shown r (d.Markers refusal) other is = marker_shown r refusal other is
 reason_shown r (d.PreferenceCycle list) other is = some_none is
-reason_shown r (d.MarkerClash marker terminal text) other is = some_none is
 reason_shown r (d.NotReduced reason) other is = some_none is
 reason_shown r (d.UnitCycle list) other is = some_none is
 reason_shown r (d.HiddenLeftRecursion list) other is = some_none is

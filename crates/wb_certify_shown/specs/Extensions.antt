@@ -8,6 +8,8 @@ use Rattle.wb_determinism_host.specs.declared.refusal.DeterminismRefusal.TheVari
 use Rattle.wb_determinism_host.specs.declared.refusal.EnvelopeFault.{EnvelopeFault}
 use Rattle.wb_determinism_host.specs.declared.refusal.EnvelopeFault.TheVariants as f
 use Rattle.wb_grammar_theory.specs.declared.item.Item.{Item}
+use Rattle.wb_marking.specs.declared.refusal.MarkRefusal.{MarkRefusal}
+use Rattle.wb_marking.specs.declared.refusal.MarkRefusal.TheVariants as m
 use Rattle.wb_report.specs.declared.extension_reason.ExtensionReason.{ExtensionReason}
 use Rattle.wb_report.specs.declared.extension_reason.ExtensionReason.TheVariants as e
 use Rattle.wb_report.specs.declared.refusal.Refusal.{Refusal}
@@ -29,13 +31,18 @@ envelope_reason r prefix (f.Conflict terminal first second) =
     (record { terminal = lookahead_shown r terminal; first = action_shown r first; second = action_shown r second })
 envelope_reason r prefix (f.Clash left right text) = e.NewClash prefix (terminal_shown r left) (terminal_shown r right) text
 
+-- a rule on the markers of an extension, as it is shown; out of memory has none
+abbrev pub marker_reason : ResolvedParts → MarkRefusal → Option ExtensionReason
+marker_reason r (m.NotBridge production) = Some (e.NotBridge (production_shown r production))
+marker_reason r (m.MarkerElsewhere marker) = Some (e.MarkerElsewhere (terminal_shown r marker))
+marker_reason r (m.NotExtensible production) = Some (e.NotExtensible (production_shown r production))
+marker_reason r (m.MarkerClash marker other text) = Some (e.MarkerClash (terminal_shown r marker) (terminal_shown r other) text)
+marker_reason r (m.NoMemory _) = None
+
 -- a rule on what an extension adds to its host, as it is shown; the rules that hosts have too, and out of memory, have none
 abbrev pub extension_reason : ResolvedParts → DeterminismRefusal → Option ExtensionReason
-extension_reason r (d.NotBridge production) = Some (e.NotBridge (production_shown r production))
-extension_reason r (d.MarkerElsewhere marker) = Some (e.MarkerElsewhere (terminal_shown r marker))
-extension_reason r (d.NotExtensible production) = Some (e.NotExtensible (production_shown r production))
+extension_reason r (d.Markers refusal) = marker_reason r refusal
 extension_reason r (d.PreferenceCycle _) = None
-extension_reason r (d.MarkerClash marker other text) = Some (e.MarkerClash (terminal_shown r marker) (terminal_shown r other) text)
 extension_reason r (d.NotReduced _) = None
 extension_reason r (d.UnitCycle _) = None
 extension_reason r (d.HiddenLeftRecursion _) = None

@@ -83,10 +83,7 @@ grammar_reason r (d.Conflict prefix terminal first second) =
     (record { terminal = lookahead_shown r terminal; first = action_shown r first; second = action_shown r second }))
 grammar_reason r (d.Clash prefix left right text) =
     Some (shown_grammar.Clash (map (symbol_shown r) prefix) (terminal_shown r left) (terminal_shown r right) text)
-grammar_reason r (d.NotBridge _) = None
-grammar_reason r (d.MarkerElsewhere _) = None
-grammar_reason r (d.NotExtensible _) = None
-grammar_reason r (d.MarkerClash _ _ _) = None
+grammar_reason r (d.Markers _) = None
 grammar_reason r (d.Lookahead _ _ _) = None
 grammar_reason r (d.Envelope _ _) = None
 grammar_reason r (d.NoMemory _) = None

@@ -15,6 +15,7 @@ use std::alloc::{AllocError, Global};
 use wb_base::{Bytes, Sequence, Symbol};
 use wb_determinism_host::{DeterminismRefusal, EnvelopeFault};
 use wb_items::Item;
+use wb_marking::MarkRefusal;
 use wb_report::{ExtensionReason, Refusal, ShownConflict, ShownItem};
 use wb_syntax_resolved::Resolved;
 
@@ -27,20 +28,7 @@ pub(crate) fn extension_rule(
     ensures { IfOk result (λ shown. shown ≡ spec.of_extension (spec.extension_reason resolved.now refusal.now)) }
 {
     let reason = match refusal {
-        DeterminismRefusal::NotBridge(production) => {
-            ExtensionReason::NotBridge(production_name(alloc, resolved, *production)?)
-        }
-        DeterminismRefusal::MarkerElsewhere(marker) => {
-            ExtensionReason::MarkerElsewhere(terminal_name(alloc, resolved, *marker)?)
-        }
-        DeterminismRefusal::NotExtensible(production) => {
-            ExtensionReason::NotExtensible(production_name(alloc, resolved, *production)?)
-        }
-        DeterminismRefusal::MarkerClash {
-            marker,
-            other,
-            text,
-        } => marker_clash(pair_of(alloc, resolved, *marker, *other, text)?),
+        DeterminismRefusal::Markers(refusal) => return marker_rule(alloc, resolved, refusal),
         DeterminismRefusal::Lookahead {
             prefix,
             item,
@@ -50,6 +38,34 @@ pub(crate) fn extension_rule(
             envelope_rule(alloc, resolved, prefix.as_slice(), fault)?
         }
         _ => return Ok(None),
+    };
+    Ok(Some(Refusal::Extension(reason)))
+}
+
+// A rule on the markers of an extension; none for out of memory.
+fn marker_rule(
+    alloc: Global,
+    resolved: &Resolved,
+    refusal: &MarkRefusal,
+) -> Result<Option<Refusal>, AllocError>
+    ensures { IfOk result (λ shown. shown ≡ spec.of_extension (spec.marker_reason resolved.now refusal.now)) }
+{
+    let reason = match refusal {
+        MarkRefusal::NotBridge(production) => {
+            ExtensionReason::NotBridge(production_name(alloc, resolved, *production)?)
+        }
+        MarkRefusal::MarkerElsewhere(marker) => {
+            ExtensionReason::MarkerElsewhere(terminal_name(alloc, resolved, *marker)?)
+        }
+        MarkRefusal::NotExtensible(production) => {
+            ExtensionReason::NotExtensible(production_name(alloc, resolved, *production)?)
+        }
+        MarkRefusal::MarkerClash {
+            marker,
+            other,
+            text,
+        } => marker_clash(pair_of(alloc, resolved, *marker, *other, text)?),
+        MarkRefusal::NoMemory(_) => return Ok(None),
     };
     Ok(Some(Refusal::Extension(reason)))
 }

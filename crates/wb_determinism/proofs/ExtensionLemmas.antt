@@ -33,11 +33,8 @@ use Rattle.wb_determinism.proofs.RuleLemmas.{conflict_fault, envelope_fault, kee
 -- a refusal of a host with this specification is one of the extension
 pub host_refusal : (r : ResolvedParts) (g host : GrammarView) (refusal : DeterminismRefusal) → IsHostRefusal r g refusal
     → IsExtensionRefusal r g host refusal
-host_refusal r g host (d.NotBridge p) is = is
-host_refusal r g host (d.MarkerElsewhere t) is = is
-host_refusal r g host (d.NotExtensible p) is = is
+host_refusal r g host (d.Markers m) is = is
 host_refusal r g host (d.PreferenceCycle cycle) is = is
-host_refusal r g host (d.MarkerClash m o t) is = is
 host_refusal r g host (d.NotReduced reason) is = is
 host_refusal r g host (d.UnitCycle list) is = is
 host_refusal r g host (d.HiddenLeftRecursion list) is = is
@@ -50,11 +47,8 @@ host_refusal r g host (d.NoMemory e) is = tt
 -- a refusal for what is found at numbered kernels shows a fault with the envelope
 pub inner_refusal : (c : Context) (lexicon : LexiconView) (refusal : DeterminismRefusal) → IsInnerRefusal c refusal
     → IsEnvelopeRefusal c lexicon refusal
-inner_refusal c lexicon (d.NotBridge p) is = is
-inner_refusal c lexicon (d.MarkerElsewhere t) is = is
-inner_refusal c lexicon (d.NotExtensible p) is = is
+inner_refusal c lexicon (d.Markers m) is = is
 inner_refusal c lexicon (d.PreferenceCycle cycle) is = is
-inner_refusal c lexicon (d.MarkerClash m o t) is = is
 inner_refusal c lexicon (d.NotReduced reason) is = is
 inner_refusal c lexicon (d.UnitCycle list) is = is
 inner_refusal c lexicon (d.HiddenLeftRecursion list) is = is
@@ -69,11 +63,8 @@ inner_refusal c lexicon (d.NoMemory e) is = tt
 -- so does one for a clash
 pub clash_refusal : (c : Context) (lexicon : LexiconView) (refusal : DeterminismRefusal) → IsClashRefusal c lexicon refusal
     → IsEnvelopeRefusal c lexicon refusal
-clash_refusal c lexicon (d.NotBridge p) is = is
-clash_refusal c lexicon (d.MarkerElsewhere t) is = is
-clash_refusal c lexicon (d.NotExtensible p) is = is
+clash_refusal c lexicon (d.Markers m) is = is
 clash_refusal c lexicon (d.PreferenceCycle cycle) is = is
-clash_refusal c lexicon (d.MarkerClash m o t) is = is
 clash_refusal c lexicon (d.NotReduced reason) is = is
 clash_refusal c lexicon (d.UnitCycle list) is = is
 clash_refusal c lexicon (d.HiddenLeftRecursion list) is = is
@@ -101,11 +92,8 @@ module _ (x : Extended) (c : Context) (is : IsExtended x) (of : IsContextOf x c)
   -- a lookahead that is shown is one beyond the host's
   pub lookahead_refusal : (refusal : DeterminismRefusal) → IsLookaheadRefusal c refusal
       → IsExtensionRefusal x.parts.now x.grammar.now x.host.now.grammar refusal
-  lookahead_refusal (d.NotBridge p) no_one = no_one
-  lookahead_refusal (d.MarkerElsewhere t) no_one = no_one
-  lookahead_refusal (d.NotExtensible p) no_one = no_one
+  lookahead_refusal (d.Markers m) no_one = no_one
   lookahead_refusal (d.PreferenceCycle cycle) no_one = absurd no_one
-  lookahead_refusal (d.MarkerClash m o t) no_one = no_one
   lookahead_refusal (d.NotReduced reason) no_one = absurd no_one
   lookahead_refusal (d.UnitCycle list) no_one = absurd no_one
   lookahead_refusal (d.HiddenLeftRecursion list) no_one = absurd no_one
@@ -153,11 +141,8 @@ module _ (x : Extended) (c : Context) (is : IsExtended x) (of : IsContextOf x c)
   pub envelope_refusal : KeepsHostLookaheads (host_of c) (both_of c) c.numbers.now (HasImage c.images.now) → (refusal : DeterminismRefusal)
       → IsEnvelopeRefusal c (lexicon_for x.parts.now c.numbers.now.own_terminals) refusal
       → IsExtensionRefusal x.parts.now x.grammar.now x.host.now.grammar refusal
-  envelope_refusal keeps (d.NotBridge p) no_one = no_one
-  envelope_refusal keeps (d.MarkerElsewhere t) no_one = no_one
-  envelope_refusal keeps (d.NotExtensible p) no_one = no_one
+  envelope_refusal keeps (d.Markers m) no_one = no_one
   envelope_refusal keeps (d.PreferenceCycle cycle) no_one = absurd no_one
-  envelope_refusal keeps (d.MarkerClash m o t) no_one = no_one
   envelope_refusal keeps (d.NotReduced reason) no_one = absurd no_one
   envelope_refusal keeps (d.UnitCycle list) no_one = absurd no_one
   envelope_refusal keeps (d.HiddenLeftRecursion list) no_one = absurd no_one

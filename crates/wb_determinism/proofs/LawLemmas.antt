@@ -59,11 +59,8 @@ fault_excluded r g host prefix (f.Clash left right text) x is = is.envelope.clea
 
 pub ruled_out : (r : ResolvedParts) (g host : GrammarView) (refusal : DeterminismRefusal) → IsExtensionRefusal r g host refusal
     → IsDeterministicExtension r g host → IsNoMemory refusal
-ruled_out r g host (d.NotBridge p) h is = h
-ruled_out r g host (d.MarkerElsewhere t) h is = h
-ruled_out r g host (d.NotExtensible p) h is = h
+ruled_out r g host (d.Markers m) h is = absurd h
 ruled_out r g host (d.PreferenceCycle cycle) h is = excluded r g (d.PreferenceCycle cycle) h is.both
-ruled_out r g host (d.MarkerClash m o t) h is = h
 ruled_out r g host (d.NotReduced reason) h is = excluded r g (d.NotReduced reason) h is.both
 ruled_out r g host (d.UnitCycle list) h is = excluded r g (d.UnitCycle list) h is.both
 ruled_out r g host (d.HiddenLeftRecursion list) h is = excluded r g (d.HiddenLeftRecursion list) h is.both

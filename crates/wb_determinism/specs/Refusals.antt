@@ -34,11 +34,8 @@ module _ (r : ResolvedParts) (g host : GrammarView) where
   -- wouldn't do as a host; a lookahead that the extension adds at a kernel of the host; or a fault with the envelope. Reasons of marks are
   -- found elsewhere, and out of memory says nothing of it
   abbrev pub IsExtensionRefusal : DeterminismRefusal → Type 0
-  IsExtensionRefusal (d.NotBridge _) = ⊥
-  IsExtensionRefusal (d.MarkerElsewhere _) = ⊥
-  IsExtensionRefusal (d.NotExtensible _) = ⊥
+  IsExtensionRefusal (d.Markers _) = ⊥
   IsExtensionRefusal (d.PreferenceCycle cycle) = IsHostRefusal r g (d.PreferenceCycle cycle)
-  IsExtensionRefusal (d.MarkerClash _ _ _) = ⊥
   IsExtensionRefusal (d.NotReduced reason) = IsHostRefusal r g (d.NotReduced reason)
   IsExtensionRefusal (d.UnitCycle list) = IsHostRefusal r g (d.UnitCycle list)
   IsExtensionRefusal (d.HiddenLeftRecursion list) = IsHostRefusal r g (d.HiddenLeftRecursion list)

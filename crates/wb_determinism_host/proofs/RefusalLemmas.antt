@@ -20,11 +20,8 @@ not_reduced g (Unproductive a) h is = h.1 (is.productive a h.0)
 
 pub excluded : (r : ResolvedParts) (g : GrammarView) (refusal : DeterminismRefusal) → IsHostRefusal r g refusal
     → IsDeterministicHost r g → IsNoMemory refusal
-excluded r g (d.NotBridge p) h is = absurd h
-excluded r g (d.MarkerElsewhere t) h is = absurd h
-excluded r g (d.NotExtensible p) h is = absurd h
+excluded r g (d.Markers m) h is = absurd h
 excluded r g (d.PreferenceCycle cycle) h is = absurd (is.fit.sound.acyclic cycle h.cycle_is)
-excluded r g (d.MarkerClash m o t) h is = absurd h
 excluded r g (d.NotReduced reason) h is = absurd (not_reduced g reason h.1 is.fit.sound.reduced)
 excluded r g (d.UnitCycle list) h is =
     (let plus = with_holes_of g r.extensible in

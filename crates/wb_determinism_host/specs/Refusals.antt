@@ -8,6 +8,7 @@ use Rattle.wb_grammar.specs.Refusals.{IsTrueReason}
 use Rattle.wb_grammar_theory.specs.Cycles.{HasNoUnitCycle, IsUnitCycle, IsHiddenCycle}
 use Rattle.wb_grammar_theory.specs.Lookaheads.{HasNoConflict}
 use Rattle.wb_graph.specs.Orders.{IsSimpleCycle}
+use Rattle.wb_marking.specs.Refusals as M
 use Rattle.wb_marking_holes.specs.Holes.{with_holes_of}
 use Rattle.wb_syntax_resolved.specs.declared.resolved.ResolvedParts.{ResolvedParts}
 use Rattle.wb_determinism_host.specs.declared.refusal.DeterminismRefusal.{DeterminismRefusal}
@@ -19,11 +20,8 @@ use Rattle.wb_determinism_host.specs.Hosts.{AreAcyclic, IsSound, IsFitForParsing
 -- reduced; with holes it has a unit cycle, hidden left recursion, a conflict, or a clash, whose lesser terminal is first. The other reasons
 -- are of extensions alone, and out of memory says nothing of the host
 abbrev pub IsHostRefusal : ResolvedParts → GrammarView → DeterminismRefusal → Type 0
-IsHostRefusal r g (d.NotBridge _) = ⊥
-IsHostRefusal r g (d.MarkerElsewhere _) = ⊥
-IsHostRefusal r g (d.NotExtensible _) = ⊥
+IsHostRefusal r g (d.Markers _) = ⊥
 IsHostRefusal r g (d.PreferenceCycle cycle) = IsSimpleCycle (preference_pairs r) cycle
-IsHostRefusal r g (d.MarkerClash _ _ _) = ⊥
 IsHostRefusal r g (d.NotReduced reason) = AreAcyclic r × IsTrueReason g reason
 IsHostRefusal r g (d.UnitCycle list) = IsSound r g × IsUnitCycle (with_holes_of g r.extensible) list × Differ list
 IsHostRefusal r g (d.HiddenLeftRecursion list) =
@@ -39,11 +37,8 @@ IsHostRefusal r g (d.NoMemory _) = Unit {0}
 
 -- the refusal is that memory ran out
 abbrev pub IsNoMemory : DeterminismRefusal → Type 0
-IsNoMemory (d.NotBridge _) = ⊥
-IsNoMemory (d.MarkerElsewhere _) = ⊥
-IsNoMemory (d.NotExtensible _) = ⊥
+IsNoMemory (d.Markers refusal) = M.IsNoMemory refusal
 IsNoMemory (d.PreferenceCycle _) = ⊥
-IsNoMemory (d.MarkerClash _ _ _) = ⊥
 IsNoMemory (d.NotReduced _) = ⊥
 IsNoMemory (d.UnitCycle _) = ⊥
 IsNoMemory (d.HiddenLeftRecursion _) = ⊥

@@ -9,23 +9,14 @@ use wb_determinism_contexts::PartsRefusal;
 use wb_grammar::Reason;
 use wb_items::Item;
 use wb_lookahead::Action;
+use wb_marking::MarkRefusal;
 
 /// Why it is refused: the first of this list that holds, each with an example. Which of several examples is shown is left open.
 pub enum DeterminismRefusal {
-    /// E1: this production of the extension is on a host's nonterminal and doesn't begin with one of its markers.
-    NotBridge(usize),
-    /// E2: this marker doesn't begin exactly one production on a host's nonterminal, or occurs elsewhere.
-    MarkerElsewhere(usize),
-    /// E3: this production begins with a marker, and its left side isn't extensible.
-    NotExtensible(usize),
+    /// E1 to E4: the markers of the extension are refused for this reason. G6 comes before E4.
+    Markers(MarkRefusal),
     /// G6: each of these terminals is preferred to the next, and the last to the first.
     PreferenceCycle(Sequence<usize>),
-    /// E4: the marker and the other terminal match a text, and no preference orders them.
-    MarkerClash {
-        marker: usize,
-        other: usize,
-        text: Bytes,
-    },
     /// G1: a nonterminal is not reachable or derives no text.
     NotReduced(Reason),
     /// G2: nonterminals each of which derives the next alone, and the last the first, in one or more steps. Each is there once.
@@ -98,15 +89,8 @@ impl From<AllocError> for DeterminismRefusal {
 impl Drop for DeterminismRefusal {
     fn drop(self) {
         match self {
-            DeterminismRefusal::NotBridge(_) => {}
-            DeterminismRefusal::MarkerElsewhere(_) => {}
-            DeterminismRefusal::NotExtensible(_) => {}
+            DeterminismRefusal::Markers(refusal) => drop(refusal),
             DeterminismRefusal::PreferenceCycle(cycle) => drop(cycle),
-            DeterminismRefusal::MarkerClash {
-                marker: _,
-                other: _,
-                text,
-            } => drop(text),
             DeterminismRefusal::NotReduced(_) => {}
             DeterminismRefusal::UnitCycle(cycle) => drop(cycle),
             DeterminismRefusal::HiddenLeftRecursion(cycle) => drop(cycle),

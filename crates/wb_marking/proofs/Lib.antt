@@ -3,7 +3,7 @@ mod PlaceLemmas
 mod ClashLemmas
 mod ListedLemmas
 mod MarkedLemmas
-mod RefusalLemmas
+pub mod RefusalLemmas
 mod ScopeLemmas
 pub mod CallerLemmas
 mod TextLemmas

@@ -11,6 +11,7 @@ use wb_certify_host::CertifyRefusal;
 use wb_determinism_host::{DeterminismRefusal, EnvelopeFault};
 use wb_flow::{AttributeRefusal, Vertex};
 use wb_grammar::Reason;
+use wb_marking::MarkRefusal;
 use wb_names_theory::NameRefusal;
 use wb_types::TypeRefusal;
 
@@ -53,22 +54,10 @@ fn shown_of_kinds(refusal: &TypeRefusal) -> Shown<'_> {
     }
 }
 
-// What a refusal for markers, what goes beyond the host, grammar or scanner shows.
+// What a refusal for markers, for what goes beyond the host, for the grammar or for the scanner shows.
 fn shown_of_determinism(refusal: &DeterminismRefusal) -> Shown<'_> {
     match refusal {
-        DeterminismRefusal::NotBridge(number) => ("E1", Production(*number), Nothing, Nothing),
-        DeterminismRefusal::MarkerElsewhere(marker) => ("E2", Terminal(*marker), Nothing, Nothing),
-        DeterminismRefusal::NotExtensible(number) => ("E3", Production(*number), Nothing, Nothing),
-        DeterminismRefusal::MarkerClash {
-            marker,
-            other,
-            text,
-        } => (
-            "E4",
-            Terminal(*marker),
-            Terminal(*other),
-            Text(text.as_slice()),
-        ),
+        DeterminismRefusal::Markers(refusal) => shown_of_markers(refusal),
         DeterminismRefusal::Lookahead { item, terminal, .. } => {
             (
                 "E5",
@@ -79,6 +68,26 @@ fn shown_of_determinism(refusal: &DeterminismRefusal) -> Shown<'_> {
         }
         DeterminismRefusal::Envelope { fault, .. } => shown_of_fault(fault),
         other => shown_of_grammar(other),
+    }
+}
+
+// What a refusal for markers shows.
+fn shown_of_markers(refusal: &MarkRefusal) -> Shown<'_> {
+    match refusal {
+        MarkRefusal::NotBridge(number) => ("E1", Production(*number), Nothing, Nothing),
+        MarkRefusal::MarkerElsewhere(marker) => ("E2", Terminal(*marker), Nothing, Nothing),
+        MarkRefusal::NotExtensible(number) => ("E3", Production(*number), Nothing, Nothing),
+        MarkRefusal::MarkerClash {
+            marker,
+            other,
+            text,
+        } => (
+            "E4",
+            Terminal(*marker),
+            Terminal(*other),
+            Text(text.as_slice()),
+        ),
+        MarkRefusal::NoMemory(_) => NOTHING,
     }
 }
 

@@ -9,13 +9,10 @@ use Rattle.wb_certify_host.specs.declared.refusal.CertifyRefusal.TheVariants as 
 use Rattle.wb_complete.specs.Refusals.{CompleteOk}
 use Rattle.wb_determinism_host.specs.declared.parts.HostParts.{HostParts}
 use Rattle.wb_determinism_host.specs.declared.refusal.DeterminismRefusal.{DeterminismRefusal}
-use Rattle.wb_determinism_host.specs.declared.refusal.DeterminismRefusal.TheVariants as d
 use Rattle.wb_determinism.specs.Extensions.{AreExtensionParts, IsDeterministicExtension}
 use Rattle.wb_determinism.specs.declared.parts.ExtensionParts.{ExtensionParts}
 use Rattle.wb_flow.specs.Refusals.{FlowsOk}
 use Rattle.wb_marking.specs.Bridges.{AreBridges}
-use Rattle.wb_marking.specs.declared.refusal.MarkRefusal.{MarkRefusal}
-use Rattle.wb_marking.specs.declared.refusal.MarkRefusal.TheVariants as m
 use Rattle.wb_operations.specs.Operations.{OperationSignature}
 use Rattle.wb_syntax_resolved.specs.declared.attribution.AttributionParts.{AttributionParts}
 use Rattle.wb_syntax_resolved.specs.declared.resolved.ResolvedParts.{ResolvedParts}
@@ -39,14 +36,6 @@ IsMarkReason r refusal = (g host : GrammarView) → r.grammar ≡ Some g → IsR
 -- the reason is true beside this host's grammar with holes
 abbrev pub IsReasonBeside : ResolvedParts → GrammarView → DeterminismRefusal → Type 0
 IsReasonBeside r host refusal = (g : GrammarView) → r.grammar ≡ Some g → IsReason r g host refusal
-
--- why markers are refused, as a reason why an extension isn't deterministic
-abbrev pub reason_of : MarkRefusal → DeterminismRefusal
-reason_of (m.NotBridge production) = d.NotBridge production
-reason_of (m.MarkerElsewhere marker) = d.MarkerElsewhere marker
-reason_of (m.NotExtensible production) = d.NotExtensible production
-reason_of (m.MarkerClash marker other text) = d.MarkerClash marker other text
-reason_of (m.NoMemory error) = d.NoMemory error
 
 -- markers keep their rules, the extension is deterministic beside the host, and the parts are those of the extended grammar
 pub record ArePartsOfDeterministic (r : ResolvedParts) (g : GrammarView) (host : HostParts) (parts : ExtensionParts) : Type 0 where

@@ -29,11 +29,8 @@ IsClashFault c lexicon prefix (f.Clash left right text) =
 
 -- so of a refusal
 abbrev pub IsClashRefusal : Context → LexiconView → DeterminismRefusal → Type 0
-IsClashRefusal c lexicon (d.NotBridge _) = ⊥
-IsClashRefusal c lexicon (d.MarkerElsewhere _) = ⊥
-IsClashRefusal c lexicon (d.NotExtensible _) = ⊥
+IsClashRefusal c lexicon (d.Markers _) = ⊥
 IsClashRefusal c lexicon (d.PreferenceCycle _) = ⊥
-IsClashRefusal c lexicon (d.MarkerClash _ _ _) = ⊥
 IsClashRefusal c lexicon (d.NotReduced _) = ⊥
 IsClashRefusal c lexicon (d.UnitCycle _) = ⊥
 IsClashRefusal c lexicon (d.HiddenLeftRecursion _) = ⊥

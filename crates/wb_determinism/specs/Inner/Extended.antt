@@ -61,11 +61,8 @@ IsFaultOf c lexicon prefix (f.Clash left right text) = IsClashFault c lexicon pr
 
 -- a refusal that shows a lookahead at a host's kernel
 abbrev pub IsLookaheadRefusal : Context → DeterminismRefusal → Type 0
-IsLookaheadRefusal c (d.NotBridge _) = ⊥
-IsLookaheadRefusal c (d.MarkerElsewhere _) = ⊥
-IsLookaheadRefusal c (d.NotExtensible _) = ⊥
+IsLookaheadRefusal c (d.Markers _) = ⊥
 IsLookaheadRefusal c (d.PreferenceCycle _) = ⊥
-IsLookaheadRefusal c (d.MarkerClash _ _ _) = ⊥
 IsLookaheadRefusal c (d.NotReduced _) = ⊥
 IsLookaheadRefusal c (d.UnitCycle _) = ⊥
 IsLookaheadRefusal c (d.HiddenLeftRecursion _) = ⊥
@@ -78,11 +75,8 @@ IsLookaheadRefusal c (d.NoMemory _) = Unit {0}
 
 -- a refusal that shows a fault with the envelope
 abbrev pub IsEnvelopeRefusal : Context → LexiconView → DeterminismRefusal → Type 0
-IsEnvelopeRefusal c lexicon (d.NotBridge _) = ⊥
-IsEnvelopeRefusal c lexicon (d.MarkerElsewhere _) = ⊥
-IsEnvelopeRefusal c lexicon (d.NotExtensible _) = ⊥
+IsEnvelopeRefusal c lexicon (d.Markers _) = ⊥
 IsEnvelopeRefusal c lexicon (d.PreferenceCycle _) = ⊥
-IsEnvelopeRefusal c lexicon (d.MarkerClash _ _ _) = ⊥
 IsEnvelopeRefusal c lexicon (d.NotReduced _) = ⊥
 IsEnvelopeRefusal c lexicon (d.UnitCycle _) = ⊥
 IsEnvelopeRefusal c lexicon (d.HiddenLeftRecursion _) = ⊥

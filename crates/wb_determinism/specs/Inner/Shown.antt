@@ -28,11 +28,8 @@ IsInnerFault c prefix (f.Clash left right text) = ⊥
 
 -- so of a refusal
 abbrev pub IsInnerRefusal : Context → DeterminismRefusal → Type 0
-IsInnerRefusal c (d.NotBridge _) = ⊥
-IsInnerRefusal c (d.MarkerElsewhere _) = ⊥
-IsInnerRefusal c (d.NotExtensible _) = ⊥
+IsInnerRefusal c (d.Markers _) = ⊥
 IsInnerRefusal c (d.PreferenceCycle _) = ⊥
-IsInnerRefusal c (d.MarkerClash _ _ _) = ⊥
 IsInnerRefusal c (d.NotReduced _) = ⊥
 IsInnerRefusal c (d.UnitCycle _) = ⊥
 IsInnerRefusal c (d.HiddenLeftRecursion _) = ⊥

@@ -7,5 +7,4 @@ pub returns-in-Ok-clause-ok : goal.returns-in-Ok-clause-ok
 returns-in-Ok-clause-ok c = with_some c.args.resolved.now.grammar (AreBridges c.args.resolved.now) c.in-Ok.ensures.ok
 
 pub returns-in-Err-clause-refused : goal.returns-in-Err-clause-refused
-returns-in-Err-clause-refused c =
-    bridge_refused c.args.resolved.now c.in-Err.refusal c.reason_of.result c.reason_of.ensures c.in-Err.ensures.refused
+returns-in-Err-clause-refused c = bridge_refused c.args.resolved.now c.in-Err.refusal c.in-Err.ensures.refused

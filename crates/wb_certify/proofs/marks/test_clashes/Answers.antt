@@ -6,5 +6,4 @@ returns-in-Ok-clause-ok c = markers_kept c.args.resolved.now c.requires.bridges 
 
 pub returns-in-Err-clause-refused : goal.returns-in-Err-clause-refused
 returns-in-Err-clause-refused c =
-    clash_refused c.args.resolved.now c.in-Err.refusal c.reason_of.result c.reason_of.ensures c.requires.bridges c.requires.acyclic
-    c.in-Err.ensures.refused
+    clash_refused c.args.resolved.now c.in-Err.refusal c.requires.bridges c.requires.acyclic c.in-Err.ensures.refused
