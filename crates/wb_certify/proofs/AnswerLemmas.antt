@@ -60,7 +60,7 @@ types_excluded x operations ok (t.NoMemory error) is = tt
 -- markers and determinism
 reasons_excluded : RulesOut → (r : ResolvedParts) (g host : GrammarView) → AreMarkersKept r g → IsDeterministicExtension r g host
     → (refusal : DeterminismRefusal) → IsReason r g host refusal → IsNoMemory refusal
-reasons_excluded out r g host kept is (d.Markers refusal) reason = elim reason [
+reasons_excluded out r g host kept is (d.Markers refusal) reason = elim reason.0 [
   | inl bridge ↦ bridges_excluded r g refusal kept.bridges bridge
   | inr clash ↦ clash_excluded r refusal kept.clashes clash.2
 ]

@@ -7,7 +7,7 @@ use Rattle.wb_determinism_host.specs.declared.refusal.DeterminismRefusal.{Determ
 use Rattle.wb_determinism_host.specs.declared.refusal.DeterminismRefusal.TheVariants as d
 use Rattle.wb_determinism.specs.Refusals.{IsExtensionRefusal}
 use Rattle.wb_marking.specs.Clashes.{HasNoMarkerClash}
-use Rattle.wb_marking.specs.Refusals.{IsBridgeRefusal, IsClashRefusal}
+use Rattle.wb_marking.specs.Refusals.{IsBridgeRefusal, IsClashRefusal, IsNoMemory}
 use Rattle.wb_marking.specs.declared.refusal.MarkRefusal.{MarkRefusal}
 use Rattle.wb_syntax_resolved.specs.declared.resolved.ResolvedParts.{ResolvedParts}
 use Rattle.wb_certify.specs.Extensions.{AreMarkersKept}
@@ -17,12 +17,15 @@ use Rattle.wb_certify.proofs.BesideLemmas.{with_some}
 
 module _ (r : ResolvedParts) where
   -- a rule on bridges that fails
-  pub bridge_refused : (refusal : MarkRefusal) → IfSome r.grammar (λ g. IsBridgeRefusal r g refusal) → IsMarkReason r (d.Markers refusal)
-  bridge_refused refusal refused g host start = inl (with_some r.grammar (λ k. IsBridgeRefusal r k refusal) refused g start)
+  pub bridge_refused : (refusal : MarkRefusal) → ¬ IsNoMemory refusal → IfSome r.grammar (λ g. IsBridgeRefusal r g refusal)
+      → IsMarkReason r (d.Markers refusal)
+  bridge_refused refusal other refused g host start =
+      (inl (with_some r.grammar (λ k. IsBridgeRefusal r k refusal) refused g start), other)
 
   -- a marker that clashes
-  pub clash_refused : (refusal : MarkRefusal) → HaveBridges r → AreAcyclic r → IsClashRefusal r refusal → IsMarkReason r (d.Markers refusal)
-  clash_refused refusal bridges acyclic refused g host start = inr (bridges g start, acyclic, refused)
+  pub clash_refused : (refusal : MarkRefusal) → ¬ IsNoMemory refusal → HaveBridges r → AreAcyclic r → IsClashRefusal r refusal
+      → IsMarkReason r (d.Markers refusal)
+  clash_refused refusal other bridges acyclic refused g host start = (inr (bridges g start, acyclic, refused), other)
 
   -- markers that pass both tests
   pub markers_kept : HaveBridges r → HasNoMarkerClash r → KeepMarkers r

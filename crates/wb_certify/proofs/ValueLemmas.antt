@@ -11,6 +11,7 @@ use Rattle.wb_determinism_host.specs.Hosts.{AreHostParts}
 use Rattle.wb_determinism_host.specs.Refusals.{IsNoMemory}
 use Rattle.wb_determinism_host.specs.declared.parts.HostParts.{HostParts}
 use Rattle.wb_determinism_host.specs.declared.refusal.DeterminismRefusal.{DeterminismRefusal}
+use Rattle.wb_determinism_host.specs.declared.refusal.DeterminismRefusal.TheVariants as d
 use Rattle.wb_determinism.specs.Extensions.{IsDeterministicExtension, IsHostBeside}
 use Rattle.wb_determinism.specs.declared.parts.ExtensionParts.{ExtensionParts}
 use Rattle.wb_operations.specs.Operations.{OperationSignature}
@@ -20,13 +21,27 @@ use Rattle.wb_certify.specs.Extensions.{IsCertifiedBeside}
 use Rattle.wb_certify.specs.Kept.{ArePartsBeside, Extends, IsKept}
 use Rattle.wb_certify.specs.Refusals.{IsAttributeRefusal, IsBesideRefusal, IsReason}
 use Rattle.wb_certify.specs.Inner.Tests.{ArePartsFound, AttributesOk, IsAttributesReason, IsFound, IsLaterRefusal, IsMade}
-use Rattle.wb_certify.specs.Inner.Tests.{IsMadeCertified, IsReasonBeside}
+use Rattle.wb_certify.specs.Inner.Tests.{IsMadeCertified, IsPlainMemory, IsReasonBeside}
 use Rattle.wb_certify.proofs.BesideLemmas.{for_some, has_start, host_beside}
 
 -- what is there
 some_of : {X : Type 0} (o : Option X) → IsSome o → (x : X) × (o ≡ Some x)
 some_of (Some x) is = (x, refl)
 some_of None is = absurd (cc is)
+
+-- a reason that isn't plainly out of memory isn't out of memory
+no_memory : (r : ResolvedParts) (g host : GrammarView) (refusal : DeterminismRefusal) → IsReason r g host refusal → ¬ IsPlainMemory refusal
+    → ¬ IsNoMemory refusal
+no_memory r g host (d.Markers refusal) reason plain = reason.1
+no_memory r g host (d.PreferenceCycle cycle) reason plain = λ is. is
+no_memory r g host (d.NotReduced which) reason plain = λ is. is
+no_memory r g host (d.UnitCycle list) reason plain = λ is. is
+no_memory r g host (d.HiddenLeftRecursion list) reason plain = λ is. is
+no_memory r g host (d.Conflict prefix terminal first second) reason plain = λ is. is
+no_memory r g host (d.Clash prefix left right text) reason plain = λ is. is
+no_memory r g host (d.Lookahead prefix item terminal) reason plain = λ is. is
+no_memory r g host (d.Envelope prefix fault) reason plain = λ is. is
+no_memory r g host (d.NoMemory error) reason plain = plain
 
 module _ (host : CertifiedView) (r : ResolvedParts) (parts : HostParts) (extends : Extends host.resolved r) (is_host : IsCertified host)
     (are : parts ≡ host.parts) where
@@ -70,9 +85,9 @@ module _ (host : CertifiedView) (r : ResolvedParts) (parts : HostParts) (extends
   }
 
   -- where it isn't, it isn't beside the host for the same reason
-  pub not_found : (refusal : DeterminismRefusal) → IsReasonBeside r parts.grammar refusal → ¬ IsNoMemory refusal
+  pub not_found : (refusal : DeterminismRefusal) → IsReasonBeside r parts.grammar refusal → ¬ IsPlainMemory refusal
       → IsLaterRefusal host.resolved r (c.Determinism refusal)
-  not_found refusal reason other operations kinds =
+  not_found refusal reason plain operations kinds =
       let there = some_of r.grammar start_is in (
         record {
           kinds = kinds;
@@ -82,7 +97,7 @@ module _ (host : CertifiedView) (r : ResolvedParts) (parts : HostParts) (extends
           start = there.1;
           reason = subst (λ (k : GrammarView). IsReason r there.0 k refusal) own.grammar (reason there.0 there.1);
         },
-        other,
+        no_memory r there.0 parts.grammar refusal (reason there.0 there.1) plain,
       )
 
 -- all tests together

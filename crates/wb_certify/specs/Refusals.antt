@@ -17,6 +17,7 @@ use Rattle.wb_complete.specs.ForwardRefusals.{IsTrueForwardRefusal}
 use Rattle.wb_graph.specs.Orders.{IsSimpleCycle}
 use Rattle.wb_marking_holes.specs.Holes.{with_holes_of}
 use Rattle.wb_marking.specs.Bridges.{AreBridges}
+use Rattle.wb_marking.specs.Refusals as marks
 use Rattle.wb_marking.specs.Refusals.{IsBridgeRefusal, IsClashRefusal}
 use Rattle.wb_marking.specs.declared.refusal.MarkRefusal.{MarkRefusal}
 use Rattle.wb_names.specs.Resolving.{IsExtensionNameRefusal, ResolvesExtension}
@@ -35,9 +36,9 @@ AreMarkersRefused r g refusal = IsBridgeRefusal r g refusal ⊎ (AreBridges r g 
 
 -- what is shown is an example of the first of these that holds of a host with an extension, where g is its grammar and the other that of
 -- the host with holes: a rule on bridges fails; preferences form a cycle; a marker clashes; or markers keep their rules, and the extension
--- isn't deterministic beside the host. Out of memory says nothing
+-- isn't deterministic beside the host. Out of memory says nothing, and is in no other reason
 abbrev pub IsReason : ResolvedParts → (g host : GrammarView) → DeterminismRefusal → Type 0
-IsReason r g host (d.Markers refusal) = AreMarkersRefused r g refusal
+IsReason r g host (d.Markers refusal) = AreMarkersRefused r g refusal × ¬ marks.IsNoMemory refusal
 IsReason r g host (d.PreferenceCycle cycle) = AreBridges r g × IsSimpleCycle (preference_pairs r) cycle
 IsReason r g host (d.NoMemory error) = Unit {0}
 IsReason r g host refusal = AreMarkersKept r g × IsExtensionRefusal r g host refusal

@@ -10,7 +10,7 @@ use std::alloc::Global;
 use wb_base::Sequence;
 use wb_determinism_host::{DeterminismRefusal, pairs_of};
 use wb_lexical::preference_cycle;
-use wb_marking::{check_bridges, check_clashes};
+use wb_marking::{MarkRefusal, check_bridges, check_clashes};
 use wb_syntax_resolved::Resolved;
 
 // Whether markers keep their rules, and preferences form no cycle.
@@ -32,6 +32,7 @@ fn test_bridges(alloc: Global, resolved: &Resolved) -> Result<(), DeterminismRef
 {
     match check_bridges(alloc, resolved) {
         Ok(()) => Ok(()),
+        Err(MarkRefusal::NoMemory(error)) => Err(DeterminismRefusal::NoMemory(error)),
         Err(refusal) => Err(DeterminismRefusal::Markers(refusal)),
     }
 }
@@ -62,6 +63,7 @@ fn test_clashes(alloc: Global, resolved: &Resolved) -> Result<(), DeterminismRef
 {
     match check_clashes(alloc, resolved) {
         Ok(()) => Ok(()),
+        Err(MarkRefusal::NoMemory(error)) => Err(DeterminismRefusal::NoMemory(error)),
         Err(refusal) => Err(DeterminismRefusal::Markers(refusal)),
     }
 }

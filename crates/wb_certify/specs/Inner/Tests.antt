@@ -9,6 +9,7 @@ use Rattle.wb_certify_host.specs.declared.refusal.CertifyRefusal.TheVariants as 
 use Rattle.wb_complete.specs.Refusals.{CompleteOk}
 use Rattle.wb_determinism_host.specs.declared.parts.HostParts.{HostParts}
 use Rattle.wb_determinism_host.specs.declared.refusal.DeterminismRefusal.{DeterminismRefusal}
+use Rattle.wb_determinism_host.specs.declared.refusal.DeterminismRefusal.TheVariants as d
 use Rattle.wb_determinism.specs.Extensions.{AreExtensionParts, IsDeterministicExtension}
 use Rattle.wb_determinism.specs.declared.parts.ExtensionParts.{ExtensionParts}
 use Rattle.wb_flow.specs.Refusals.{FlowsOk}
@@ -36,6 +37,11 @@ IsMarkReason r refusal = (g host : GrammarView) → r.grammar ≡ Some g → IsR
 -- the reason is true beside this host's grammar with holes
 abbrev pub IsReasonBeside : ResolvedParts → GrammarView → DeterminismRefusal → Type 0
 IsReasonBeside r host refusal = (g : GrammarView) → r.grammar ≡ Some g → IsReason r g host refusal
+
+-- memory ran out, not while markers were tested
+abbrev pub IsPlainMemory : DeterminismRefusal → Type 0
+IsPlainMemory (d.NoMemory error) = Unit {0}
+IsPlainMemory other = ⊥
 
 -- markers keep their rules, the extension is deterministic beside the host, and the parts are those of the extended grammar
 pub record ArePartsOfDeterministic (r : ResolvedParts) (g : GrammarView) (host : HostParts) (parts : ExtensionParts) : Type 0 where

@@ -1,3 +1,5 @@
+use Rattle.std.proofs.Common.{rules}
+use Rattle.wb_marking.specs.Refusals.{IsNoMemory}
 use Rattle.wb_certify.proofs.MarkLemmas.{clash_refused, markers_kept}
 use Rattle.wb_certify.proofs.marks.test_clashes.Goals as goal
 
@@ -6,4 +8,5 @@ returns-in-Ok-clause-ok c = markers_kept c.args.resolved.now c.requires.bridges 
 
 pub returns-in-Err-clause-refused : goal.returns-in-Err-clause-refused
 returns-in-Err-clause-refused c =
-    clash_refused c.args.resolved.now c.in-Err.refusal c.requires.bridges c.requires.acyclic c.in-Err.ensures.refused
+    let other : ¬ IsNoMemory c.in-Err.refusal = search rules in
+    clash_refused c.args.resolved.now c.in-Err.refusal other c.requires.bridges c.requires.acyclic c.in-Err.ensures.refused

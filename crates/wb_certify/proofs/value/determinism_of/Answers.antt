@@ -1,5 +1,5 @@
 use Rattle.std.proofs.Common.{rules}
-use Rattle.wb_determinism_host.specs.Refusals.{IsNoMemory}
+use Rattle.wb_certify.specs.Inner.Tests.{IsPlainMemory}
 use Rattle.wb_certify.proofs.ValueLemmas.{made_beside, not_found, parts_beside, start_is}
 use Rattle.wb_certify.proofs.value.determinism_of.Goals as goal
 
@@ -18,6 +18,6 @@ returns-in-Ok-clause-ok c =
 
 pub returns-in-Err-clause-refused : goal.returns-in-Err-clause-refused
 returns-in-Err-clause-refused c =
-    let other : ¬ IsNoMemory c.in-Err.refusal = search rules in
+    let plain : ¬ IsPlainMemory c.in-Err.refusal = search rules in
     not_found c.args.host.now c.args.resolved.now c.parts.result.now c.requires c.parts.ensures.certified c.parts.ensures.parts
-    c.in-Err.refusal c.in-Err.ensures.refused other
+    c.in-Err.refusal c.in-Err.ensures.refused plain
