@@ -4,7 +4,7 @@ use Rattle.std.proofs.Common.{slice_index_or, ◌⊎◌, inl, inr, ap, sym, refl
 use Rattle.std.proofs.lemmas.List.{append_assoc, append-nil, length-map, map-append}
 use Rattle.std.proofs.lemmas.Option.{same_Some, slice_get_within}
 use Rattle.wb_base.specs.Different.{Differ}
-use Rattle.wb_eval.proofs.MachineLemmas.{no_more}
+use Rattle.wb_eval_theory.proofs.CountLemmas.{no_more}
 use Rattle.wb_certify_files.specs.ExtensionContents.{IsExtensionText}
 use Rattle.wb_compose.specs.Written.{name_in}
 use Rattle.wb_lemmas.proofs.Members.{contains_at, place_of}
