@@ -77,12 +77,12 @@ fn is_right(alloc: Global, case: &Case) -> Result<bool, AllocError> {
 }
 
 // A grammar and its expected lookaheads.
-struct Case {
-    grammar: Small,
+pub(crate) struct Case {
+    pub(crate) grammar: Small,
     rows: &'static [Expected],
 }
 
-static CASES: [Case; 4] = [
+pub(crate) static CASES: [Case; 4] = [
     // A -> B t1 C, A -> C, B -> t0 C, B -> t2, C -> B
     Case {
         grammar: Small {

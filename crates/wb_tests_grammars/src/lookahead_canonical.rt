@@ -25,7 +25,7 @@ struct Set {
 static SYMBOLS: [Symbol; 6] = [A, B, C, T0, T1, T2];
 
 // Three nonterminals and three terminals; all but the last are in the textbooks.
-static GRAMMARS: [Small; 5] = [
+pub(crate) static GRAMMARS: [Small; 5] = [
     // A -> B t1 C, A -> C, B -> t0 C, B -> t2, C -> B
     Small {
         terminals: 3,

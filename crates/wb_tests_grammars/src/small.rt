@@ -81,7 +81,7 @@ pub(crate) fn grammar_of(alloc: Global, small: &Small) -> Result<Option<Grammar>
 }
 
 // The facts of a grammar that passes its analysis. For another one the answer is out of memory, so that its test fails.
-fn facts_of(alloc: Global, grammar: &Grammar) -> Result<Facts, AllocError>
+pub(crate) fn facts_of(alloc: Global, grammar: &Grammar) -> Result<Facts, AllocError>
     ensures { IfOk result (λ facts. AreFacts grammar.now facts) }
 {
     match analyse(alloc, grammar) {
