@@ -19,6 +19,7 @@ pub mod AdditionLemmas
 pub mod UnionLemmas
 pub mod LawLemmas
 pub mod AgreementLemmas
+pub mod HostLanguageLemmas
 mod LendingLemmas
 mod ComposedLemmas
 mod CutRows

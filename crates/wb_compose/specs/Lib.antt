@@ -14,5 +14,7 @@ pub mod AttributeLaws
 pub mod United
 -- the language that is composed of a certified host and certified extensions
 pub mod Composed
+-- the language of a host by itself, which is composed of no extensions
+pub mod HostLanguage
 -- words of the private functions
 pub mod Inner

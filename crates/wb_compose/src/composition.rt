@@ -1,6 +1,6 @@
 //! Builds the language of a certified host with its certified extensions.
 
-ghost use Rattle.std.specs.Prelude.{◌≡◌, All, IfOk, IsSome, map};
+ghost use Rattle.std.specs.Prelude.{◌≡◌, [], All, IfOk, IsSome, map};
 ghost use Rattle.wb_base.specs.Different.{Differ};
 ghost use Rattle.wb_compose.specs.Composed.{IsComposed, IsWith, name_of};
 ghost use Rattle.wb_syntax_resolved.specs.Resolved.{IsResolved};
@@ -61,6 +61,14 @@ pub fn compose(
         language: made.language,
         withdrawn: made.withdrawn,
     })
+}
+
+/// The language of a certified host alone: what is composed of it and no extensions. No marker is withdrawn there.
+pub fn compose_host(alloc: Global, host: &CertifiedHost) -> Result<Composed, AllocError>
+    ensures composed { IfOk result (λ made. IsComposed host.now [] made.language.language made.withdrawn.items) }
+    ensures none_withdrawn { IfOk result (λ made. made.withdrawn.items ≡ []) }
+{
+    compose(alloc, host, &[])
 }
 
 // What is lent of a host with these extensions.

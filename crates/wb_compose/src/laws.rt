@@ -1,6 +1,6 @@
 //! Laws of the definitions: what each says is proved, and there is nothing to run.
 
-ghost use Rattle.std.specs.Prelude.{◌≡◌, List, [], ◌∷◌, map};
+ghost use Rattle.std.specs.Prelude.{◌≡◌, List, [], ◌∷◌, Some, map};
 ghost use Rattle.wb_base.specs.Different.{Differ};
 ghost use Rattle.wb_base.specs.Grammar.{GrammarView};
 ghost use Rattle.wb_determinism_host.specs.Lexicons.{lexicon_of};
@@ -12,6 +12,9 @@ ghost use Rattle.wb_compose_theory_grammar.specs.Pieces.{ArePieces};
 ghost use Rattle.wb_compose_theory_language.specs.Apart.{AreWrittenApart};
 ghost use Rattle.wb_compose_theory_language.specs.Written.{pieces_of};
 ghost use Rattle.wb_certify.specs.Kept.{AreCertifiedBoth};
+ghost use Rattle.wb_certify_host.specs.Hosts.{CertifiedView, IsCertified};
+ghost use Rattle.wb_compose.specs.Composed.{IsComposed};
+ghost use Rattle.wb_compose.specs.HostLanguage.{host_language};
 ghost use Rattle.wb_compose.specs.Joined.{AreCertifiedApart, Extended, piece_in, pieces_in};
 ghost use Rattle.wb_compose.specs.Numbers.{KeepsNumbers};
 ghost use Rattle.wb_compose.specs.Written.{name_in, written_in};
@@ -68,4 +71,9 @@ pub fn together_law()
 pub fn written_law()
     ensures certified { (host : ResolvedParts) (h : GrammarView) (operations : List OperationSignature) (extensions : List Extended) → AreCertifiedApart host h operations extensions → AreCertified h host.extensible (pieces_of (written_in extensions)) }
     ensures apart { (host : ResolvedParts) (h : GrammarView) (operations : List OperationSignature) (extensions : List Extended) → AreCertifiedApart host h operations extensions → Differ (map (λ (e : Extended). name_in e.resolved) extensions) → AreWrittenApart h host.extensible (lexicon_of host h) (written_in extensions) }
+{}
+
+/// The language of a certified host by itself, whose terminals are written as they are, is composed of the host and no extensions.
+pub fn host_language_law()
+    ensures { (host : CertifiedView) (g : GrammarView) → IsCertified host → host.resolved.grammar ≡ Some g → IsComposed host [] (host_language host.resolved g) [] }
 {}

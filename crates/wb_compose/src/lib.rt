@@ -1,8 +1,7 @@
 //! What certified extensions make with their certified host, whichever are picked: one language, and its attributes.
 //!
 //! The only refusal of the calls here is out of memory, and the laws say why: a certified extension is a piece of a union (`laws`), whose
-//! attributes are well defined (`attribute_laws`) and agree with its grammar (`agreement`). A host by itself has its language in
-//! `wb_compose_host`.
+//! attributes are well defined (`attribute_laws`) and agree with its grammar (`agreement`).
 #![tactic(auto)]
 
 mod additions;
@@ -15,4 +14,4 @@ pub mod laws;
 mod rows;
 
 pub use attributes::composed_attributes;
-pub use composition::{Composed, compose};
+pub use composition::{Composed, compose, compose_host};

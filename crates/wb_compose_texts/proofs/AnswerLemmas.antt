@@ -27,8 +27,8 @@ use Rattle.wb_report.specs.declared.shown.ShownStop.{ShownStop}
 use Rattle.wb_report.specs.declared.shown.ShownStop.TheVariants as stop
 use Rattle.wb_syntax_resolved.specs.declared.resolved.ResolvedParts.{ResolvedParts}
 use Rattle.wb_certify_shown.specs.Names.{grammar_terminals, or_end}
-use Rattle.wb_compose_trees.specs.declared.answer.TextAnswer.{TextAnswer}
-use Rattle.wb_compose_trees.specs.declared.answer.TextAnswer.TheVariants as a
+use Rattle.wb_compose_texts.specs.declared.text_answer.TextAnswer.{TextAnswer}
+use Rattle.wb_compose_texts.specs.declared.text_answer.TextAnswer.TheVariants as a
 use Rattle.wb_compose_theory_grammar.proofs.FactLemmas.{at_map, map_at}
 use Rattle.wb_compose_theory_language.specs.Languages.{IsUnitedLanguage}
 use Rattle.wb_compose_theory.specs.Renamings.{Renaming}

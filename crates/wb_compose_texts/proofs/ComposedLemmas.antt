@@ -7,7 +7,7 @@ use Rattle.wb_compose.specs.Composed.{IsComposed, IsExtended}
 use Rattle.wb_compose.specs.Joined.{Extended}
 use Rattle.wb_scan_theory.specs.Facts.{IsLanguage}
 use Rattle.wb_scan_theory.specs.Languages.{LanguageView}
-use Rattle.wb_compose_trees.specs.declared.answer.TextAnswer.{TextAnswer}
+use Rattle.wb_compose_texts.specs.declared.text_answer.TextAnswer.{TextAnswer}
 use Rattle.wb_compose_texts.specs.Answers.{IsAnswerIn, IsUnitedTextAnswer}
 use Rattle.wb_compose_texts.specs.Names.{name_at, terminals_of}
 use Rattle.wb_compose_texts.specs.Signatures.{signatures_of}

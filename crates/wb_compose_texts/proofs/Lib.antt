@@ -7,6 +7,8 @@ pub mod AgreesLemmas
 mod AddedLemmas
 -- two languages of a union have the same answers
 mod SameLanguage
+-- the union of no extensions has the answers of the host's own language
+mod HostLemmas
 -- two unions of the same extensions are one
 pub mod OneUnion
 -- a text and an attribute come to one thing

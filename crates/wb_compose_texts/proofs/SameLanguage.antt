@@ -20,7 +20,7 @@ use Rattle.wb_compose_theory_language.specs.Written.{WrittenPiece, pieces_of}
 use Rattle.wb_compose_theory.specs.Renamings.{Renaming}
 
 -- a list in its own order
-still : {X : Type 0} (xs : List X) → IsReordering (λ k. k) (λ k. k) xs xs
+pub still : {X : Type 0} (xs : List X) → IsReordering (λ k. k) (λ k. k) xs xs
 still xs = record { there = λ k x at. at; back = λ k x at. at; undone = λ k. refl; redone = λ k. refl }
 
 -- numbers stay
@@ -34,7 +34,7 @@ same_number own sizes x = go (located own sizes x)
 
 module _ (r : Renaming) (terminal : (t : ℕ) → r.terminal t ≡ t) (nonterminal : (a : ℕ) → r.nonterminal a ≡ a)
     (production : (p : ℕ) → r.production p ≡ p) where
-  same_forest : (f : Forest) → renamed_forest r f ≡ f
+  pub same_forest : (f : Forest) → renamed_forest r f ≡ f
   same_forest nothing = refl
   same_forest (leaf t text rest) = λ j. leaf (terminal t j) text (same_forest rest j)
   same_forest (node p a children rest) = λ j. node (production p j) (nonterminal a j) (same_forest children j) (same_forest rest j)

@@ -9,8 +9,8 @@ use Rattle.wb_operations.specs.Operations.{OperationSignature}
 use Rattle.wb_report.specs.declared.shown.ShownStop.{ShownStop}
 use Rattle.wb_syntax_resolved.specs.declared.resolved.ResolvedParts.{ResolvedParts}
 use Rattle.wb_terms.specs.Printed.{printed_tree}
-use Rattle.wb_compose_trees.specs.declared.answer.TextAnswer.{TextAnswer}
-use Rattle.wb_compose_trees.specs.declared.answer.TextAnswer.TheVariants as a
+use Rattle.wb_compose_texts.specs.declared.text_answer.TextAnswer.{TextAnswer}
+use Rattle.wb_compose_texts.specs.declared.text_answer.TextAnswer.TheVariants as a
 use Rattle.wb_values.specs.Signature.{Signature}
 use Rattle.wb_values.specs.Tree.{Tree}
 use Rattle.wb_compose_texts.specs.Names.{stop_shown, terminals_of}

@@ -6,6 +6,8 @@ pub mod Signatures
 pub mod Unions
 -- what a text is in a language of the union
 pub mod Answers
+-- what a text is in the language of a host by itself
+pub mod HostTexts
 -- the names of the markers without a bare form
 pub mod Withdrawn
 -- the expressions of a union's terminals and layouts

@@ -2,7 +2,7 @@
 //! number makes.
 //!
 //! The language and its attributes are made in `wb_compose`; here their numbers get the names that reports show, the host's and then each
-//! extension's. Trees of a host by itself are in `wb_compose_trees`, values of attributes of a tree in `wb_eval_root`.
+//! extension's. Values of attributes of a tree are in `wb_eval_root`.
 #![tactic(auto)]
 
 mod expression_rows;
@@ -13,6 +13,7 @@ mod names;
 mod question;
 mod root;
 mod signatures;
+mod text_answer;
 mod text_values;
 pub mod tree_laws;
 mod trees;
@@ -27,6 +28,7 @@ pub use names::united_terminals;
 pub use question::Question;
 pub use root::root_attribute;
 pub use signatures::united_signatures;
+pub use text_answer::TextAnswer;
 pub use text_values::text_value;
 pub use trees::{united_stop, united_text_answer};
 pub use value::TextValue;

@@ -9,14 +9,14 @@ ghost use Rattle.wb_compose_texts.specs.Names.{name_at, stop_shown, terminals_of
 ghost use Rattle.wb_compose_texts.specs.Signatures.{signatures_of};
 ghost use Rattle.wb_compose_texts.specs.Unions.{all_resolved};
 
+use crate::TextAnswer;
 use crate::names::{name_of, united_terminals};
 use crate::signatures::united_signatures;
 use std::alloc::{AllocError, Global};
-use wb_base::Bytes;
+use wb_base::{Bytes, Sequence};
 use wb_certify::CertifiedExtension;
 use wb_certify_host::CertifiedHost;
 use wb_compose::Composed;
-use wb_compose_trees::TextAnswer;
 use wb_parser::{Parsed, parse};
 use wb_report::ShownStop;
 use wb_scan_theory::StopKind;
@@ -95,7 +95,7 @@ fn printed(
     ensures { (names : List (List ℕ)) (l : LanguageView) (text : List ℕ) → IsTreeOf l text store.now tree.0 → IfOk result (IsAnswerIn names signatures.now l text) }
 {
     match print_value(alloc, &Value::Tree(tree), signatures, store) {
-        Ok(text) => Ok(TextAnswer::Tree(Bytes::from_vec(text)?)),
+        Ok(text) => Ok(TextAnswer::Tree(Sequence::from_vec(text))),
         Err(PrintRefusal::TooLong) => Ok(TextAnswer::TooLong),
         Err(PrintRefusal::NoMemory(error)) => Err(error),
     }

@@ -1,6 +1,5 @@
 -- What is made of the file of a host, and of a text or term of it, is their report.
-use Rattle.std.proofs.Common.{◌≡◌, inl, inr, ℕ, List, [], Option, Some}
-use Rattle.wb_base.specs.Grammar.{GrammarView}
+use Rattle.std.proofs.Common.{◌≡◌, inr, ℕ, List, [], Option}
 use Rattle.wb_certify_files.specs.HostContents.{IsHostText, IsHostRefusal}
 use Rattle.wb_certify_files.specs.WellDefined.{IsWellDefinedText, IsWellDefinedTextRefusal}
 use Rattle.wb_operations.specs.Operations.{OperationSignature, Operations}
@@ -8,9 +7,6 @@ use Rattle.wb_report.specs.Lines.{report_of}
 use Rattle.wb_report.specs.declared.done.Done.TheVariants as done
 use Rattle.wb_report.specs.declared.outcome.Outcome.TheVariants as o
 use Rattle.wb_syntax_resolved.specs.declared.resolved.ResolvedParts.{ResolvedParts}
-use Rattle.wb_compose_trees.specs.Answers.{IsTextAnswer}
-use Rattle.wb_compose_trees.specs.declared.answer.TextAnswer.{TextAnswer}
-use Rattle.wb_compose_trees.specs.declared.answer.TextAnswer.TheVariants as a
 use Rattle.wb_world.specs.Shelf.{Files}
 use Rattle.wb_program_inputs.specs.Checks.{Ends, Check}
 use Rattle.wb_program_inputs.specs.Texts.{IsText, IsTooLongText}
@@ -18,19 +14,8 @@ use Rattle.wb_program_inputs.specs.HostChecks.{IsHostFile, IsWellDefinedFile, Re
 use Rattle.wb_program_inputs.specs.declared.status.Status.{Status}
 use Rattle.wb_program_inputs.specs.declared.status.Status.TheVariants.{Done, TextTooLong}
 use Rattle.wb_program.specs.CheckReport.{CheckReport}
-use Rattle.wb_program.specs.TreeReport.{ShownText, TextReport, TreeReport}
 use Rattle.wb_program.specs.ValueReport.{TermReport, ValueReport}
 use Rattle.wb_program_inputs.proofs.HostLemmas.{refused_checks}
-
--- the answer of a text is its report
-pub text_report : (r : ResolvedParts) (g : GrammarView) (text : List ℕ) (answer : TextAnswer) (status : Status) (bytes : List ℕ)
-    → r.grammar ≡ Some g → IsTextAnswer r g text answer → ShownText answer status bytes → TextReport r text status bytes
-text_report r g text (a.Tree printed) status bytes start is (ends, line) =
-    inr (inr (ends, record { grammar = g; start = start; printed = printed; tree = is.0; short = is.1; line = line }))
-text_report r g text (a.Stopped place shown) status bytes start is (ends, line) =
-    inl (ends, record { grammar = g; start = start; place = place; shown = shown; stops = is; line = line })
-text_report r g text a.TooLong status bytes start is (ends, line) =
-    inr (inl (ends, record { grammar = g; start = start; long = is; line = line }))
 
 -- `check` of a certified host
 pub check_done : (operations : List OperationSignature) (known : Option Files) (file : List ℕ) (r : ResolvedParts) (status : Status)
@@ -44,21 +29,6 @@ pub check_refused : (operations : List OperationSignature) (known : Option Files
 check_refused operations known file status bytes refused =
     refused_checks (IsHostText operations) (IsHostRefusal operations) known file
     (λ r. Ends Done (λ line. line ≡ report_of (o.Done (done.Certified r.host [])))) status bytes refused
-
--- `tree` in the language of a certified host
-pub tree_certified : (operations : List OperationSignature) (known : Option Files) (text host : List ℕ) (r : ResolvedParts)
-    (status : Status) (bytes : List ℕ) → IsHostFile operations known host r
-    → Check TextTooLong (IsTooLongText known text) (IsText known text) (λ (contents : List ℕ). TextReport r contents) status bytes
-    → TreeReport operations known text host status bytes
-tree_certified operations known text host r status bytes is report = inr (inr (r, is.contents, report))
-
--- `tree` of another file
-pub tree_refused : (operations : List OperationSignature) (known : Option Files) (text host : List ℕ) (status : Status)
-    (bytes : List ℕ) → RefusesHost (IsHostRefusal operations) known host status bytes → TreeReport operations known text host status bytes
-tree_refused operations known text host status bytes refused =
-    refused_checks (IsHostText operations) (IsHostRefusal operations) known host
-    (λ r. Check TextTooLong (IsTooLongText known text) (IsText known text) (λ (contents : List ℕ). TextReport r contents)) status bytes
-    refused
 
 -- `value` in a host whose attributes are well defined
 pub value_well_defined : (operations : Operations) (known : Option Files) (host file attribute : List ℕ) (r : ResolvedParts)

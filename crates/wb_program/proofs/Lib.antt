@@ -1,7 +1,6 @@
 mod Answering
 mod AnswerLemmas
 mod CauseLemmas
-mod ComposeLemmas
 mod ExtensionLemmas
 mod HostLemmas
 mod Known

@@ -1,4 +1,4 @@
--- Two reports of `compose`, and of `tree` with extensions, have one status, and one text where nothing is refused.
+-- Two reports of `compose`, and two of `tree`, have one status, and one text where nothing is refused.
 use Rattle.std.proofs.Common.{◌≡◌, ℕ, List, Some, length, ap, sym, ◌∙◌, subst}
 use Rattle.wb_base.specs.Different.{Differ}
 use Rattle.wb_compose_texts.specs.Generated.{HasOneText}
@@ -7,7 +7,8 @@ use Rattle.wb_report.specs.Lines.{report_of}
 use Rattle.wb_report.specs.declared.done.Done.TheVariants as done
 use Rattle.wb_report.specs.declared.outcome.Outcome.TheVariants as o
 use Rattle.wb_syntax_resolved.specs.declared.resolved.ResolvedParts.{ResolvedParts}
-use Rattle.wb_compose_trees.specs.declared.answer.TextAnswer.{TextAnswer}
+use Rattle.wb_compose_texts.specs.declared.text_answer.TextAnswer.{TextAnswer}
+use Rattle.wb_compose_texts.specs.declared.text_answer.TextAnswer.TheVariants as reply
 use Rattle.wb_compose_texts.specs.Answers.{HasSameAnswer}
 use Rattle.wb_compose_texts.specs.Withdrawn.{HasOneWithdrawn}
 use Rattle.wb_compose_texts.specs.Roots.{HasOneRootAttribute}
@@ -22,9 +23,8 @@ use Rattle.wb_program_inputs.proofs.OneCheck.{AreOne}
 use Rattle.wb_program_inputs.proofs.Excludes.{ExcludesExtensions, ExcludesHeaders}
 use Rattle.wb_program_inputs.proofs.OneHostReport.{AreAlike, are_alike, one_short_report}
 use Rattle.wb_program_inputs.proofs.OneSeveralReport.{one_several_report}
-use Rattle.wb_program.specs.ComposeReport.{ComposeReport, ComposedLines, UnitedReport, UnitedTreeReport}
-use Rattle.wb_program.specs.TreeReport.{ShownText}
-use Rattle.wb_program.proofs.OneHostReport.{one_shown}
+use Rattle.wb_program.specs.ComposeReport.{ComposeReport, ComposedLines}
+use Rattle.wb_program.specs.TreeReport.{ShownText, TextReport, TreeReport}
 
 -- what the crates below say of answers
 pub record Answers : Type 0 where
@@ -41,6 +41,13 @@ pub record Answers : Type 0 where
   pub made : (host : ResolvedParts) (operations : List OperationSignature) (extensions : List ResolvedParts) (number size : ℕ)
       → HasOneText host operations extensions number size
 
+-- an answer has one report
+one_shown : (answer : TextAnswer) (s u : Status) (bytes others : List ℕ) → ShownText answer s bytes → ShownText answer u others
+    → AreOne s u bytes others
+one_shown (reply.Tree printed) s u bytes others (ends, line) (ends', line') = (ends ∙ sym ends', line ∙ sym line')
+one_shown (reply.Stopped place shown) s u bytes others (ends, line) (ends', line') = (ends ∙ sym ends', line ∙ sym line')
+one_shown reply.TooLong s u bytes others (ends, line) (ends', line') = (ends ∙ sym ends', line ∙ sym line')
+
 module _ (answers : Answers) (operations : List OperationSignature) (files : Files) (r : ResolvedParts) (values : List ResolvedParts)
     (s t : Status) (bytes others : List ℕ) where
   -- what is composed has one list of lines
@@ -54,9 +61,9 @@ module _ (answers : Answers) (operations : List OperationSignature) (files : Fil
   )
 
   -- a text has one report
-  one_united : (text : List ℕ) → UnitedReport operations r values text s bytes → UnitedReport operations r values text t others
+  one_text : (text : List ℕ) → TextReport operations r values text s bytes → TextReport operations r values text t others
       → AreOne s t bytes others
-  one_united text x y =
+  one_text text x y =
       let same : y.answer ≡ x.answer = answers.texts r operations values text y.answer x.answer y.is x.is in
       one_shown x.answer s t bytes others x.shown (subst (λ (z : TextAnswer). ShownText z t others) same y.shown)
 
@@ -69,14 +76,14 @@ one_compose_report answers operations files host all s t bytes others =
     (λ r values. Ends Done (ComposedLines operations r values)) s t bytes others
     (λ r values names p q. are_alike s t bytes others (one_composed answers operations files r values s t bytes others p q))
 
--- two reports of `tree` with extensions
-pub one_united_report : Answers → (operations : List OperationSignature) (files : Files) (file host : List ℕ) (all : List (List ℕ))
-    (s t : Status) (bytes others : List ℕ) → UnitedTreeReport operations (Some files) file host all s bytes
-    → UnitedTreeReport operations (Some files) file host all t others → AreAlike s t bytes others
-one_united_report answers operations files file host all s t bytes others =
+-- two reports of `tree`
+pub one_tree_report : Answers → (operations : List OperationSignature) (files : Files) (file host : List ℕ) (all : List (List ℕ))
+    (s t : Status) (bytes others : List ℕ) → TreeReport operations (Some files) file host all s bytes
+    → TreeReport operations (Some files) file host all t others → AreAlike s t bytes others
+one_tree_report answers operations files file host all s t bytes others =
     one_several_report answers.extensions answers.headers operations files host all
     (λ r values. Check TextTooLong (IsTooLongText (Some files) file) (IsText (Some files) file)
-    (λ (text : List ℕ). UnitedReport operations r values text)) s t bytes others
+    (λ (text : List ℕ). TextReport operations r values text)) s t bytes others
     (λ r values names p q. are_alike s t bytes others (one_short_report files file s t bytes others
-    (λ (text : List ℕ). UnitedReport operations r values text)
-    (λ text. one_united answers operations files r values s t bytes others text) p q))
+    (λ (text : List ℕ). TextReport operations r values text)
+    (λ text. one_text answers operations files r values s t bytes others text) p q))

@@ -1,5 +1,5 @@
 -- Words and known files have one status, and one text where a refusal has one.
-use Rattle.std.proofs.Common.{◌≡◌, ◌≢◌, ◌⊎◌, inl, inr, ℕ, List, [], ◌∷◌, Option, Some, ap, sym, ◌∙◌, subst}
+use Rattle.std.proofs.Common.{◌≡◌, ◌≢◌, ◌⊎◌, inl, inr, ℕ, List, Option, Some, ap, sym, ◌∙◌, subst}
 use Rattle.wb_world.specs.Shelf.{Files}
 use Rattle.wb_syntax.specs.Canonical.{IsCanonical}
 use Rattle.wb_certify_files.specs.HostContents.{IsBadText}
@@ -23,11 +23,11 @@ use Rattle.wb_program_inputs.proofs.OneHostReport.{AreAlike}
 use Rattle.wb_program_runs.proofs.OneReport.{RunAnswers, one_run_report, one_generate_report}
 use Rattle.wb_program.specs.Laws.{HasOneRefusal, show_refuses, HaveOneStatus, HaveOneText, EndAsReported}
 use Rattle.wb_program.specs.Report.{InCommandSet, IsReportOf, IsAnswered, IsReport, value_report, show_report, check_report, certify_report}
-use Rattle.wb_program.specs.Report.{compose_report, tree_report, united_tree_report, run_report, generate_report}
+use Rattle.wb_program.specs.Report.{compose_report, tree_report, run_report, generate_report}
 use Rattle.wb_program.specs.ShowReport.{RefusesSpec, ShowReport}
-use Rattle.wb_program.proofs.OneComposeReport.{Answers, one_compose_report, one_united_report}
+use Rattle.wb_program.proofs.OneComposeReport.{Answers, one_compose_report, one_tree_report}
 use Rattle.wb_program.proofs.OneExtensionReport.{one_certify_report}
-use Rattle.wb_program.proofs.OneHostReport.{one_check_report, one_tree_report}
+use Rattle.wb_program.proofs.OneHostReport.{one_check_report}
 use Rattle.wb_program.proofs.OneValueReport.{one_value_report}
 use Rattle.wb_program.proofs.ShowLemmas.{none_bad, one_bad}
 
@@ -101,16 +101,14 @@ one_report_of answers operations files s t bytes others asked (certify_report {h
     (certify_report y) =
     when_alike (a.certify host extensions) s t bytes others tt
     (one_certify_report answers.extensions operations.signatures files host extensions s t bytes others x y)
-one_report_of answers operations files s t bytes others asked (tree_report {text = text} {host = host} x) (tree_report y) =
-    when_alike (a.tree text host []) s t bytes others tt (one_tree_report operations.signatures files text host s t bytes others x y)
 one_report_of answers operations files s t bytes others asked (compose_report {host = host} {extensions = extensions} x)
     (compose_report y) =
     when_alike (a.compose host extensions) s t bytes others tt
     (one_compose_report answers operations.signatures files host extensions s t bytes others x y)
-one_report_of answers operations files s t bytes others asked
-    (united_tree_report {text = text} {host = host} {extension = extension} {extensions = extensions} x) (united_tree_report y) =
-    when_alike (a.tree text host (extension ∷ extensions)) s t bytes others tt
-    (one_united_report answers operations.signatures files text host (extension ∷ extensions) s t bytes others x y)
+one_report_of answers operations files s t bytes others asked (tree_report {text = text} {host = host} {extensions = extensions} x)
+    (tree_report y) =
+    when_alike (a.tree text host extensions) s t bytes others tt
+    (one_tree_report answers operations.signatures files text host extensions s t bytes others x y)
 one_report_of answers operations files s t bytes others asked
     (run_report {text = text} {attribute = attribute} {host = host} {steps = steps} {extensions = extensions} x) (run_report y) =
     when_alike (a.run text attribute steps host extensions) s t bytes others tt

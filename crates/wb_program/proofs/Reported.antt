@@ -11,8 +11,8 @@ use Rattle.wb_syntax_resolved.specs.declared.resolved.ResolvedParts.{ResolvedPar
 use Rattle.wb_eval_root.specs.declared.answer.RootAnswer.{RootAnswer}
 use Rattle.wb_eval_root.specs.declared.answer.RootAnswer.TheVariants as answered
 use Rattle.wb_syntax.specs.Canonical.{IsCanonical}
-use Rattle.wb_compose_trees.specs.declared.answer.TextAnswer.{TextAnswer}
-use Rattle.wb_compose_trees.specs.declared.answer.TextAnswer.TheVariants as text
+use Rattle.wb_compose_texts.specs.declared.text_answer.TextAnswer.{TextAnswer}
+use Rattle.wb_compose_texts.specs.declared.text_answer.TextAnswer.TheVariants as text
 use Rattle.wb_program_words.specs.Asked.{Asked}
 use Rattle.wb_world.specs.Shelf.{Files}
 use Rattle.wb_program_inputs.specs.Checks.{Ends, Check}
@@ -22,11 +22,10 @@ use Rattle.wb_program_inputs.specs.declared.status.Status.{Status}
 use Rattle.wb_program_inputs.specs.declared.status.Status.TheVariants.{Done, SpecRefused, TextTooLong, Absent, ReadFault, NoMemory}
 use Rattle.wb_program.specs.CertifyReport.{ExtensionsReport, CertifyReport}
 use Rattle.wb_program.specs.CheckReport.{CheckReport}
-use Rattle.wb_program.specs.ComposeReport.{ComposeReport, ComposedLines, UnitedReport, UnitedTreeReport}
+use Rattle.wb_program.specs.ComposeReport.{ComposeReport, ComposedLines}
 use Rattle.wb_program_runs.proofs.Reported.{run_reported, generate_reported}
 use Rattle.wb_program.specs.Report.{run_report, generate_report}
 use Rattle.wb_program.specs.Report.{IsReportOf, value_report, show_report, check_report, certify_report, compose_report, tree_report}
-use Rattle.wb_program.specs.Report.{united_tree_report}
 use Rattle.wb_program.specs.ShowReport.{RefusesSpec, ShowReport}
 use Rattle.wb_program.specs.TreeReport.{ShownText, TextReport, TreeReport}
 use Rattle.wb_program.specs.ValueReport.{RootReport, TermReport, ValueReport}
@@ -72,20 +71,6 @@ certify_reported operations known host extensions s bytes (inr (few, report)) =
     by_host (IsHostText operations) (IsHostRefusal operations) known host (λ r. ExtensionsReport operations known r extensions []) s bytes
     (λ r. extensions_reported operations known r extensions [] s bytes) report
 
--- a report of a text
-text_reported : (r : ResolvedParts) (text : List ℕ) (s : Status) (bytes : List ℕ) → TextReport r text s bytes → IsReported s
-text_reported r text s bytes (inl (same, line)) = subst IsReported (sym same) tt
-text_reported r text s bytes (inr (inl (same, line))) = subst IsReported (sym same) tt
-text_reported r text s bytes (inr (inr (same, line))) = subst IsReported (sym same) tt
-
--- a report of `tree`
-tree_reported : (operations : List OperationSignature) (known : Option Files) (text host : List ℕ) (s : Status) (bytes : List ℕ)
-    → TreeReport operations known text host s bytes → IsReported s
-tree_reported operations known file host s bytes =
-    by_host (IsHostText operations) (IsHostRefusal operations) known host
-    (λ r. Check TextTooLong (IsTooLongText known file) (IsText known file) (λ (text : List ℕ). TextReport r text)) s bytes
-    (λ r. by_text known file (λ (text : List ℕ). TextReport r text) s bytes (λ text. text_reported r text s bytes))
-
 -- a report of an attribute at the root of a term
 root_reported : (file attribute : List ℕ) (answer : RootAnswer) (s : Status) (bytes : List ℕ) → RootReport file attribute answer s bytes
     → IsReported s
@@ -119,13 +104,13 @@ shown_reported (text.Tree printed) s bytes (same, line) = subst IsReported (sym 
 shown_reported (text.Stopped place shown) s bytes (same, line) = subst IsReported (sym same) tt
 shown_reported text.TooLong s bytes (same, line) = subst IsReported (sym same) tt
 
--- a report of `tree` with extensions
-united_reported : (operations : List OperationSignature) (known : Option Files) (file host : List ℕ) (all : List (List ℕ)) (s : Status)
-    (bytes : List ℕ) → UnitedTreeReport operations known file host all s bytes → IsReported s
-united_reported operations known file host all s bytes =
+-- a report of `tree`
+tree_reported : (operations : List OperationSignature) (known : Option Files) (file host : List ℕ) (all : List (List ℕ)) (s : Status)
+    (bytes : List ℕ) → TreeReport operations known file host all s bytes → IsReported s
+tree_reported operations known file host all s bytes =
     several_reported operations known all s bytes host (λ r values. Check TextTooLong (IsTooLongText known file) (IsText known file)
-    (λ (contents : List ℕ). UnitedReport operations r values contents))
-    (λ r values. by_text known file (λ (contents : List ℕ). UnitedReport operations r values contents) s bytes
+    (λ (contents : List ℕ). TextReport operations r values contents))
+    (λ r values. by_text known file (λ (contents : List ℕ). TextReport operations r values contents) s bytes
     (λ contents report. shown_reported report.answer s bytes report.shown))
 
 -- the report of what is asked
@@ -138,13 +123,10 @@ is_reported operations known s bytes asked (check_report {host = host} report) =
     check_reported operations.signatures known host s bytes report
 is_reported operations known s bytes asked (certify_report {host = host} {extensions = extensions} report) =
     certify_reported operations.signatures known host extensions s bytes report
-is_reported operations known s bytes asked (tree_report {text = text} {host = host} report) =
-    tree_reported operations.signatures known text host s bytes report
 is_reported operations known s bytes asked (compose_report {host = host} {extensions = extensions} report) =
     compose_reported operations.signatures known host extensions s bytes report
-is_reported operations known s bytes asked
-    (united_tree_report {text = text} {host = host} {extension = extension} {extensions = extensions} report) =
-    united_reported operations.signatures known text host (extension ∷ extensions) s bytes report
+is_reported operations known s bytes asked (tree_report {text = text} {host = host} {extensions = extensions} report) =
+    tree_reported operations.signatures known text host extensions s bytes report
 is_reported operations known s bytes asked
     (run_report {text = text} {attribute = attribute} {host = host} {steps = steps} {extensions = extensions} report) =
     run_reported operations known text attribute steps host extensions s bytes report

@@ -1,20 +1,15 @@
--- What `compose HOST EXT..` reports, and `tree --text FILE HOST EXT..` where there are extensions.
+-- What `compose HOST EXT..` reports.
 use Rattle.std.specs.Prelude.{◌≡◌, ℕ, Option, List, length}
 use Rattle.wb_operations.specs.Operations.{OperationSignature}
 use Rattle.wb_report.specs.Lines.{report_of}
 use Rattle.wb_report.specs.declared.done.Done.TheVariants as done
 use Rattle.wb_report.specs.declared.outcome.Outcome.TheVariants as o
 use Rattle.wb_syntax_resolved.specs.declared.resolved.ResolvedParts.{ResolvedParts}
-use Rattle.wb_compose_trees.specs.declared.answer.TextAnswer.{TextAnswer}
-use Rattle.wb_compose_texts.specs.Answers.{IsUnitedTextAnswer}
 use Rattle.wb_compose_texts.specs.Withdrawn.{AreWithdrawnNames}
 use Rattle.wb_world.specs.Shelf.{Files}
-use Rattle.wb_program_inputs.specs.Checks.{Report, Ends, Check}
+use Rattle.wb_program_inputs.specs.Checks.{Report, Ends}
 use Rattle.wb_program_inputs.specs.SeveralChecks.{SeveralChecks}
-use Rattle.wb_program_inputs.specs.Texts.{IsText, IsTooLongText}
-use Rattle.wb_program_inputs.specs.declared.status.Status.{Status}
-use Rattle.wb_program_inputs.specs.declared.status.Status.TheVariants.{Done, TextTooLong}
-use Rattle.wb_program.specs.TreeReport.{ShownText}
+use Rattle.wb_program_inputs.specs.declared.status.Status.TheVariants.{Done}
 
 -- the host with its extensions has these markers without a bare form, and the lines say so
 pub record ComposedLines (operations : List OperationSignature) (host : ResolvedParts) (extensions : List ResolvedParts) (bytes : List ℕ)
@@ -27,16 +22,3 @@ pub record ComposedLines (operations : List OperationSignature) (host : Resolved
 abbrev pub ComposeReport : List OperationSignature → Option Files → (host : List ℕ) → (extensions : List (List ℕ)) → Report
 ComposeReport operations known host extensions =
     SeveralChecks operations known host extensions (λ r values. Ends Done (ComposedLines operations r values))
-
--- the text has an answer in the language of the host with its extensions, and this is its status and line
-pub record UnitedReport (operations : List OperationSignature) (host : ResolvedParts) (extensions : List ResolvedParts) (text : List ℕ)
-    (status : Status) (bytes : List ℕ) : Type 0 where
-  pub answer : TextAnswer
-  pub is : IsUnitedTextAnswer host operations extensions text answer
-  pub shown : ShownText answer status bytes
-
--- the extensions, then the text, then its answer
-abbrev pub UnitedTreeReport : List OperationSignature → Option Files → (text host : List ℕ) → (extensions : List (List ℕ)) → Report
-UnitedTreeReport operations known file host extensions =
-    SeveralChecks operations known host extensions (λ r values. Check TextTooLong (IsTooLongText known file) (IsText known file)
-    (λ (text : List ℕ). UnitedReport operations r values text))

@@ -8,7 +8,7 @@ pub mod CertifyReport
 pub mod TreeReport
 -- the report of `value`
 pub mod ValueReport
--- the reports of `compose`, and of `tree` with extensions
+-- the report of `compose`
 pub mod ComposeReport
 -- the report of words and files
 pub mod Report

@@ -5,7 +5,7 @@ use Rattle.wb_operations.specs.Operations.{OperationSignature}
 use Rattle.wb_program_words.specs.Asked.{Asked}
 use Rattle.wb_program_words.specs.Asked as a
 use Rattle.wb_program_words.specs.Words.{Asks}
-use Rattle.wb_program_inputs.specs.Reads.{Read, specification, certified_host, well_defined_host, certified_extension, parsed_text}
+use Rattle.wb_program_inputs.specs.Reads.{Read, specification, certified_host, well_defined_host, certified_extension}
 use Rattle.wb_program_inputs.specs.Reads.{written_term}
 use Rattle.wb_program_inputs.specs.Reads.{StopsAt, StopsComposed, IsMissing, IsFaulty}
 use Rattle.wb_program_runs.specs.RunReport.{RunStops}
@@ -18,13 +18,11 @@ pub data AreReads : Asked → List Read → Type 0 where
   -- none where there are too many extensions
   certify_reads : {host : List ℕ} {extensions : List (List ℕ)} → length extensions ≤ 64
       → AreReads (a.certify host extensions) (certified_host host ∷ map (certified_extension host) extensions)
-  tree_reads : {text host : List ℕ} → AreReads (a.tree text host []) (certified_host host ∷ parsed_text text ∷ [])
 
 -- a command that composes extensions comes to read a file that meets this
 abbrev pub StopsSeveral : List OperationSignature → Option Files → Asked → (List ℕ → Type 0) → Type 0
 StopsSeveral operations known (a.compose host extensions) P = StopsComposed operations known host extensions P (λ r values. ⊥)
-StopsSeveral operations known (a.tree text host (extension ∷ extensions)) P =
-    StopsComposed operations known host (extension ∷ extensions) P (λ r values. P text)
+StopsSeveral operations known (a.tree text host extensions) P = StopsComposed operations known host extensions P (λ r values. P text)
 StopsSeveral operations known (a.run text attribute steps host extensions) P = RunStops operations known text attribute host extensions P
 StopsSeveral operations known (a.generate number size attribute host extensions) P =
     StopsComposed operations known host extensions P (λ r values. ⊥)

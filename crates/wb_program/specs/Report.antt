@@ -1,5 +1,5 @@
 -- Which status and which bytes the words and the files give, where operations mean what they mean.
-use Rattle.std.specs.Prelude.{◌≡◌, ◌⊎◌, ℕ, Option, List, [], ◌∷◌}
+use Rattle.std.specs.Prelude.{◌≡◌, ◌⊎◌, ℕ, Option, List}
 use Rattle.wb_world.specs.Shelf.{Files}
 use Rattle.wb_operations.specs.Operations.{Operations}
 use Rattle.wb_report.specs.Lines.{report_of}
@@ -13,7 +13,7 @@ use Rattle.wb_program_runs.specs.GenerateReport.{GenerateReport}
 use Rattle.wb_program_runs.specs.RunReport.{RunReport}
 use Rattle.wb_program.specs.CertifyReport.{CertifyReport}
 use Rattle.wb_program.specs.CheckReport.{CheckReport}
-use Rattle.wb_program.specs.ComposeReport.{ComposeReport, UnitedTreeReport}
+use Rattle.wb_program.specs.ComposeReport.{ComposeReport}
 use Rattle.wb_program.specs.ShowReport.{ShowReport}
 use Rattle.wb_program.specs.TreeReport.{TreeReport}
 use Rattle.wb_program.specs.ValueReport.{ValueReport}
@@ -29,13 +29,9 @@ pub data IsReportOf (operations : Operations) (known : Option Files) (status : S
       → IsReportOf operations known status bytes (a.certify host extensions)
   compose_report : {host : List ℕ} {extensions : List (List ℕ)} → ComposeReport operations.signatures known host extensions status bytes
       → IsReportOf operations known status bytes (a.compose host extensions)
-  -- of a host without extensions
-  tree_report : {text host : List ℕ} → TreeReport operations.signatures known text host status bytes
-      → IsReportOf operations known status bytes (a.tree text host [])
-  -- of one with extensions
-  united_tree_report : {text host extension : List ℕ} {extensions : List (List ℕ)}
-      → UnitedTreeReport operations.signatures known text host (extension ∷ extensions) status bytes
-      → IsReportOf operations known status bytes (a.tree text host (extension ∷ extensions))
+  tree_report : {text host : List ℕ} {extensions : List (List ℕ)}
+      → TreeReport operations.signatures known text host extensions status bytes
+      → IsReportOf operations known status bytes (a.tree text host extensions)
   run_report : {text attribute host : List ℕ} {steps : ℕ} {extensions : List (List ℕ)}
       → RunReport operations known text attribute steps host extensions status bytes
       → IsReportOf operations known status bytes (a.run text attribute steps host extensions)

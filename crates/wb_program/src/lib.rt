@@ -11,7 +11,6 @@ mod laws;
 mod program;
 mod show;
 mod tree;
-mod united;
 mod value;
 mod writing;
 

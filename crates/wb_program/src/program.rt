@@ -20,7 +20,6 @@ use crate::check::answer_check;
 use crate::compose::answer_compose;
 use crate::show::answer_show;
 use crate::tree::answer_tree;
-use crate::united::answer_united;
 use crate::value::answer_value;
 use crate::writing::write_report;
 use std::alloc::{AllocError, Global};
@@ -126,12 +125,7 @@ fn answer_to<S: Shelf, M: Meaning>(
             text,
             host,
             extensions,
-        } => {
-            if extensions.is_empty() {
-                return answer_tree(alloc, shelf, text, host, operations);
-            }
-            answer_united(alloc, shelf, text, host, extensions, operations)
-        }
+        } => answer_tree(alloc, shelf, text, host, extensions, operations),
         Command::Compose { host, extensions } => {
             answer_compose(alloc, shelf, host, extensions, operations)
         }

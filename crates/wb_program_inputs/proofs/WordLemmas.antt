@@ -1,5 +1,5 @@
 -- The texts of words, and from a place on.
-use Rattle.std.proofs.Common.{String, Global, string_bytes, get_or, ap, arith, ◌≡◌, ◌≢◌, ◌<◌, ◌≤◌, ◌+◌, ℕ, List, [], ◌∷◌, length, drop}
+use Rattle.std.proofs.Common.{String, Global, string_bytes, get_or, ap, ◌≡◌, ◌<◌, ◌≤◌, ◌+◌, ℕ, List, [], ◌∷◌, length, drop}
 use Rattle.std.proofs.Common.{subst, sym}
 use Rattle.std.proofs.lemmas.List.{drop-map, length-map}
 use Rattle.wb_lemmas.proofs.Parts.{drop_from, drop_past}
@@ -8,11 +8,6 @@ use Rattle.wb_program_words.specs.Words.{texts}
 -- the texts of words are as many
 pub few_texts : (words : List (String Global)) (most : ℕ) → length words ≤ most → length (texts words) ≤ most
 few_texts words most few = subst (λ (n : ℕ). n ≤ most) (sym (length-map words string_bytes)) few
-
--- and there is one where there is a word
-pub some_texts : (words : List (String Global)) → 0 < length words → texts words ≢ []
-some_texts [] some same = absurd (omega (arith, some))
-some_texts (word ∷ words) some same = absurd (cc same)
 
 -- the texts from a place on begin with that of the word there
 pub texts_from : (words : List (String Global)) (at : ℕ) (word : String Global) (file : List ℕ) → at < length words

@@ -20,8 +20,6 @@ pub data Read : Type 0 where
   well_defined_host : List ℕ → Read
   -- an extension that is certified beside the host of a file
   certified_extension : (host : List ℕ) → List ℕ → Read
-  -- a text that is parsed
-  parsed_text : List ℕ → Read
   -- a term
   written_term : List ℕ → Read
 
@@ -31,7 +29,6 @@ file_of (specification file) = file
 file_of (certified_host file) = file
 file_of (well_defined_host file) = file
 file_of (certified_extension host file) = file
-file_of (parsed_text file) = file
 file_of (written_term file) = file
 
 -- the file is an extension that is certified beside the host of another file
@@ -48,7 +45,6 @@ Passes operations known (certified_host file) = KnownFile known file (λ content
 Passes operations known (well_defined_host file) =
     KnownFile known file (λ contents. (r : ResolvedParts) × IsWellDefinedText operations contents r)
 Passes operations known (certified_extension host file) = IsCertifiedBesideFile operations known host file
-Passes operations known (parsed_text file) = Unit {0}
 Passes operations known (written_term file) = Unit {0}
 
 -- a file of the list meets this, and all before it pass their checks

@@ -34,7 +34,7 @@ use Rattle.wb_report.specs.declared.shown.ShownStop.{ShownStop}
 use Rattle.wb_syntax_resolved.specs.declared.resolved.ResolvedParts.{ResolvedParts}
 use Rattle.wb_eval_root.specs.Asked.{IsAskedOn}
 use Rattle.wb_eval_root.specs.declared.value.TreeValue.{TreeValue}
-use Rattle.wb_compose_trees.specs.declared.answer.TextAnswer.TheVariants as a
+use Rattle.wb_compose_texts.specs.declared.text_answer.TextAnswer.TheVariants as a
 use Rattle.wb_compose_theory_grammar.specs.Places.{total_of}
 use Rattle.wb_compose_texts.specs.Answers.{IsUnitedTextAnswer, StopsShown}
 use Rattle.wb_compose_texts.specs.Names.{stop_shown, terminals_of}

@@ -10,8 +10,8 @@ use Rattle.wb_compose_theory_order.specs.Laws.{HasSameAnswers}
 use Rattle.wb_compose_theory_order.specs.Orders.{IsReordering}
 use Rattle.wb_syntax_resolved.specs.declared.resolved.ResolvedParts.{ResolvedParts}
 use Rattle.wb_terms.specs.Printed.{printed_tree}
-use Rattle.wb_compose_trees.specs.declared.answer.TextAnswer.{TextAnswer}
-use Rattle.wb_compose_trees.specs.declared.answer.TextAnswer.TheVariants as a
+use Rattle.wb_compose_texts.specs.declared.text_answer.TextAnswer.{TextAnswer}
+use Rattle.wb_compose_texts.specs.declared.text_answer.TextAnswer.TheVariants as a
 use Rattle.wb_compose_theory.specs.Renamings.{Renaming}
 use Rattle.wb_compose_texts.specs.Answers.{HasPrintedTree, IsAnswerIn, IsUnitedTextAnswer}
 use Rattle.wb_compose_texts.specs.Names.{stop_shown, terminals_of}
@@ -28,8 +28,7 @@ use Rattle.wb_program_inputs.specs.Checks.{Check, Report}
 use Rattle.wb_program_inputs.specs.Texts.{IsText, IsTooLongText}
 use Rattle.wb_program_inputs.specs.declared.status.Status.{Status}
 use Rattle.wb_program_inputs.specs.declared.status.Status.TheVariants.{TextTooLong}
-use Rattle.wb_program.specs.ComposeReport.{UnitedReport}
-use Rattle.wb_program.specs.TreeReport.{ShownText}
+use Rattle.wb_program.specs.TreeReport.{ShownText, TextReport}
 use Rattle.wb_program_theory.proofs.UnionLemmas.{is_language_there, language_there, names, same_texts, union_there}
 
 -- a tree in other numbers is a value too
@@ -88,8 +87,8 @@ module _ (host : ResolvedParts) (operations : List OperationSignature) (extensio
       )
 
   -- the report of a text in the other order
-  pub united_there : (text : List ℕ) (status : Status) (bytes : List ℕ) → UnitedReport operations host extensions text status bytes
-      → UnitedReport operations host others text status bytes
+  pub united_there : (text : List ℕ) (status : Status) (bytes : List ℕ) → TextReport operations host extensions text status bytes
+      → TextReport operations host others text status bytes
   united_there text status bytes x =
       let (y, y_is) = answer_there x.is.whole x.is.language x.is.is_language text x.answer x.is.is in
       let same : x.answer ≡ y = same_answer host operations extensions others to from re text x.answer y x.is y_is in
@@ -109,7 +108,7 @@ answer_refuses_none = record {
 abbrev FileReport : List OperationSignature → Files → List ℕ → ResolvedParts → List ResolvedParts → Report
 FileReport operations files text r values =
     Check TextTooLong (IsTooLongText (Some files) text) (IsText (Some files) text)
-    (λ (contents : List ℕ). UnitedReport operations r values contents)
+    (λ (contents : List ℕ). TextReport operations r values contents)
 
 file_there : (operations : List OperationSignature) (files : Files) (text : List ℕ) (status : Status) (bytes : List ℕ) (r : ResolvedParts)
     (values others : List ResolvedParts) (to from : ℕ → ℕ) → IsReordering to from values others

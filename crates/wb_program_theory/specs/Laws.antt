@@ -5,7 +5,7 @@ use Rattle.wb_compose_theory_order.specs.Orders.{IsReordering}
 use Rattle.wb_world.specs.Shelf.{Files}
 use Rattle.wb_program_inputs.specs.declared.status.Status.{Status}
 use Rattle.wb_program_inputs.specs.declared.status.Status.TheVariants.{Done, TextStopped, TooLongToPrint}
-use Rattle.wb_program.specs.ComposeReport.{UnitedTreeReport}
+use Rattle.wb_program.specs.TreeReport.{TreeReport}
 
 -- the status is that of a text's answer: a tree, a stop, or a tree that is too long to print
 abbrev pub IsAnswerStatus : Status → Type 0
@@ -18,5 +18,5 @@ IsAnswerStatus other = ⊥
 abbrev pub HaveOneOrder : Type 0
 HaveOneOrder = (operations : List OperationSignature) (known : Files) (text host : List ℕ) (files others : List (List ℕ))
     (to from : ℕ → ℕ) (status : Status) (bytes : List ℕ) → IsReordering to from files others → IsAnswerStatus status
-    → UnitedTreeReport operations (Some known) text host files status bytes
-    → UnitedTreeReport operations (Some known) text host others status bytes
+    → TreeReport operations (Some known) text host files status bytes
+    → TreeReport operations (Some known) text host others status bytes

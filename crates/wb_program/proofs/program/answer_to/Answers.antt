@@ -1,21 +1,17 @@
 -- Each command's answer is the report of what it asks.
-use Rattle.std.proofs.Common.{rules, ◌≡◌, ◌≢◌, ◌<◌, ℕ, List, [], ◌∷◌, inl, inr, length, map, ap, sym, subst}
-use Rattle.std.proofs.lemmas.List.{nil_from_length}
+use Rattle.std.proofs.Common.{[], ◌∷◌, inl, inr, map}
 use Rattle.wb_operations.specs.Operations.{Operations}
-use Rattle.wb_program_words.specs.Asked as a
 use Rattle.wb_program_words.specs.Words.{texts}
-use Rattle.wb_program_inputs.specs.Reads.{specification, certified_host, well_defined_host, certified_extension, parsed_text, written_term}
+use Rattle.wb_program_inputs.specs.Reads.{specification, certified_host, well_defined_host, certified_extension, written_term}
 use Rattle.wb_program_inputs.specs.Reads.{StopsComposed}
 use Rattle.wb_program_inputs.specs.Stopped.{outside}
-use Rattle.wb_program_inputs.proofs.WordLemmas.{some_texts}
 use Rattle.wb_program_runs.specs.GenerateReport.{GenerateReport}
 use Rattle.wb_program_runs.specs.RunReport.{RunReport, RunStops}
 use Rattle.wb_program_inputs.specs.Makes.{Answers}
-use Rattle.wb_program.specs.Report.{IsReportOf, run_report, generate_report}
+use Rattle.wb_program.specs.Report.{run_report, generate_report}
 use Rattle.wb_program.specs.Report.{value_report, show_report, check_report, certify_report, compose_report, tree_report}
-use Rattle.wb_program.specs.Reads.{ReadsTo, value_reads, show_reads, check_reads, certify_reads, tree_reads}
+use Rattle.wb_program.specs.Reads.{value_reads, show_reads, check_reads, certify_reads}
 use Rattle.wb_program.proofs.Answering.{of_command}
-use Rattle.wb_program.proofs.ComposeLemmas.{united_answered, united_reads}
 use Rattle.wb_program.proofs.program.answer_to.Goals as goal
 
 pub returns-in-Value : goal.returns-in-Value
@@ -54,32 +50,12 @@ returns-in-Certify g c =
       stops = stops.1;
     }))
 
-pub returns-then-is_empty : goal.returns-then-is_empty
-returns-then-is_empty g c =
-    let files = g.S.Shelf.files c.args.shelf.now in
+pub returns-in-Tree : goal.returns-in-Tree
+returns-in-Tree g c =
     let operations : Operations = record { signatures = c.args.operations.now.signatures; meaning = g.M.Meaning.meaning } in
-    let text = c.in-Tree.text.now in
-    let host = c.in-Tree.host.now in
-    let none_there : length c.in-Tree.extensions.now ≡ 0 = search rules in
-    let none_left : texts c.in-Tree.extensions.now ≡ [] = ap texts (nil_from_length c.in-Tree.extensions.now none_there) in
     of_command operations c.answer_tree.result c.args.command c.in-Tree.is c.answer_tree.ensures
-    (λ answer report. subst (λ (extensions : List (List ℕ)). IsReportOf operations files answer.status answer.report.items
-    (a.tree text host extensions)) (sym none_left) (tree_report report))
-    (λ P stops. subst (λ (extensions : List (List ℕ)). ReadsTo operations.signatures files (a.tree text host extensions) P) (sym none_left)
-    (inl (record { reads = certified_host host ∷ parsed_text text ∷ []; are_reads = tree_reads; stops = stops })))
-
-pub returns-else-is_empty : goal.returns-else-is_empty
-returns-else-is_empty g c =
-    let files = g.S.Shelf.files c.args.shelf.now in
-    let operations : Operations = record { signatures = c.args.operations.now.signatures; meaning = g.M.Meaning.meaning } in
-    let text = c.in-Tree.text.now in
-    let host = c.in-Tree.host.now in
-    let extensions = texts c.in-Tree.extensions.now in
-    let some_there : 0 < length c.in-Tree.extensions.now = search rules in
-    let some : extensions ≢ [] = some_texts c.in-Tree.extensions.now some_there in
-    of_command operations c.answer_united.result c.args.command c.in-Tree.is c.answer_united.ensures
-    (λ answer. united_answered operations files text host extensions answer.status answer.report.items some)
-    (λ P. united_reads operations.signatures files text host extensions P some)
+    (λ answer report. tree_report report)
+    (λ P stops. inr stops)
 
 pub returns-in-Compose : goal.returns-in-Compose
 returns-in-Compose g c =

@@ -1,48 +1,71 @@
--- A text is read after its host, and its report comes after that host's checks.
-use Rattle.std.proofs.Common.{rules, ℕ, List, [], ◌∷◌, Option, inl, inr, subst}
+-- A text is read after the host and the extensions, and its report comes after theirs.
+use Rattle.std.proofs.Common.{ℕ, List, Option, inr, subst}
+use Rattle.wb_certify.specs.Kept.{ExtensionView}
+use Rattle.wb_operations.specs.Operations.{OperationSignature}
+use Rattle.wb_syntax_resolved.specs.declared.resolved.ResolvedParts.{ResolvedParts}
+use Rattle.wb_compose_texts.specs.Unions.{all_resolved}
+use Rattle.wb_program_words.specs.Words.{texts}
 use Rattle.wb_world.specs.Shelf.{Files}
 use Rattle.wb_program_inputs.specs.Checks.{Check, Report}
+use Rattle.wb_program_inputs.specs.Composable.{AreRead, RefusesAny}
+use Rattle.wb_program_inputs.specs.Stopped.{outside}
 use Rattle.wb_program_inputs.specs.Texts.{IsText, IsTooLongText}
-use Rattle.wb_program_inputs.specs.HostChecks.{IsHostFile, RefusesHost}
-use Rattle.wb_program_inputs.specs.Reads.{certified_host, parsed_text}
 use Rattle.wb_program_inputs.specs.declared.status.Status.TheVariants.{TextTooLong}
-use Rattle.wb_program_inputs.proofs.CauseLemmas.{err_of, some_certified}
+use Rattle.wb_program_inputs.proofs.CauseLemmas.{err_of, ok_of}
+use Rattle.wb_program_inputs.proofs.ComposeLemmas.{composed_ended, several_ended, several_read}
 use Rattle.wb_program.specs.TreeReport.{TextReport}
-use Rattle.wb_program_inputs.proofs.MakesLemmas.{answered, handed_first, made_since}
-use Rattle.wb_program.proofs.HostLemmas.{tree_certified, tree_refused}
-use Rattle.wb_certify_files.specs.HostContents.{IsHostRefusal}
+use Rattle.wb_program_inputs.proofs.MakesLemmas.{answered, handed, made_since}
 use Rattle.wb_program.proofs.tree.answer_tree.Goals as goal
 
 pub returns-in-Ok : goal.returns-in-Ok
 returns-in-Ok g c =
-    let files = g.S.Shelf.files c.args.shelf.now in
-    let operations = c.args.operations.now.signatures in
-    let r = c.in-Ok.certified.resolved in
+    let known = g.S.Shelf.files c.args.shelf.now in
+    let between = g.S.Shelf.files c.read_composable.new.shelf in
+    let signatures = c.args.operations.now.signatures in
     let host = c.args.host.now in
+    let extensions = texts c.args.extensions.now in
     let file = c.args.text.now in
-    let is : IsHostFile operations files host r = search rules in
-    let Shows : Option Files → Report = λ known.
-    Check TextTooLong (IsTooLongText known file) (IsText known file) (λ (text : List ℕ). TextReport r text) in
-    made_since c.answer_text-answer.result c.read_host.ensures.goes_on c.answer_text-answer.ensures
-    (λ answer shown. tree_certified operations files file host r answer.status answer.report.items is
-    (subst (λ (known : Option Files). Shows known answer.status answer.report.items) c.read_host.ensures.goes_on.files
-    (shown is.certified.grammar is.certified.start)))
-    (λ P Q weaker meets. inr (some_certified operations files host r is.contents, inl (weaker file meets)))
+    let all = c.in-Ok.all in
+    let es = all.extensions.items in
+    let are : AreRead signatures known host extensions all =
+    ok_of c.in_ok-all.field-0 all (AreRead signatures known host extensions) c.in-Ok.is c.in_ok-all.ensures.ok in
+    let Shows : List OperationSignature → List ExtensionView → Option Files → Report = λ operations list told.
+    Check TextTooLong (IsTooLongText told file) (IsText told file)
+    (λ (text : List ℕ). TextReport operations all.host.resolved (all_resolved list) text) in
+    let rest : ResolvedParts → List ResolvedParts → Report = λ r values.
+    Check TextTooLong (IsTooLongText known file) (IsText known file) (λ (text : List ℕ). TextReport signatures r values text) in
+    made_since c.answer_text-answer.result c.read_composable.ensures.goes_on c.answer_text-answer.ensures
+    (λ answer shown. several_read signatures host extensions known rest all answer.status answer.report.items are
+    (subst (λ (told : Option Files). Shows signatures es told answer.status answer.report.items) c.read_composable.ensures.goes_on.files
+    (subst (λ (operations : List OperationSignature). Shows operations es between answer.status answer.report.items) are.signatures
+    (subst (λ (list : List ExtensionView). Shows all.host.operations list between answer.status answer.report.items)
+    c.deref.ensures.value shown))))
+    (λ P Q weaker meets. (are.few, inr (all.host.resolved, are.is_host, inr (all_resolved es, are.each, weaker file meets))))
 
 pub returns-in-Err : goal.returns-in-Err
 returns-in-Err g c =
     let known = g.S.Shelf.files c.args.shelf.now in
-    let operations = c.args.operations.now.signatures in
+    let signatures = c.args.operations.now.signatures in
     let host = c.args.host.now in
+    let extensions = texts c.args.extensions.now in
+    let file = c.args.text.now in
     let answer = c.in-Err.answer in
-    let refused : RefusesHost (IsHostRefusal operations) known host answer.status answer.report.items =
-    err_of c.in_ok-certified.field-0 answer (λ made. RefusesHost (IsHostRefusal operations) known host made.status made.report.items)
-    c.in-Err.is c.in_ok-certified.ensures.refused in
-    answered answer (tree_refused operations known c.args.text.now host answer.status answer.report.items refused)
-    c.read_host.ensures.goes_on
+    answered answer
+    (several_ended signatures host extensions known
+    (λ r values. Check TextTooLong (IsTooLongText known file) (IsText known file)
+    (λ (text : List ℕ). TextReport signatures r values text))
+    answer.status answer.report.items
+    (err_of c.in_ok-all.field-0 answer (λ made. RefusesAny signatures known host extensions made.status made.report.items) c.in-Err.is
+    c.in_ok-all.ensures.refused))
+    c.read_composable.ensures.goes_on
 
-pub returns-in_err-certified : goal.returns-in_err-certified
-returns-in_err-certified g c =
-    handed_first c.args.operations.now.signatures (certified_host c.args.host.now) (parsed_text c.args.text.now ∷ [])
-    c.from_residual.result c.in_err-certified.field-0.0 c.from_residual.ensures.1 c.in_err-certified.ensures.stopped
-    c.read_host.ensures.goes_on
+pub returns-in_err-all : goal.returns-in_err-all
+returns-in_err-all g c =
+    let before = outside (g.S.Shelf.files c.args.shelf.now) (g.S.Shelf.absences c.args.shelf.now) (g.S.Shelf.faults c.args.shelf.now) in
+    let now = outside (g.S.Shelf.files c.read_composable.new.shelf) (g.S.Shelf.absences c.read_composable.new.shelf)
+    (g.S.Shelf.faults c.read_composable.new.shelf) in
+    let failure = c.in_err-all.field-0.0 in
+    handed c.from_residual.result failure c.from_residual.ensures.1
+    (composed_ended c.args.operations.now.signatures c.args.host.now (texts c.args.extensions.now) before now
+    (λ P r values. P c.args.text.now) failure c.in_err-all.ensures.stopped)
+    c.read_composable.ensures.goes_on

@@ -1,9 +1,8 @@
 -- The answer of a text is shown.
 use Rattle.wb_compose_texts.specs.Unions.{all_resolved}
 use Rattle.wb_program_inputs.proofs.CauseLemmas.{on_ok}
-use Rattle.wb_program.specs.ComposeReport.{UnitedReport}
-use Rattle.wb_program.specs.TreeReport.{ShownText}
-use Rattle.wb_program.proofs.united.composed_answer.Goals as goal
+use Rattle.wb_program.specs.TreeReport.{ShownText, TextReport}
+use Rattle.wb_program.proofs.tree.composed_answer.Goals as goal
 
 pub returns : goal.returns
 returns c =
@@ -11,5 +10,5 @@ returns c =
     let values = all_resolved c.args.extensions.now in
     let text = c.in_ok-answer.answer in
     on_ok c.shown_text.result (λ answer. ShownText text answer.status answer.report.items)
-    (λ answer. UnitedReport host.operations host.resolved values c.args.text.now answer.status answer.report.items)
+    (λ answer. TextReport host.operations host.resolved values c.args.text.now answer.status answer.report.items)
     (λ answer shown. record { answer = text; is = c.in_ok-answer.ensures; shown = shown }) c.shown_text.ensures

@@ -1,2 +1,0 @@
-mod HostLemmas
-mod RangeLemmas

@@ -1,2 +1,0 @@
--- the language of a host by itself
-pub mod HostLanguage

@@ -1,2 +1,0 @@
--- what a text is in the language of a host
-pub mod Answers
