@@ -1,15 +1,13 @@
 -- What the equations for a forwarded tree reach is what the test finds.
-use Rattle.std.proofs.Common.{◌≡◌, ◌∙◌, ◌∷◌, [], ◌⊎◌, inl, inr, ℕ, Bool, true, false, List, Some, length, refl, sym, ap, subst}
+use Rattle.std.proofs.Common.{◌≡◌, ◌∙◌, ◌⊎◌, inl, inr, ℕ, true, false, Some, refl, sym, ap, subst}
 use Rattle.std.proofs.Common.{slice_get, Contains, Option, None, is_some}
 use Rattle.std.specs.Option.{IfNone}
-use Rattle.std.specs.Prelude.{◌↔◌, option_map, slice_index_or}
+use Rattle.std.specs.Prelude.{option_map}
 use Rattle.wb_lemmas.proofs.Elements.{all_contained}
-use Rattle.wb_lemmas.proofs.Members.{contains_first, contains_one}
 use Rattle.wb_lemmas.proofs.Places.{at_once}
-use Rattle.wb_graph.specs.Graphs.{AreReached, IsReached, Walk}
 use Rattle.wb_flow_theory.specs.Modular.{IsBridging, ForwardEquationsReach}
 use Rattle.wb_flow_theory.specs.Vertices as w
-use Rattle.wb_flow_theory.specs.Occurrences.{Goes, ForwardNeeds}
+use Rattle.wb_flow_theory.specs.Occurrences.{Goes}
 use Rattle.wb_flow_theory.specs.Flow.{Reaches}
 use Rattle.wb_flow.specs.declared.refusal.AttributeRefusal.{AttributeRefusal}
 use Rattle.wb_flow.specs.declared.refusal.AttributeRefusal.TheVariants as r
@@ -18,11 +16,12 @@ use Rattle.wb_flow.specs.declared.vertex.Vertex.{Vertex}
 use Rattle.wb_flow.specs.declared.vertex.Vertex.TheVariants as code
 use Rattle.wb_flow.specs.Graphs.{IsFlowGraph}
 use Rattle.wb_flow.specs.Rules.{IsDefined, target_of}
+use Rattle.wb_flow.specs.Tops.{LeadsToTop}
 use Rattle.wb_flow.specs.Vertices.{vertex_of, vertex_below}
 use Rattle.wb_flow.proofs.ArrowLemmas.{defined_rule, below_rule}
 use Rattle.wb_flow.proofs.VertexLemmas.{name_of, name_of_vertex, top_is, direction_is}
 use Rattle.wb_flow.proofs.WalkLemmas.{PlaceOf, place_of_vertex, reaches_walk, walk_leads, reaches_from, reaches_to}
-use Rattle.wb_complete.specs.Inner.ForwardTests.{is_forward, KeepsForward, KeepsFrom, IsOutside, RefusesProduction}
+use Rattle.wb_complete.specs.Inner.ForwardTests.{is_forward, KeepsForward, IsAllowed, KeepsFrom, RefusesProduction}
 use Rattle.wb_complete.specs.ForwardRefusals.{ReadsOutside, HasForwardRead, IsTrueForwardRefusal}
 use Rattle.wb_syntax_resolved.specs.declared.attributes.Attribute.{Attribute}
 use Rattle.wb_syntax_resolved.specs.declared.attributes.Direction.TheVariants.{Inherited}
@@ -97,60 +96,49 @@ module _ (a : AttributionParts) (is : IsAttribution a) (production : Production)
       each place.place place.name place.at x name i rule reaches
 
   module _ (start : ℕ) (vertex : Vertex) (at : slice_get graph.vertices start ≡ Some vertex) (x : ℕ) (name : vertex ≡ code.Forward x)
-      (flags : List Bool) (reached : AreReached (length graph.vertices) graph.edges (start ∷ []) flags) (allowed : List ℕ)
-      (allows : (i : ℕ) → Contains allowed i ↔ ForwardNeeds a production.left i) where
-    -- the name is that of the attribute
-    names_forward : Goes a Inherited x → vertex_of a vertex ≡ at_forward x
-    names_forward goes =
-        ap (vertex_of a) name ∙ ap (λ z. vertex_below (w.made w.forward) z x) (direction_is a Inherited x goes)
+    where
+      -- the name is that of the attribute
+      names_forward : Goes a Inherited x → vertex_of a vertex ≡ at_forward x
+      names_forward goes =
+          ap (vertex_of a) name ∙ ap (λ z. vertex_below (w.made w.forward) z x) (direction_is a Inherited x goes)
 
-    -- where all that is reached is allowed, the vertex keeps to it
-    pub keeps_from : ((k i : ℕ) → slice_get graph.vertices k ≡ Some (code.Top i) → Goes a Inherited i → slice_index_or flags k false ≡ true
-        → Contains allowed i ⊎ (i ≡ x)) → KeepsFrom a production vertex
-    keeps_from all y other i rule reaches =
-        let equal : code.Forward x ≡ code.Forward y = sym name ∙ other in
-        let same : x ≡ y = cc in
-        let by = subst (λ z. Reaches a production (at_forward z) (w.top_inherited i)) (sym same) reaches in
-        let (_, _, occurs) = reaches_from a production graph flow is named (at_forward x) (w.top_inherited i) by in
-        let place : PlaceOf a production graph flow is named (at_forward x) =
-        record { place = start; name = vertex; at = at; names = names_forward occurs.goes } in
-        let (k, walk) = reaches_walk a production graph flow is named (at_forward x) (w.top_inherited i) place by in
-        let top : k.name ≡ code.Top i = sym (name_of_vertex a k.name) ∙ ap name_of k.names in
-        let flag = (reached.each k.place).1 (record { start = start; is_start = contains_first start []; walk = walk }) in
-        let there = reaches_to a production graph flow is named (at_forward x) (w.top_inherited i) by in
-        elim (all k.place i (k.at ∙ ap Some top) there.goes flag) [
-          | inl listed ↦ inl ((allows i).0 listed)
-          | inr itself ↦ inr (itself ∙ same)
-        ]
+      -- where all that is reached is allowed, the vertex keeps to it
+      pub keeps_from : ((i : ℕ) → LeadsToTop a graph start i → IsAllowed a production x i) → KeepsFrom a production vertex
+      keeps_from all y other i rule reaches =
+          let equal : code.Forward x ≡ code.Forward y = sym name ∙ other in
+          let same : x ≡ y = cc in
+          let by = subst (λ z. Reaches a production (at_forward z) (w.top_inherited i)) (sym same) reaches in
+          let (_, _, occurs) = reaches_from a production graph flow is named (at_forward x) (w.top_inherited i) by in
+          let place : PlaceOf a production graph flow is named (at_forward x) =
+          record { place = start; name = vertex; at = at; names = names_forward occurs.goes } in
+          let (k, walk) = reaches_walk a production graph flow is named (at_forward x) (w.top_inherited i) place by in
+          let top : k.name ≡ code.Top i = sym (name_of_vertex a k.name) ∙ ap name_of k.names in
+          let there = reaches_to a production graph flow is named (at_forward x) (w.top_inherited i) by in
+          subst (λ z. IsAllowed a production z i) same (all i (there.goes, (k.place, k.at ∙ ap Some top, walk)))
 
-    -- what is reached and isn't allowed is a read outside
-    pub reads_outside : Goes a Inherited x → IsDefined production (code.Forward x) → (i k : ℕ) (other : Vertex)
-        → slice_get graph.vertices k ≡ Some other → IsOutside a other (slice_index_or flags k false) allowed x i
-        → ReadsOutside a production x i
-    reads_outside goes defined i k other there (top, down, flag, lacks, differs) = go ((reached.each k).0 flag) where
-      made_of : Reaches a production (vertex_of a vertex) (w.top_inherited i) → ReadsOutside a production x i
-      made_of reaches = record {
-        rule = defined_rule production (code.Forward x) defined;
-        reaches = subst (λ z. Reaches a production z (w.top_inherited i)) (names_forward goes) reaches;
-        lacks = λ needs. lacks ((allows i).1 needs);
-        other = differs;
-      }
+      -- what is reached and isn't allowed is a read outside
+      pub reads_outside : Goes a Inherited x → IsDefined production (code.Forward x) → (i : ℕ) → LeadsToTop a graph start i
+          → ¬ IsAllowed a production x i → ReadsOutside a production x i
+      reads_outside goes defined i (down, (k, there, walk)) lacks =
+          by_walk (walk_leads a production graph flow start vertex at k walk) where
+            made_of : Reaches a production (vertex_of a vertex) (w.top_inherited i) → ReadsOutside a production x i
+            made_of reaches = record {
+              rule = defined_rule production (code.Forward x) defined;
+              reaches = subst (λ z. Reaches a production z (w.top_inherited i)) (names_forward goes) reaches;
+              lacks = λ needs. lacks (inl needs);
+              other = λ same. lacks (inr same);
+            }
 
-      by_walk : (start ≡ k)
-          ⊎ ((u : Vertex) × (slice_get graph.vertices k ≡ Some u) × Reaches a production (vertex_of a vertex) (vertex_of a u))
-          → ReadsOutside a production x i
-      by_walk (inl same) =
-          let equal = at_once graph.vertices k vertex other (subst (λ z. slice_get graph.vertices z ≡ Some vertex) same at) there in
-          let bad : code.Forward x ≡ code.Top i = sym name ∙ equal ∙ top in
-          absurd (cc)
-      by_walk (inr (u, at_u, reaches)) =
-          let same : u ≡ code.Top i = at_once graph.vertices k u other at_u there ∙ top in
-          made_of (subst (Reaches a production (vertex_of a vertex)) (ap (vertex_of a) same ∙ top_is a Inherited i down) reaches)
-
-      go : IsReached graph.edges (start ∷ []) k → ReadsOutside a production x i
-      go walk =
-          let same = (contains_one start walk.start).0 walk.is_start in
-          by_walk (walk_leads a production graph flow start vertex at k (subst (λ z. Walk graph.edges z k) same walk.walk))
+            by_walk : (start ≡ k)
+                ⊎ ((u : Vertex) × (slice_get graph.vertices k ≡ Some u) × Reaches a production (vertex_of a vertex) (vertex_of a u))
+                → ReadsOutside a production x i
+            by_walk (inl same) =
+                let equal = at_once graph.vertices k vertex (code.Top i) (subst (λ z. slice_get graph.vertices z ≡ Some vertex) same at) there in
+                let bad : code.Forward x ≡ code.Top i = sym name ∙ equal in
+                absurd (cc)
+            by_walk (inr (u, at_u, reaches)) =
+                let same : u ≡ code.Top i = at_once graph.vertices k u (code.Top i) at_u there in
+                made_of (subst (Reaches a production (vertex_of a vertex)) (ap (vertex_of a) same ∙ top_is a Inherited i down) reaches)
 
 -- what is reported of a production is reported of the attribution
 pub refuses : (a : AttributionParts) (extension number : ℕ) (production : Production) → slice_get a.productions number ≡ Some production

@@ -2,22 +2,24 @@
 //!
 //! A flow graph is made only for a production that has such an equation.
 
-ghost use Rattle.std.specs.Prelude.{◌≡◌, ◌<◌, ◌↔◌, ℕ, Some, IfOk, IfErr, IsTrue, length, slice_get};
+ghost use Rattle.std.specs.Prelude.{◌≡◌, ◌↔◌, ℕ, Some, IfOk, IfErr, IsTrue, slice_get};
 ghost use Rattle.wb_flow_theory.specs.Modular.{ForwardEquationsReach, IsBridging, IsProduction};
-ghost use Rattle.wb_complete.specs.Inner.ForwardTests.{IsChecked, KeepsWhereBridging};
+ghost use Rattle.wb_complete.specs.Inner.ForwardTests.{KeepsWhereBridging};
 ghost use Rattle.wb_complete.specs.ForwardRefusals.{IsTrueForwardRefusal};
+ghost use Rattle.wb_flow.specs.Occurrences.{IsIndexOf};
+ghost use Rattle.wb_syntax_resolved.specs.Attribution.{IsAttribution};
 ghost use Rattle.wb_syntax_resolved.specs.declared.production.Production.{Production};
 
 use crate::equations::{Tested, check_vertices, gives_forward};
 use std::alloc::Global;
-use wb_flow::{AttributeRefusal, OccurrenceIndex, Scope, production_graph};
+use wb_flow::{AttributeRefusal, OccurrenceIndex, Scope, graph_of};
 use wb_syntax_resolved::{Attribution, Production};
 
 /// Whether in each production of the extension on a nonterminal of the host each equation for an inherited attribute of the forwarded tree
 /// reaches, of the inherited attributes of the top, only those in the flow type of the forward and that attribute itself.
 ///
-/// The extension is given by its owner's number. The time is about linear in the productions and, for each production that has such an
-/// equation, in the attribution and in its flow graph times these equations; no clause bounds it.
+/// The extension is given by its owner's number. The time is about linear in the attribution and, for each production that has such an
+/// equation, in its flow graph for each 64 inherited attributes of its left side; no clause bounds it.
 pub fn check_forward(
     alloc: Global,
     attributes: &Attribution,
@@ -32,35 +34,21 @@ pub fn check_forward(
         attributes: parts,
         index: &index,
     };
-    let answer = check_in(
-        alloc,
-        &Checked {
-            attributes,
-            scope: &scope,
-            extension,
-        },
-    );
+    let answer = check_in(alloc, &scope, extension);
     drop(index);
     answer
 }
 
-// An attribution with its parts, and an extension.
-#[derive(Clone, Copy)]
-pub(crate) struct Checked<'a> {
-    attributes: &'a Attribution,
-    scope: &'a Scope<'a>,
-    extension: usize,
-}
-
 // Like `check_forward`, where occurrences are by nonterminal.
-fn check_in(alloc: Global, checked: &Checked) -> Result<(), AttributeRefusal>
-    requires { IsChecked checked.now }
-    ensures ok { IfOk result (λ done. ForwardEquationsReach checked.now.scope.now.attributes.now checked.now.extension) }
-    ensures refused { IfErr result (IsTrueForwardRefusal checked.now.scope.now.attributes.now checked.now.extension) }
+fn check_in(alloc: Global, scope: &Scope, extension: usize) -> Result<(), AttributeRefusal>
+    requires attribution { IsAttribution scope.now.attributes.now }
+    requires index { IsIndexOf scope.now.attributes.now.occurrences scope.now.index.now }
+    ensures ok { IfOk result (λ done. ForwardEquationsReach scope.now.attributes.now extension) }
+    ensures refused { IfErr result (IsTrueForwardRefusal scope.now.attributes.now extension) }
 {
-    let productions = checked.scope.attributes.productions.as_slice();
+    let productions = scope.attributes.productions.as_slice();
     'productions: for number in 0..productions.len() {
-        check_production(alloc, checked, number, &productions[number])?;
+        check_production(alloc, scope, extension, number, &productions[number])?;
     }
     Ok(())
 }
@@ -68,26 +56,28 @@ fn check_in(alloc: Global, checked: &Checked) -> Result<(), AttributeRefusal>
 // Whether a production does, where it is the extension's on a nonterminal of the host.
 fn check_production(
     alloc: Global,
-    checked: &Checked,
+    scope: &Scope,
+    extension: usize,
     number: usize,
     production: &Production,
 ) -> Result<(), AttributeRefusal>
-    requires checked { IsChecked checked.now }
-    requires there { IsProduction checked.now.scope.now.attributes.now number production.now }
-    ensures ok { IfOk result (λ done. KeepsWhereBridging checked.now.scope.now.attributes.now checked.now.extension production.now) }
-    ensures refused { IfErr result (IsTrueForwardRefusal checked.now.scope.now.attributes.now checked.now.extension) }
+    requires attribution { IsAttribution scope.now.attributes.now }
+    requires index { IsIndexOf scope.now.attributes.now.occurrences scope.now.index.now }
+    requires there { IsProduction scope.now.attributes.now number production.now }
+    ensures ok { IfOk result (λ done. KeepsWhereBridging scope.now.attributes.now extension production.now) }
+    ensures refused { IfErr result (IsTrueForwardRefusal scope.now.attributes.now extension) }
 {
-    if !is_bridging(checked.scope, checked.extension, production) {
+    if !is_bridging(scope, extension, production) {
         return Ok(());
     }
     if !gives_forward(production) {
         return Ok(());
     }
-    let graph = production_graph(alloc, checked.attributes, number)?;
+    let graph = graph_of(alloc, scope, production)?;
     let answer = check_vertices(
         alloc,
         &Tested {
-            scope: checked.scope,
+            scope,
             number,
             production,
             graph: &graph,

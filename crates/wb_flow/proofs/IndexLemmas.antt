@@ -10,10 +10,11 @@ use Rattle.std.proofs.lemmas.Option.{slice_get_within, slice_get-get_or, gets}
 use Rattle.wb_lemmas.proofs.Elements.{all_contained}
 use Rattle.wb_lemmas.proofs.Members.{contains_at, place_of, nothing_in, contains_push, push_contains, push_contains_last}
 use Rattle.wb_lemmas.proofs.Places.{at_once}
-use Rattle.wb_flow_theory.specs.Occurrences.{HasFlowType, Needs, ForwardNeeds}
+use Rattle.wb_flow_theory.specs.Occurrences.{Goes, HasFlowType, Occurs, Needs, ForwardNeeds}
 use Rattle.wb_flow_theory.proofs.OccurrenceLemmas.{one_flow_type}
 use Rattle.wb_flow.specs.Occurrences.{IsNumberOn, IsIndexOf}
 use Rattle.wb_flow.proofs.AddingLemmas.{below_or}
+use Rattle.wb_syntax_resolved.specs.declared.attributes.Direction.TheVariants.{Inherited}
 use Rattle.wb_syntax_resolved.specs.declared.attributes.Nonterminal.{Nonterminal}
 use Rattle.wb_syntax_resolved.specs.declared.attributes.Occurrence.{Occurrence}
 use Rattle.wb_syntax_resolved.specs.declared.attribution.AttributionParts.{AttributionParts}
@@ -173,6 +174,32 @@ module _ (a : AttributionParts) (is : IsAttribution a) (rows : List (List ℕ)) 
           let lt = slice_get_within row j n here_row in
           absurd (others j n flow.occurrence (omega (arith, lt, ended)) here_row at flow.of_attribute)),
     )
+
+-- none of the first numbers of a row is that of an attribute that goes down
+abbrev pub AreUp : AttributionParts → List ℕ → ℕ → Type 0
+AreUp a row count = (j n : ℕ) (o : Occurrence) → j < count → slice_get row j ≡ Some n → slice_get a.occurrences n ≡ Some o
+    → ¬ Goes a Inherited o.attribute
+
+pub downs_more : (a : AttributionParts) (row : List ℕ) (i n : ℕ) (o : Occurrence) → slice_get row i ≡ Some n
+    → slice_get a.occurrences n ≡ Some o → ¬ Goes a Inherited o.attribute → AreUp a row i → AreUp a row (i + 1)
+downs_more a row i n o there at other before j k p lt here is_at = elim (below_or j i lt) [
+  | inl low ↦ before j k p low here is_at
+  | inr last ↦ (
+      let same : k ≡ n = at_once row i k n (subst (λ z. slice_get row z ≡ Some k) last here) there in
+      let equal : p ≡ o = at_once a.occurrences n p o (subst (λ z. slice_get a.occurrences z ≡ Some p) same is_at) at in
+      subst (λ (z : Occurrence). ¬ Goes a Inherited z.attribute) (sym equal) other
+      )
+]
+
+pub downs_all : (a : AttributionParts) (rows : List (List ℕ)) → IsIndexOf a.occurrences rows → (m : ℕ) (row : List ℕ) → row ≡ get_or rows m []
+    → (count : ℕ) → length row ≤ count → AreUp a row count → (i : ℕ) → ¬ Occurs a Inherited i m
+downs_all a rows index m row same count ended ups i occurs =
+    let flow = occurs.on.1 in
+    let (n, at) = place_of a.occurrences flow.occurrence flow.listed in
+    let (j, here) = place_of (get_or rows m []) n ((index m n).1 (flow.occurrence, at, flow.on_nonterminal)) in
+    let here_row = subst (λ z. slice_get z j ≡ Some n) (sym same) here in
+    let lt = slice_get_within row j n here_row in
+    ups j n flow.occurrence (omega (arith, lt, ended)) here_row at (subst (Goes a Inherited) (sym flow.of_attribute) occurs.goes)
 
 -- an occurrence whose number is that of one on a nonterminal is on it
 pub on_of_number : (occurrences : List Occurrence) (m n : ℕ) (o : Occurrence) → IsNumberOn occurrences m n → slice_get occurrences n ≡ Some o

@@ -2,6 +2,7 @@
 use Rattle.std.proofs.Common.{◌≡◌, ◌≢◌, ◌<◌, ◌≤◌, ◌+◌, ◌∙◌, ◌∷◌, ◌++◌, [], ◌⊎◌, inl, inr, ℕ, List, None, Some, length, refl, sym, ap, subst}
 use Rattle.std.proofs.Common.{slice_get}
 use Rattle.std.proofs.Common.{Contains, arith}
+use Rattle.std.specs.Prelude.{◌↔◌}
 use Rattle.std.proofs.lemmas.Option.{same_Some, slice_get_within}
 use Rattle.wb_lemmas.proofs.Members.{contains_at, place_of}
 use Rattle.wb_lemmas.proofs.Places.{at_once}
@@ -174,3 +175,12 @@ pub defined_here : (production : Production) (equations : List Equation) → equ
     (e : Equation) → slice_get equations i ≡ Some e → target_of e.target ≡ vertex → IsDefined production vertex
 defined_here production equations same vertex i e at is =
     (e, subst (λ z. Contains z e) same (contains_at equations e i at), is)
+
+-- the targets of all equations are what is defined
+pub defined_all : (production : Production) (equations : List Equation) → equations ≡ production.equations → (set : List Vertex)
+    → ((v : Vertex) → Contains set v ↔ SomeOf equations (λ (e : Equation) (z : Vertex). z ≡ target_of e.target) v) → (v : Vertex)
+    → Contains set v ↔ IsDefined production v
+defined_all production equations same set some v = (
+  (λ has. let (e, listed, is) = (some v).0 has in (e, subst (λ z. Contains z e) same listed, sym is)),
+  (λ (e, listed, is). (some v).1 (e, subst (λ z. Contains z e) (sym same) listed, sym is)),
+)

@@ -11,3 +11,6 @@ pub mod TreeLemmas
 pub mod RowLemmas
 pub mod KindLemmas
 pub mod EachLemmas
+pub mod ClosingLemmas
+pub mod ReachLemmas
+pub mod StartLemmas

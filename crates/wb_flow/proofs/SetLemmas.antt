@@ -3,6 +3,7 @@ use Rattle.std.proofs.Common.{◌≡◌, ◌++◌, ◌∷◌, [], ◌⊎◌, inl
 use Rattle.std.proofs.Common.{◌∙◌, Contains, slice_get, rules}
 use Rattle.std.proofs.Common.{if◌then◌else◌}
 use Rattle.std.specs.List.{list_any, position}
+use Rattle.std.specs.Prelude.{◌↔◌, IfSome, IfNone, Option, None, is_some}
 use Rattle.std.proofs.lemmas.List.Quantifiers.{position-Some}
 use Rattle.std.proofs.lemmas.Option.{slice_get-get_or}
 use Rattle.std.proofs.lemmas.Map.Views.{Contains-from_any}
@@ -69,3 +70,21 @@ pub position_at : (vertices : List Vertex) (v : Vertex) (i : ℕ) → position (
 position_at vertices v i is =
     let s = position-Some (equal v) vertices i v is in
     slice_get-get_or vertices i v s.0 ∙ ap Some (sym (equal_same v (get_or vertices i v) s.1))
+
+-- what is answered is the place of the vertex
+pub find_some : (vertices : List Vertex) (v : Vertex) (answer : Option ℕ) → answer ≡ position (equal v) vertices
+    → IfSome answer (λ n. slice_get vertices n ≡ Some v)
+find_some vertices v None is = tt
+find_some vertices v (Some n) is = position_at vertices v n (sym is)
+
+-- where there is none, the vertex isn't there
+pub find_none : (vertices : List Vertex) (v : Vertex) (answer : Option ℕ) → is_some answer ≡ list_any (equal v) vertices
+    → IfNone answer (¬ Contains vertices v)
+find_none vertices v None is = λ has. let bad : false ≡ true = is ∙ there_found vertices v has in cc
+find_none vertices v (Some n) is = tt
+
+-- so it tells whether it is
+pub find_decides : (vertices : List Vertex) (v : Vertex) (answer : Option ℕ) → IfSome answer (λ n. slice_get vertices n ≡ Some v)
+    → IfNone answer (¬ Contains vertices v) → (is_some answer ≡ true) ↔ Contains vertices v
+find_decides vertices v None at lacks = ((λ bad. absurd (cc)), (λ has. absurd (lacks has)))
+find_decides vertices v (Some n) at lacks = ((λ same. contains_at vertices v n at), (λ has. refl))

@@ -3,3 +3,4 @@ pub mod Adding
 pub mod Positions
 pub mod Arrows
 pub mod Sources
+pub mod Closing

@@ -6,6 +6,8 @@ pub mod Graphs
 pub mod Rules
 -- occurrences by nonterminal
 pub mod Occurrences
+-- which inherited attributes of the top vertices reach
+pub mod Tops
 -- what the tests of flow types and cycles ask, and when each refusal is true
 pub mod Refusals
 -- that they have at most one answer

@@ -2,7 +2,9 @@
 //!
 //! Each kind of edge is found by itself, by the vertices of its ends; positions of vertices are given in `graph`.
 
-ghost use Rattle.std.specs.Prelude.{◌≡◌, OnOk, length};
+ghost use Rattle.std.specs.Prelude.{◌≡◌, ◌↔◌, Contains, OnOk, length};
+ghost use Rattle.wb_flow_theory.specs.Rules.{Forwards};
+ghost use Rattle.wb_flow.specs.declared.vertex.Vertex.{Vertex};
 ghost use Rattle.wb_flow.specs.Rules.{IsDefined};
 ghost use Rattle.wb_flow.specs.Inner.Adding.{Adds, SomeOf, SomeBelow};
 ghost use Rattle.wb_flow.specs.Inner.Arrows.{IsReadArrow, IsExpressionArrow, IsEquationArrow, IsLocalArrow, IsForwardArrow, IsRuleArrow};
@@ -10,9 +12,10 @@ ghost use Rattle.wb_flow.specs.Inner.Arrows.{IsNeedArrow, IsTreeArrow, IsOccurre
 ghost use Rattle.wb_flow.specs.Occurrences.{IsIndexOf};
 
 use crate::positions::{Position, TreeAt};
-use crate::rules::{defined, defines, read};
+use crate::rules::{defined, defined_vertices, read};
+use crate::vertex_set::VertexSet;
 use crate::{Scope, Vertex};
-use std::alloc::AllocError;
+use std::alloc::{AllocError, Global};
 use wb_base::push;
 use wb_syntax_resolved::{Node, Occurrence, Production};
 
@@ -171,6 +174,7 @@ fn add_tree(
 
 // Adds those for attributes that have no equation, where the production forwards.
 pub(crate) fn add_copies(
+    alloc: Global,
     arrows: &mut Vec<Arrow>,
     scope: &Scope,
     production: &Production,
@@ -181,9 +185,27 @@ pub(crate) fn add_copies(
     if production.forward.is_none() {
         return Ok(());
     }
+    let defined = defined_vertices(alloc, production)?;
+    let answer = add_undefined_of(arrows, scope, production, &defined);
+    drop(defined);
+    answer
+}
+
+// Adds those for attributes of the left side that have no equation.
+fn add_undefined_of(
+    arrows: &mut Vec<Arrow>,
+    scope: &Scope,
+    production: &Production,
+    defined: &VertexSet,
+) -> Result<(), AllocError>
+    requires forwards { Forwards production.now }
+    requires index { IsIndexOf scope.now.attributes.now.occurrences scope.now.index.now }
+    requires defined { (v : Vertex) → Contains defined.now v ↔ IsDefined production.now v }
+    ensures { OnOk result (Adds arrows.old.items arrows.new.items (IsLeftCopyArrow scope.now.attributes.now production.now)) }
+{
     'occurrences: for &number in scope.index.on(production.left) {
         let attribute = scope.occurrence(number).attribute;
-        add_copy(arrows, scope, production, attribute)?;
+        add_copy(arrows, scope, production, defined, attribute)?;
     }
     Ok(())
 }
@@ -193,8 +215,10 @@ fn add_copy(
     arrows: &mut Vec<Arrow>,
     scope: &Scope,
     production: &Production,
+    defined: &VertexSet,
     attribute: usize,
 ) -> Result<(), AllocError>
+    requires { (v : Vertex) → Contains defined.now v ↔ IsDefined production.now v }
     ensures { OnOk result (Adds arrows.old.items arrows.new.items (IsCopyArrow scope.now.attributes.now production.now attribute)) }
 {
     let top = Vertex::Top(attribute);
@@ -203,6 +227,7 @@ fn add_copy(
         return add_undefined(
             arrows,
             production,
+            defined,
             Arrow {
                 from: top,
                 to: forward,
@@ -213,6 +238,7 @@ fn add_copy(
         return add_undefined(
             arrows,
             production,
+            defined,
             Arrow {
                 from: forward,
                 to: top,
@@ -226,11 +252,13 @@ fn add_copy(
 fn add_undefined(
     arrows: &mut Vec<Arrow>,
     production: &Production,
+    defined: &VertexSet,
     arrow: Arrow,
 ) -> Result<(), AllocError>
+    requires { (v : Vertex) → Contains defined.now v ↔ IsDefined production.now v }
     ensures { OnOk result (Adds arrows.old.items arrows.new.items (λ r. (r ≡ arrow) × ¬ IsDefined production.now arrow.from)) }
 {
-    if defines(production, arrow.from) {
+    if defined.contains(arrow.from) {
         return Ok(());
     }
     push(arrows, arrow)

@@ -20,7 +20,7 @@ use wb_syntax_resolved::{Attribution, Occurrence};
 /// than flow types say, and nothing in a production needs itself.
 ///
 /// Rules are tested in this order, each on all productions. The time is about linear in the attribution and, for each production, in its
-/// flow graph times the synthesized attributes of its left side; no clause bounds it.
+/// flow graph for each 64 inherited attributes of its left side, and in what flow types there have; no clause bounds it.
 pub fn check_flow(alloc: Global, attributes: &Attribution) -> Result<(), AttributeRefusal>
     ensures ok { IfOk result (λ done. FlowsOk attributes.now) }
     ensures refused { IfErr result (IsTrueFlowRefusal attributes.now) }

@@ -44,8 +44,8 @@ pub fn production_graph(
     graph_of(alloc, &scope, &parts.productions.as_slice()[production])
 }
 
-// Like `production_graph`, where occurrences are by nonterminal.
-pub(crate) fn graph_of(
+/// Like `production_graph`, where occurrences are by nonterminal.
+pub fn graph_of(
     alloc: Global,
     scope: &Scope,
     production: &Production,
@@ -100,7 +100,7 @@ fn arrows_of(
     let mut arrows = Vec::new(alloc);
     add_reads(&mut arrows, production)?;
     add_needs(&mut arrows, scope, trees)?;
-    add_copies(&mut arrows, scope, production)?;
+    add_copies(alloc, &mut arrows, scope, production)?;
     Ok(arrows)
 }
 

@@ -7,11 +7,13 @@
 
 mod arrows;
 mod check;
+mod closing;
 mod cycles;
 mod graph;
 mod laws;
 mod occurrences;
 mod positions;
+mod reach;
 mod reads;
 mod refusal;
 mod rules;
@@ -20,9 +22,11 @@ mod vertex_set;
 mod vertices;
 
 pub use check::check_flow;
-pub use graph::production_graph;
+pub use graph::{graph_of, production_graph};
 pub use laws::one_answer_law;
 pub use occurrences::{OccurrenceIndex, Scope};
+pub use reach::TopReach;
 pub use refusal::AttributeRefusal;
-pub use rules::defines;
+pub use rules::{defined_vertices, defines};
 pub use vertex::{FlowGraph, Vertex};
+pub use vertex_set::VertexSet;

@@ -8,6 +8,7 @@ ghost use Rattle.wb_flow.specs.Occurrences.{IsNumberOn, IsIndexOf};
 ghost use Rattle.wb_syntax_resolved.specs.declared.attributes.Direction.TheVariants.{Synthesized, Inherited};
 ghost use Rattle.wb_syntax_resolved.specs.Attribution.{IsAttribution};
 
+use indexmap::IndexSet;
 use std::alloc::{AllocError, Global};
 use std::marker::Model;
 use wb_base::push;
@@ -16,6 +17,9 @@ use wb_syntax_resolved::{AttributionParts, Direction, Occurrence};
 /// The numbers of occurrences by the nonterminal that they are on.
 pub struct OccurrenceIndex {
     rows: Vec<Vec<usize>>,
+    // The attribute and the nonterminal of each occurrence, in the order of their numbers. A place that is found here is tested where it is
+    // used.
+    keys: IndexSet<(usize, usize)>,
 }
 
 impl Model for OccurrenceIndex {
@@ -32,11 +36,8 @@ impl OccurrenceIndex {
         requires { IsAttribution attributes.now }
         ensures { IfOk result (IsIndexOf attributes.now.occurrences) }
     {
-        let mut index = empty_index(alloc, attributes.nonterminals.len())?;
-        let occurrences = attributes.occurrences.as_slice();
-        'occurrences: for number in 0..occurrences.len() {
-            index.add(occurrences[number].nonterminal, number)?;
-        }
+        let mut index = rows_of(alloc, attributes)?;
+        index.add_keys(attributes.occurrences.as_slice())?;
         Ok(index)
     }
 
@@ -59,13 +60,43 @@ impl OccurrenceIndex {
     {
         push(&mut self.rows[nonterminal], number)
     }
+
+    // Adds what finds the numbers of these occurrences.
+    fn add_keys(&mut self, occurrences: &[Occurrence]) -> Result<(), AllocError>
+        ensures { OnOk result (self.new ≡ self.old) }
+    {
+        'occurrences: for occurrence in occurrences {
+            self.keys
+                .insert_full((occurrence.attribute, occurrence.nonterminal))?;
+        }
+        Ok(())
+    }
+
+    // What is likely the number of the occurrence of an attribute on a nonterminal.
+    fn likely(&self, attribute: usize, nonterminal: usize) -> Option<usize> {
+        self.keys.get_index_of(&(attribute, nonterminal))
+    }
 }
 
 impl Drop for OccurrenceIndex {
     fn drop(self) {
-        let OccurrenceIndex { rows } = self;
+        let OccurrenceIndex { rows, keys } = self;
         drop(rows);
+        drop(keys);
     }
+}
+
+// The index of these occurrences without what finds their numbers.
+fn rows_of(alloc: Global, attributes: &AttributionParts) -> Result<OccurrenceIndex, AllocError>
+    requires { IsAttribution attributes.now }
+    ensures { IfOk result (IsIndexOf attributes.now.occurrences) }
+{
+    let mut index = empty_index(alloc, attributes.nonterminals.len())?;
+    let occurrences = attributes.occurrences.as_slice();
+    'occurrences: for number in 0..occurrences.len() {
+        index.add(occurrences[number].nonterminal, number)?;
+    }
+    Ok(index)
 }
 
 // An index of no occurrences, with so many rows.
@@ -76,7 +107,10 @@ fn empty_index(alloc: Global, count: usize) -> Result<OccurrenceIndex, AllocErro
     'rows: for _ in 0..count {
         push(&mut rows, Vec::new(alloc))?;
     }
-    Ok(OccurrenceIndex { rows })
+    Ok(OccurrenceIndex {
+        rows,
+        keys: IndexSet::new(alloc),
+    })
 }
 
 /// An attribution with the index of its occurrences.
@@ -116,8 +150,27 @@ impl<'a> Scope<'a> {
     }
 
     /// The flow type of an attribute on a nonterminal, and nothing where it doesn't occur there. Takes time linear in the occurrences on
-    /// the nonterminal.
+    /// the nonterminal where it doesn't, and constant time where it does; no clause bounds it.
     pub fn needs(&self, attribute: usize, nonterminal: usize) -> &'a [usize]
+        requires attribution { IsAttribution self.now.attributes.now }
+        requires index { IsIndexOf self.now.attributes.now.occurrences self.now.index.now }
+        ensures { (i : ℕ) → Contains result.now i ↔ Needs self.now.attributes.now attribute nonterminal i }
+    {
+        let Some(number) = self.index.likely(attribute, nonterminal) else {
+            return self.listed_needs(attribute, nonterminal);
+        };
+        if number >= self.attributes.occurrences.len() {
+            return self.listed_needs(attribute, nonterminal);
+        }
+        let occurrence = self.occurrence(number);
+        if !is_of(occurrence, attribute, nonterminal) {
+            return self.listed_needs(attribute, nonterminal);
+        }
+        occurrence.needs.as_slice()
+    }
+
+    // Like `needs`, by all occurrences on the nonterminal.
+    fn listed_needs(&self, attribute: usize, nonterminal: usize) -> &'a [usize]
         requires attribution { IsAttribution self.now.attributes.now }
         requires index { IsIndexOf self.now.attributes.now.occurrences self.now.index.now }
         ensures { (i : ℕ) → Contains result.now i ↔ Needs self.now.attributes.now attribute nonterminal i }
@@ -142,4 +195,11 @@ impl<'a> Scope<'a> {
             &[]
         }
     }
+}
+
+// Whether an occurrence is that of an attribute on a nonterminal.
+fn is_of(occurrence: &Occurrence, attribute: usize, nonterminal: usize) -> bool
+    ensures { IsTrue result ↔ ((occurrence.now.attribute ≡ attribute) × (occurrence.now.nonterminal ≡ nonterminal)) }
+{
+    occurrence.attribute == attribute && occurrence.nonterminal == nonterminal
 }

@@ -2,11 +2,14 @@
 //!
 //! By vertices, so that both are ends of edges.
 
-ghost use Rattle.std.specs.Prelude.{◌≡◌, ◌↔◌, IsTrue};
+ghost use Rattle.std.specs.Prelude.{◌≡◌, ◌↔◌, Contains, IfOk, IsTrue};
+ghost use Rattle.wb_flow.specs.declared.vertex.Vertex.{Vertex};
 ghost use Rattle.wb_flow.specs.Rules.{attribute_at, target_of, IsDefined};
 ghost use Rattle.wb_flow.specs.Inner.Arrows.{label_read, read_by};
 
 use crate::Vertex;
+use crate::vertex_set::VertexSet;
+use std::alloc::{AllocError, Global};
 use wb_syntax_resolved::{Node, Place, Production, Target};
 
 /// Whether an equation of a production is for this vertex. Takes time linear in its equations.
@@ -19,6 +22,17 @@ pub fn defines(production: &Production, vertex: Vertex) -> bool
         }
     }
     false
+}
+
+/// The vertices for which a production has equations.
+pub fn defined_vertices(alloc: Global, production: &Production) -> Result<VertexSet, AllocError>
+    ensures { IfOk result (λ set. (v : Vertex) → Contains set v ↔ IsDefined production.now v) }
+{
+    let mut vertices = VertexSet::new(alloc);
+    'equations: for equation in production.equations.as_slice() {
+        vertices.add(defined(equation.target))?;
+    }
+    Ok(vertices)
 }
 
 // Whether an equation of this target is for this vertex.

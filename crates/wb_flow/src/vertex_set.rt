@@ -2,7 +2,7 @@
 //!
 //! A table of hashes finds one in about constant time, so that a graph takes time linear in its vertices and edges.
 
-ghost use Rattle.std.specs.Prelude.{◌≡◌, [], Contains, OnOk, Some, slice_get};
+ghost use Rattle.std.specs.Prelude.{◌≡◌, ◌↔◌, [], Contains, IfSome, IfNone, IsTrue, OnOk, Some, length, slice_get};
 ghost use Rattle.wb_base.specs.Different.{Differ};
 ghost use Rattle.wb_flow.specs.Inner.Adding.{Adds};
 
@@ -11,10 +11,16 @@ use indexmap::IndexSet;
 use std::alloc::{AllocError, Global};
 use std::marker::Model;
 
-// Different vertices, numbered from 0 in the order in which they were added.
-#[derive(Drop)]
-pub(crate) struct VertexSet {
+/// Different vertices, numbered from 0 in the order in which they were added.
+pub struct VertexSet {
     vertices: IndexSet<Vertex>,
+}
+
+impl Drop for VertexSet {
+    fn drop(self) {
+        let VertexSet { vertices } = self;
+        drop(vertices);
+    }
 }
 
 impl Model for VertexSet {
@@ -53,6 +59,29 @@ impl VertexSet {
         ensures different { Differ self.now }
     {
         self.vertices.get_index_of(&vertex).unwrap()
+    }
+
+    // The number of a vertex, where it is there.
+    pub(crate) fn find(&self, vertex: Vertex) -> Option<usize>
+        ensures some { IfSome result (λ number. slice_get self.now number ≡ Some vertex) }
+        ensures none { IfNone result (¬ Contains self.now vertex) }
+        ensures different { Differ self.now }
+    {
+        self.vertices.get_index_of(&vertex)
+    }
+
+    /// Whether a vertex is there.
+    pub fn contains(&self, vertex: Vertex) -> bool
+        ensures { IsTrue result ↔ Contains self.now vertex }
+    {
+        self.find(vertex).is_some()
+    }
+
+    // How many vertices there are.
+    pub(crate) fn len(&self) -> usize
+        ensures { result ≡ length self.now }
+    {
+        self.vertices.as_slice().len()
     }
 
     // The vertices by number.

@@ -1,7 +1,7 @@
 -- What each test of a production asks and tells.
-use Rattle.std.specs.Prelude.{◌≡◌, ◌≢◌, ◌⊎◌, ℕ, Bool, true, false, List, Contains}
+use Rattle.std.specs.Prelude.{◌≡◌, ◌⊎◌, ℕ, Bool, true, false}
 use Rattle.wb_flow_theory.specs.Vertices.{forward, made, top_inherited, inherited}
-use Rattle.wb_flow_theory.specs.Occurrences.{Goes, ForwardNeeds}
+use Rattle.wb_flow_theory.specs.Occurrences.{ForwardNeeds}
 use Rattle.wb_flow_theory.specs.Rules.{HasRule}
 use Rattle.wb_flow_theory.specs.Flow.{Reaches}
 use Rattle.wb_flow_theory.specs.Modular.{IsProduction, IsBridging}
@@ -10,20 +10,15 @@ use Rattle.wb_flow.specs.declared.refusal.AttributeRefusal.TheVariants as r
 use Rattle.wb_flow.specs.declared.vertex.Vertex.{Vertex}
 use Rattle.wb_flow.specs.declared.vertex.Vertex.TheVariants as v
 use Rattle.wb_flow.specs.Graphs.{IsFlowGraph}
-use Rattle.wb_complete.specs.declared.forward.Checked.{Checked}
+use Rattle.wb_flow.specs.Tops.{KnowsTops, IsSelection}
+use Rattle.wb_complete.specs.declared.equations.Reading.{Reading}
 use Rattle.wb_complete.specs.declared.equations.Tested.{Tested}
 use Rattle.wb_complete.specs.ForwardRefusals.{ReadsOutside}
 use Rattle.wb_syntax_resolved.specs.Attribution.{IsAttribution}
-use Rattle.wb_syntax_resolved.specs.declared.attributes.Direction.TheVariants.{Inherited}
 use Rattle.wb_syntax_resolved.specs.declared.attribution.AttributionParts.{AttributionParts}
 use Rattle.wb_syntax_resolved.specs.declared.equation.Target.{Target}
 use Rattle.wb_syntax_resolved.specs.declared.equation.Target.TheVariants as target
 use Rattle.wb_syntax_resolved.specs.declared.production.Production.{Production}
-
--- the parts that the scope has are the attribution's
-pub record IsChecked (checked : Checked) : Type 0 where
-  pub attribution : IsAttribution checked.scope.now.attributes.now
-  pub parts : checked.scope.now.attributes.now ≡ checked.attributes.now
 
 -- the production has this number in the attribution, and the graph is its flow graph
 pub record IsTested (tested : Tested) : Type 0 where
@@ -53,10 +48,12 @@ KeepsFrom a production vertex = (attribute : ℕ) → vertex ≡ v.Forward attri
 abbrev pub KeepsWhereBridging : AttributionParts → ℕ → Production → Type 0
 KeepsWhereBridging a extension production = IsBridging a extension production → KeepsForward a production
 
--- the vertex is this inherited attribute of the top, is reached, isn't in the list and isn't the attribute
-abbrev pub IsOutside : AttributionParts → Vertex → Bool → List ℕ → ℕ → ℕ → Type 0
-IsOutside a vertex reached allowed attribute inherited_one = (vertex ≡ v.Top inherited_one) × Goes a Inherited inherited_one
-    × (reached ≡ true) × (¬ Contains allowed inherited_one) × (inherited_one ≢ attribute)
+-- the production is tested, what its vertices reach is known, and the set has what the flow type of the forward has
+pub record IsReading (reading : Reading) : Type 0 where
+  pub tested : IsTested reading.tested.now
+  pub reach : KnowsTops reading.tested.now.scope.now.attributes.now reading.tested.now.graph.now reading.reach.now
+  pub allowed : IsSelection reading.reach.now
+      (ForwardNeeds reading.tested.now.scope.now.attributes.now reading.tested.now.production.now.left) reading.allowed.now
 
 -- the refusal tells that the production of this number has an equation that reaches outside, unless memory ran out
 abbrev pub RefusesProduction : AttributionParts → ℕ → Production → AttributeRefusal → Type 0

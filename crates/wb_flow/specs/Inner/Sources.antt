@@ -1,5 +1,5 @@
 -- What has a flow type in a production: a synthesized attribute of its top, or the forwarded tree.
-use Rattle.std.specs.Prelude.{◌≡◌, ℕ, Bool, true, List, Option, None, Some, Contains}
+use Rattle.std.specs.Prelude.{◌≡◌, ℕ, Option, None, Some, Contains}
 use Rattle.wb_flow_theory.specs.Vertices.{top_inherited}
 use Rattle.wb_flow_theory.specs.Occurrences.{Goes, Needs, ForwardNeeds}
 use Rattle.wb_flow_theory.specs.Flow.{Reaches}
@@ -14,7 +14,7 @@ use Rattle.wb_flow.specs.Graphs.{IsFlowGraph}
 use Rattle.wb_flow.specs.Occurrences.{IsIndexOf}
 use Rattle.wb_flow.specs.Refusals.{LacksForwardNeed, ReachesOutside, IsFlowCycle}
 use Rattle.wb_flow.specs.Vertices.{vertex_of}
-use Rattle.wb_syntax_resolved.specs.declared.attributes.Direction.TheVariants.{Synthesized, Inherited}
+use Rattle.wb_syntax_resolved.specs.declared.attributes.Direction.TheVariants.{Synthesized}
 use Rattle.wb_syntax_resolved.specs.declared.attributes.Occurrence.{Occurrence}
 use Rattle.wb_syntax_resolved.specs.declared.attribution.AttributionParts.{AttributionParts}
 use Rattle.wb_syntax_resolved.specs.declared.production.Production.{Production}
@@ -34,11 +34,6 @@ Allows a production None inherited = ForwardNeeds a production.left inherited
 abbrev pub KeepsFrom : AttributionParts → Production → Vertex → Type 0
 KeepsFrom a production vertex = (source : Option ℕ) (i : ℕ) → IsSource a vertex source
     → Reaches a production (vertex_of a vertex) (top_inherited i) → Allows a production source i
-
--- the vertex is this inherited attribute of the top, is reached, and isn't allowed
-abbrev pub IsOutside : AttributionParts → Vertex → Bool → List ℕ → ℕ → Type 0
-IsOutside a vertex reached allowed inherited =
-    (vertex ≡ v.Top inherited) × Goes a Inherited inherited × (reached ≡ true) × ¬ Contains allowed inherited
 
 -- the production keeps to its flow types
 abbrev pub KeepsAll : AttributionParts → Production → Type 0

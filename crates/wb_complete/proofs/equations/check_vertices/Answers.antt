@@ -1,24 +1,12 @@
-use Rattle.std.proofs.Common.{◌<◌, ◌≤◌, length, arith}
-use Rattle.wb_lemmas.proofs.Places.{at_within}
-use Rattle.wb_flow.proofs.EachLemmas.{each_more, each_all}
-use Rattle.wb_flow.proofs.ReadLemmas.{known_production}
-use Rattle.wb_complete.specs.Inner.ForwardTests.{KeepsFrom}
-use Rattle.wb_complete.proofs.ForwardLemmas.{keeps_all}
+use Rattle.std.proofs.Common.{◌≡◌, refl, sym, subst}
+use Rattle.wb_lemmas.proofs.Refusals.{handed_on}
+use Rattle.wb_flow.specs.declared.refusal.AttributeRefusal.TheVariants.{NoMemory}
+use Rattle.wb_complete.specs.Inner.ForwardTests.{RefusesProduction}
 use Rattle.wb_complete.proofs.equations.check_vertices.Goals as goal
 
-pub vertices-preserved : goal.vertices-preserved
-vertices-preserved c =
+pub returns-in_err-reach-clause-refused : goal.returns-in_err-reach-clause-refused
+returns-in_err-reach-clause-refused c =
     let t = c.args.tested.now in
-    let within : c.vertices.start < length t.graph.now.vertices = omega arith in
-    let (v, at) = at_within t.graph.now.vertices c.vertices.start within in
-    each_more t.graph.now.vertices (KeepsFrom t.scope.now.attributes.now t.production.now) c.vertices.start v at c.vertices.invariant
-    (c.in_ok-check_from.ensures.ok v at)
-
-pub returns-clause-ok : goal.returns-clause-ok
-returns-clause-ok c =
-    let t = c.args.tested.now in
-    let a = t.scope.now.attributes.now in
-    let ended : length t.graph.now.vertices ≤ c.vertices.start = omega arith in
-    keeps_all a c.requires.attribution t.production.now
-    (known_production a c.requires.attribution t.number t.production.now c.requires.there) t.graph.now c.requires.graph
-    (each_all t.graph.now.vertices (KeepsFrom a t.production.now) c.vertices.start ended c.vertices.invariant)
+    let refuses = RefusesProduction t.scope.now.attributes.now t.number t.production.now in
+    handed_on (λ f. f ≡ NoMemory c.in_err-reach.field-0.0) refuses c.from_residual.result (NoMemory c.in_err-reach.field-0.0)
+    c.from_residual.ensures.1 (λ f same. subst refuses (sym same) tt) refl

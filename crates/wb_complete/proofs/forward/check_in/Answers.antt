@@ -12,15 +12,15 @@ productions-preserved c =
     let xs = c.as_slice-productions.result.now in
     let i = c.productions.number in
     let x = c.index-productions-number.result in
-    each_more xs (KeepsWhereBridging c.args.checked.now.scope.now.attributes.now c.args.checked.now.extension) i x
+    each_more xs (KeepsWhereBridging c.args.scope.now.attributes.now c.args.extension) i x
     (read_at xs xs i x refl c.productions-test.true c.index-productions-number.is) c.productions.invariant
     c.in_ok-check_production.ensures.ok
 
 pub returns-clause-ok : goal.returns-clause-ok
 returns-clause-ok c number production there bridging =
-    let a = c.args.checked.now.scope.now.attributes.now in
+    let a = c.args.scope.now.attributes.now in
     let ended : length c.as_slice-productions.result.now ≤ c.productions.number = omega arith in
-    each_in c.as_slice-productions.result.now (KeepsWhereBridging a c.args.checked.now.extension) a.productions
+    each_in c.as_slice-productions.result.now (KeepsWhereBridging a c.args.extension) a.productions
     c.as_slice-productions.ensures c.productions.number ended c.productions.invariant number production there bridging
 
 pub check_production-requires-clause-there : goal.check_production-requires-clause-there
@@ -32,6 +32,6 @@ check_production-requires-clause-there c =
 
 pub returns-in_err-check_production-clause-refused : goal.returns-in_err-check_production-clause-refused
 returns-in_err-check_production-clause-refused c =
-    let refuses = IsTrueForwardRefusal c.args.checked.now.scope.now.attributes.now c.args.checked.now.extension in
+    let refuses = IsTrueForwardRefusal c.args.scope.now.attributes.now c.args.extension in
     handed_on refuses refuses c.from_residual.result c.in_err-check_production.field-0.0 c.from_residual.ensures.1 (λ e is. is)
     c.in_err-check_production.ensures.refused

@@ -3,4 +3,4 @@ use Rattle.wb_complete.specs.Inner.ForwardTests.{KeepsWhereBridging}
 use Rattle.wb_complete.proofs.forward.check_in.Given as goal
 
 abbrev pub invariant-productions : goal.invariant-productions
-invariant-productions l = EachBefore l.productions l.number (KeepsWhereBridging l.checked.scope.now.attributes.now l.checked.extension)
+invariant-productions l = EachBefore l.productions l.number (KeepsWhereBridging l.scope.attributes.now l.extension)

@@ -18,6 +18,6 @@ returns-clause-ok c =
     let t = c.args.tested.now in
     let a = t.scope.now.attributes.now in
     let ended : length t.graph.now.vertices ≤ c.vertices.start = omega arith in
-    keeps_all a c.requires.attribution t.production.now (known_production a c.requires.attribution t.number t.production.now c.requires.there)
-    t.graph.now c.requires.graph
+    keeps_all a c.requires.tested.attribution t.production.now (known_production a c.requires.tested.attribution t.number t.production.now c.requires.tested.there)
+    t.graph.now c.requires.tested.graph
     (each_all t.graph.now.vertices (KeepsFrom a t.production.now) c.vertices.start ended c.vertices.invariant)

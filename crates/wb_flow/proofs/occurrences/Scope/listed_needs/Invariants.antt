@@ -1,6 +1,6 @@
 use Rattle.std.proofs.Common.{◌≢◌, ◌≡◌, ◌<◌, ℕ, Some, slice_get}
 use Rattle.wb_syntax_resolved.specs.declared.attributes.Occurrence.{Occurrence}
-use Rattle.wb_flow.proofs.occurrences.Scope.needs.Given as goal
+use Rattle.wb_flow.proofs.occurrences.Scope.listed_needs.Given as goal
 
 abbrev pub invariant-occurrences : goal.invariant-occurrences
 invariant-occurrences l =

@@ -1,6 +1,6 @@
 use Rattle.std.proofs.Common.{◌≡◌, length}
 use Rattle.wb_flow.proofs.IndexLemmas.{IsIndexTo}
-use Rattle.wb_flow.proofs.occurrences.OccurrenceIndex.new.Given as goal
+use Rattle.wb_flow.proofs.occurrences.rows_of.Given as goal
 
 abbrev pub invariant-occurrences : goal.invariant-occurrences
 invariant-occurrences l =
