@@ -1,5 +1,5 @@
 -- What is made of the file of a host, and of a text or term of it, is their report.
-use Rattle.std.proofs.Common.{◌≡◌, inr, ℕ, List, [], Option}
+use Rattle.std.proofs.Common.{◌≡◌, inl, inr, ℕ, List, [], Option, Some}
 use Rattle.wb_certify_files.specs.HostContents.{IsHostText, IsHostRefusal}
 use Rattle.wb_certify_files.specs.WellDefined.{IsWellDefinedText, IsWellDefinedTextRefusal}
 use Rattle.wb_operations.specs.Operations.{OperationSignature, Operations}

@@ -1,5 +1,5 @@
 -- Words and known files have one status, and one text where a refusal has one.
-use Rattle.std.proofs.Common.{◌≡◌, ◌≢◌, ◌⊎◌, inl, inr, ℕ, List, Option, Some, ap, sym, ◌∙◌, subst}
+use Rattle.std.proofs.Common.{◌≡◌, ◌≢◌, ◌⊎◌, inl, inr, ℕ, List, [], ◌∷◌, Option, Some, ap, sym, ◌∙◌, subst}
 use Rattle.wb_world.specs.Shelf.{Files}
 use Rattle.wb_syntax.specs.Canonical.{IsCanonical}
 use Rattle.wb_certify_files.specs.HostContents.{IsBadText}

@@ -3,7 +3,7 @@
 //! The host and the extensions, if any, come as in `compose`, and then the text, whose answer in their language is found by
 //! `wb_compose_texts`.
 
-ghost use Rattle.std.specs.Prelude.{IfOk, ℕ, List};
+ghost use Rattle.std.specs.Prelude.{◌≡◌, IfOk, ℕ, List};
 ghost use Rattle.wb_compose.specs.Composed.{IsComposed};
 ghost use Rattle.wb_compose_texts.specs.Unions.{all_resolved};
 ghost use Rattle.wb_program_words.specs.Words.{texts};

@@ -252,7 +252,7 @@ module _ (extensions : ExcludesExtensions) (headers : ExcludesHeaders) (operatio
       (subst (λ (z : ResolvedParts). RefusesEach operations (Some files) host left (before ++ z ∷ []) t others) (sym same) more')
 
   -- where one is refused not all are certified
-  refused_or_all : (left : List (List ℕ)) (before values : List ResolvedParts) (s : Status) (bytes : List ℕ)
+  pub refused_or_all : (left : List (List ℕ)) (before values : List ResolvedParts) (s : Status) (bytes : List ℕ)
       → RefusesEach operations (Some files) host left before s bytes → AreEach operations (Some files) host left before values → ⊥
   refused_or_all [] before values s bytes first second = absurd first
   refused_or_all (file ∷ left) before values s bytes (inl first) (v, is, each) = refused_or_next before file v s bytes first is
@@ -262,7 +262,7 @@ module _ (extensions : ExcludesExtensions) (headers : ExcludesHeaders) (operatio
       (subst (λ (z : ResolvedParts). AreEach operations (Some files) host left (before ++ z ∷ []) values) (sym same) each)
 
   -- and all have one list of values
-  one_values : (left : List (List ℕ)) (before values others : List ResolvedParts) → AreEach operations (Some files) host left before values
+  pub one_values : (left : List (List ℕ)) (before values others : List ResolvedParts) → AreEach operations (Some files) host left before values
       → AreEach operations (Some files) host left before others → values ≡ others
   one_values [] before values others first second = first ∙ sym second
   one_values (file ∷ left) before values others (v, is, each) (w, is', each') =

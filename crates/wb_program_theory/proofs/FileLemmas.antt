@@ -20,7 +20,7 @@ use Rattle.wb_program_inputs.specs.Files.{FileIs}
 use Rattle.wb_program_inputs.specs.SeveralChecks.{AreEach, HasName, IsNextText, names_of}
 
 -- a fact of a file that another follows from
-file_is : (file : Option (List ℕ)) (P Q : List ℕ → Type 0) → ((contents : List ℕ) → P contents → Q contents) → FileIs file P → FileIs file Q
+pub file_is : (file : Option (List ℕ)) (P Q : List ℕ → Type 0) → ((contents : List ℕ) → P contents → Q contents) → FileIs file P → FileIs file Q
 file_is None P Q weaker p = absurd p
 file_is (Some contents) P Q weaker p = weaker contents p
 
@@ -103,6 +103,11 @@ module _ (operations : List OperationSignature) (files : Files) (host : Resolved
         );
         differ = rest.differ;
       }
+
+  -- those of all files have different names
+  pub all_differ : (all : List (List ℕ)) (values : List ResolvedParts) → AreEach operations (Some files) host all [] values
+      → Differ (names_of values)
+  all_differ all values are = (all_are all [] values (λ x i j one two. absurd (nothing_at x i one)) are).differ
 
   -- and back
   each_is : (left : List (List ℕ)) (before later : List ResolvedParts) → Hold left later → Differ (names_of (before ++ later))

@@ -7,3 +7,16 @@ mod FileLemmas
 mod ReportLemmas
 mod RunLemmas
 mod SeveralLemmas
+mod CertifiedLemmas
+mod CompletenessLemmas
+mod WordLemmas
+mod ChainLemmas
+mod AttributeCodes
+mod GrammarCodes
+mod MarkerCodes
+mod AlikeLemmas
+mod HostCodes
+mod ExtensionCodes
+mod RefusedFiles
+mod CodeLemmas
+mod CodeTexts

@@ -4,3 +4,11 @@ pub mod ValueLaws
 pub mod Laws
 -- reports of `run` with extensions in two orders
 pub mod RunLaws
+-- reports of files that hold a certified host and certified extensions
+pub mod Certified
+-- what a run writes that has a report, and `run` where the attribute has a value
+pub mod Completeness
+-- words that ask for a command with extensions in two orders
+pub mod WordLaws
+-- the codes of refusals
+pub mod Codes

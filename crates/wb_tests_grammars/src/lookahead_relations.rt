@@ -7,9 +7,7 @@ ghost use Rattle.wb_items.specs.LookaheadSets.{AreLookaheads};
 use crate::items_rows::CASES as KERNELS;
 use crate::lookahead::CASES as LOOKAHEADS;
 use crate::lookahead_canonical::GRAMMARS as CANONICAL;
-use crate::small::{
-    A, B, C, Small, T0, T1, T2, facts_of, grammar_of, kernels_of, lookaheads_of,
-};
+use crate::small::{A, B, C, Small, T0, T1, T2, facts_of, grammar_of, kernels_of, lookaheads_of};
 use std::alloc::{AllocError, Global};
 use std::test::Fail;
 use wb_base::Grammar;
@@ -35,12 +33,7 @@ static GRAMMARS: [Small; 4] = [
     Small {
         terminals: 3,
         nonterminals: 2,
-        productions: &[
-            (0, &[T0, B]),
-            (0, &[T2]),
-            (1, &[T1, A]),
-            (1, &[A, T0, B]),
-        ],
+        productions: &[(0, &[T0, B]), (0, &[T2]), (1, &[T1, A]), (1, &[A, T0, B])],
     },
     // A -> t1 A C, A -> B, B -> t2, C -> , C -> t0
     Small {

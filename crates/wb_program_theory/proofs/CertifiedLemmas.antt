@@ -1,0 +1,153 @@
+-- Of files that hold a certified host and certified extensions no refusal is reported.
+use Rattle.std.proofs.Common.{◌≡◌, ℕ, List, [], Some, inl, inr, length, subst}
+use Rattle.wb_certify_files.proofs.OneHostAnswer.{one_answer as one_host}
+use Rattle.wb_certify_files.specs.HostContents.{IsHostRefusal, IsHostText}
+use Rattle.wb_certify_files.specs.declared.host_refusal.HostRefusal.TheVariants as h
+use Rattle.wb_compose_texts.specs.declared.text_answer.TextAnswer.{TextAnswer}
+use Rattle.wb_compose_texts.specs.declared.text_answer.TextAnswer.TheVariants as a
+use Rattle.wb_compose_texts.specs.declared.value.TextValue.{TextValue}
+use Rattle.wb_compose_texts.specs.declared.value.TextValue.TheVariants as v
+use Rattle.wb_eval_root.specs.declared.value.TreeValue.{TreeValue}
+use Rattle.wb_eval_root.specs.declared.value.TreeValue.TheVariants as t
+use Rattle.wb_generate.specs.declared.generated.Generated.{Generated}
+use Rattle.wb_generate.specs.declared.generated.Generated.TheVariants as g
+use Rattle.wb_operations.specs.Operations.{OperationSignature, Operations}
+use Rattle.wb_report.specs.declared.done.Done.{Done}
+use Rattle.wb_report.specs.declared.done.Done.TheVariants as done
+use Rattle.wb_syntax_resolved.specs.declared.resolved.ResolvedParts.{ResolvedParts}
+use Rattle.wb_world.specs.Shelf.{Files}
+use Rattle.wb_program_inputs.specs.Checks.{Report}
+use Rattle.wb_program_inputs.specs.Files.{KnownFile}
+use Rattle.wb_program_inputs.specs.SeveralChecks.{AreEach, EachChecks, SeveralChecks}
+use Rattle.wb_program_inputs.specs.declared.status.Status.{Status}
+use Rattle.wb_program_inputs.proofs.Excludes.{ExcludesExtensions, ExcludesHeaders, not_few}
+use Rattle.wb_program_inputs.proofs.OneCheck.{on_file}
+use Rattle.wb_program_inputs.proofs.OneSeveralReport.{one_values, refused_or_all}
+use Rattle.wb_program_runs.specs.GenerateReport.{GenerateChecks, ShownMade}
+use Rattle.wb_program_runs.specs.RunReport.{RunChecks}
+use Rattle.wb_program_runs.specs.Values.{ShownTextValue, ShownTreeValue}
+use Rattle.wb_program.specs.TreeReport.{ShownText}
+use Rattle.wb_program_theory.specs.Certified.{AreCertified, ComposeChecks, HaveNoRefusal, HaveOneValue, IsItsRest, IsRefusalStatus}
+use Rattle.wb_program_theory.specs.Certified.{TreeChecks}
+use Rattle.wb_program_theory.proofs.FileLemmas.{all_differ}
+
+module _ (extensions : ExcludesExtensions) (headers : ExcludesHeaders) (operations : List OperationSignature) (files : Files)
+    (host : List ℕ) (all : List (List ℕ)) (r : ResolvedParts) (values : List ResolvedParts)
+    (are : AreCertified operations files host all r values) where
+  -- the host's file has one value
+  one_host_value : (q : ResolvedParts) → KnownFile (Some files) host (λ contents. IsHostText operations contents q) → q ≡ r
+  one_host_value q is = on_file (files host) (λ contents. IsHostText operations contents q) (λ contents. IsHostText operations contents r)
+      (q ≡ r) (λ contents x y. (one_host operations contents).one q r x y) is are.is_host
+
+  -- and so have those of the extensions
+  pub one_value : HaveOneValue operations files host all r values
+  one_value = record {
+    host_value = λ q others x. one_host_value q x.is_host;
+    extension_values = λ q others x. one_values extensions headers operations files r all [] others values
+        (subst (λ (z : ResolvedParts). AreEach operations (Some files) z all [] others) (one_host_value q x.is_host) x.each) are.each;
+    names = all_differ operations files r all values are.each;
+  }
+
+  module _ (rest : ResolvedParts → List ResolvedParts → Report) (s : Status) (bytes : List ℕ) where
+    -- no extension is refused
+    each_passes : EachChecks operations (Some files) r all (rest r) s bytes → rest r values s bytes
+    each_passes (inl refuses) = absurd (refused_or_all extensions headers operations files r all [] values s bytes refuses are.each)
+    each_passes (inr (others, each, report)) = subst (λ (z : List ResolvedParts). rest r z s bytes)
+        (one_values extensions headers operations files r all [] others values each are.each) report
+
+    -- nor the host
+    pub passes : SeveralChecks operations (Some files) host all rest s bytes → rest r values s bytes
+    passes (inl (ends, x)) = absurd (not_few all x.many are.few)
+    passes (inr (few, inl (ends, x))) = absurd (on_file (files host) (λ contents. IsHostText operations contents r)
+        (λ contents. IsHostRefusal operations contents (h.Specification x.shown)) ⊥
+        (λ contents p q. (one_host operations contents).no_specification r x.shown p q) are.is_host x.cause)
+    passes (inr (few, inr (inl (ends, x)))) = absurd (on_file (files host) (λ contents. IsHostText operations contents r)
+        (λ contents. IsHostRefusal operations contents (h.Certification x.shown)) ⊥
+        (λ contents p q. (one_host operations contents).no_certification r x.shown p q) are.is_host x.cause)
+    passes (inr (few, inr (inr (q, is, each)))) = each_passes
+        (subst (λ (z : ResolvedParts). EachChecks operations (Some files) z all (rest z) s bytes) (one_host_value q is) each)
+
+    -- and what is reported of the host and the extensions is the report
+    pub reports : rest r values s bytes → SeveralChecks operations (Some files) host all rest s bytes
+    reports report = inr (are.few, inr (inr (r, are.is_host, inr (values, are.each, report))))
+
+  -- a report that goes on with no status of a refusal is its rest
+  its_rest : (rest : ResolvedParts → List ResolvedParts → Report)
+      → ((s : Status) (bytes : List ℕ) → rest r values s bytes → ¬ IsRefusalStatus s)
+      → IsItsRest (SeveralChecks operations (Some files) host all rest) (rest r values)
+  its_rest rest well = record {
+    same = λ s bytes. (passes rest s bytes, reports rest s bytes);
+    accepted = λ s bytes report. well s bytes (passes rest s bytes report);
+  }
+
+-- what comes of an attribute is no refusal of a host or an extension
+tree_value_well : (shows : List ℕ → Done) (steps : ℕ) (value : TreeValue) (s : Status) (bytes : List ℕ)
+    → ShownTreeValue shows steps value s bytes → ¬ IsRefusalStatus s
+tree_value_well shows steps (t.Fault operation code) s bytes (ends, line) refused = subst IsRefusalStatus ends refused
+tree_value_well shows steps t.MoreSteps s bytes (ends, line) refused = subst IsRefusalStatus ends refused
+tree_value_well shows steps t.TooLong s bytes (ends, line) refused = subst IsRefusalStatus ends refused
+tree_value_well shows steps (t.Value printed) s bytes (ends, line) refused = subst IsRefusalStatus ends refused
+
+-- nor is what comes of a text
+text_value_well : (shows : List ℕ → Done) (steps : ℕ) (value : TextValue) (s : Status) (bytes : List ℕ)
+    → ShownTextValue shows steps value s bytes → ¬ IsRefusalStatus s
+text_value_well shows steps (v.Stopped place stop) s bytes (ends, line) refused = subst IsRefusalStatus ends refused
+text_value_well shows steps (v.Tree value) s bytes shown refused = tree_value_well shows steps value s bytes shown refused
+
+-- nor the answer of a text
+answer_well : (answer : TextAnswer) (s : Status) (bytes : List ℕ) → ShownText answer s bytes → ¬ IsRefusalStatus s
+answer_well (a.Tree printed) s bytes (ends, line) refused = subst IsRefusalStatus ends refused
+answer_well (a.Stopped place shown) s bytes (ends, line) refused = subst IsRefusalStatus ends refused
+answer_well a.TooLong s bytes (ends, line) refused = subst IsRefusalStatus ends refused
+
+module _ (operations : Operations) (files : Files) (r : ResolvedParts) (values : List ResolvedParts) where
+  -- nor the lines of `compose`
+  pub compose_well : (s : Status) (bytes : List ℕ) → ComposeChecks operations.signatures r values s bytes → ¬ IsRefusalStatus s
+  compose_well s bytes (ends, lines) refused = subst IsRefusalStatus ends refused
+
+  -- nor those of `tree`
+  pub tree_well : (text : List ℕ) (s : Status) (bytes : List ℕ) → TreeChecks operations.signatures (Some files) text r values s bytes
+      → ¬ IsRefusalStatus s
+  tree_well text s bytes (inl (ends, x)) refused = subst IsRefusalStatus ends refused
+  tree_well text s bytes (inr (contents, is, report)) refused = answer_well report.answer s bytes report.shown refused
+
+  -- nor those of `run`
+  pub run_well : (text name : List ℕ) (steps : ℕ) (s : Status) (bytes : List ℕ)
+      → RunChecks operations (Some files) text name steps r values s bytes → ¬ IsRefusalStatus s
+  run_well text name steps s bytes (inl (ends, x)) refused = subst IsRefusalStatus ends refused
+  run_well text name steps s bytes (inr (attribute, asked, inl (ends, x))) refused = subst IsRefusalStatus ends refused
+  run_well text name steps s bytes (inr (attribute, asked, inr (contents, is, report))) refused =
+      text_value_well (λ printed. done.Value name printed) steps report.value s bytes report.shown refused
+
+  -- nor what is shown of what a number made
+  made_well : (name : List ℕ) (size : ℕ) (made : Generated) (s : Status) (bytes : List ℕ)
+      → ShownMade operations r values name size made s bytes → ¬ IsRefusalStatus s
+  made_well name size (g.Text text leaves) s bytes (inl (ends, x)) refused = subst IsRefusalStatus ends refused
+  made_well name size (g.Text text leaves) s bytes (inr (short, report)) refused =
+      text_value_well (λ printed. done.Generated leaves (length text) name printed) 1000000 report.value s bytes report.shown refused
+  made_well name size (g.NoSentence least) s bytes (ends, line) refused = subst IsRefusalStatus ends refused
+
+  -- nor those of `generate`
+  pub generate_well : (number size : ℕ) (name : List ℕ) (s : Status) (bytes : List ℕ)
+      → GenerateChecks operations number size name r values s bytes → ¬ IsRefusalStatus s
+  generate_well number size name s bytes (inl (ends, x)) refused = subst IsRefusalStatus ends refused
+  generate_well number size name s bytes (inr (attribute, asked, report)) refused =
+      made_well name size report.made s bytes report.shown refused
+
+-- each command that composes reports of certified files no refusal
+pub no_refusal : ExcludesExtensions → ExcludesHeaders → (operations : Operations) (files : Files) (host : List ℕ)
+    (all : List (List ℕ)) (r : ResolvedParts) (values : List ResolvedParts)
+    → AreCertified operations.signatures files host all r values → HaveNoRefusal operations files host all r values
+no_refusal extensions headers operations files host all r values are = record {
+  compose = rest_of (ComposeChecks operations.signatures) (compose_well operations files r values);
+  tree = λ text. rest_of (TreeChecks operations.signatures (Some files) text) (tree_well operations files r values text);
+  run = λ text name steps. rest_of (RunChecks operations (Some files) text name steps)
+      (run_well operations files r values text name steps);
+  generate = λ number size name. rest_of (GenerateChecks operations number size name)
+      (generate_well operations files r values number size name);
+}
+  where
+    rest_of : (rest : ResolvedParts → List ResolvedParts → Report)
+        → ((s : Status) (bytes : List ℕ) → rest r values s bytes → ¬ IsRefusalStatus s)
+        → IsItsRest (SeveralChecks operations.signatures (Some files) host all rest) (rest r values)
+    rest_of = its_rest extensions headers operations.signatures files host all r values are

@@ -1,0 +1,47 @@
+//! Laws of certified files: each says that there is no refusal of them, and what a run on them comes to. There is nothing to run.
+
+ghost use Rattle.std.specs.Prelude.{ℕ, List};
+ghost use Rattle.wb_operations.specs.Operations.{OperationSignature, Operations};
+ghost use Rattle.wb_program_theory.specs.Certified.{AreCertified, HaveNoRefusal, HaveOneValue};
+ghost use Rattle.wb_program_theory.specs.Completeness.{HaveEnoughSteps, RunComesToValue, WriteAsReported};
+ghost use Rattle.wb_syntax_resolved.specs.declared.resolved.ResolvedParts.{ResolvedParts};
+ghost use Rattle.wb_world.specs.Shelf.{Files};
+
+use wb_certify_files::{header_law, one_extension_answer_law};
+use wb_program::{one_status_law, one_text_law};
+
+/// Where files hold a certified host and at most 64 extensions, each certified with it and named apart, `compose`, `tree`, `run` and
+/// `generate` refuse nothing: no report of theirs has status 3, 4, 14, 15 or 16. What they report is what comes after these checks, of the
+/// one host and the extensions that the files hold.
+pub fn no_refusal_law()
+    ensures accepted { (operations : Operations) (files : Files) (host : List ℕ) (extensions : List (List ℕ)) (r : ResolvedParts) (values : List ResolvedParts) → AreCertified operations.signatures files host extensions r values → HaveNoRefusal operations files host extensions r values }
+    ensures one { (operations : List OperationSignature) (files : Files) (host : List ℕ) (extensions : List (List ℕ)) (r : ResolvedParts) (values : List ResolvedParts) → AreCertified operations files host extensions r values → HaveOneValue operations files host extensions r values }
+{
+    one_extension_answer_law();
+    header_law();
+}
+
+/// Where words and known files have a report that refuses no specification, a run writes it and ends with its status. Else a write fails,
+/// and a part of it is written, or nothing is, where the run ends at a file or out of memory.
+pub fn written_law()
+    ensures { WriteAsReported }
+{
+    one_status_law();
+    one_text_law();
+}
+
+/// On such files, `run` ends with 0 and writes the value of the attribute, where the text has a tree, the attribute has a value at its root
+/// that isn't too long to print, and the steps are enough for it. Else the run ends at a file, at the output or out of memory.
+pub fn run_comes_law()
+    ensures { RunComesToValue }
+{
+    one_extension_answer_law();
+    header_law();
+    one_status_law();
+    one_text_law();
+}
+
+/// Where the text has a tree and the attribute such a value, some number of steps is enough for it, and so is each greater one.
+pub fn enough_steps_law()
+    ensures { HaveEnoughSteps }
+{}
