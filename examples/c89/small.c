@@ -1,0 +1,1 @@
+int f(void) { if (low < high) return low; return 0; }
