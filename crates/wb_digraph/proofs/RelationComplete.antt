@@ -55,7 +55,7 @@ module _ {g : GrammarView} {count : ℕ} (prefix_of : ℕ → List Symbol) {Next
     of_top : item.production ≡ length g.productions → t ≡ end_of g → (item.dot ≡ 0 → s ≡ 0) → Stands s item t
     of_back : (s' a : ℕ) → LooksBack g Next s item s' a → IsFollow g Next s' a t → Stands s item t
 
-  -- the step of rule 4
+  -- a lookahead of an item with its dot before a nonterminal goes on to that nonterminal's initial items
   follow_of : (s b t u : ℕ) (item : Item) (rest : List Symbol) (to : ℕ) → Next s (Nonterminal b) to →
       HasItem g (prefix_of to) (advance item) → after_dot g item ≡ Nonterminal b ∷ rest → Begun g rest t u → Stands s item t →
       IsFollow g Next s b u
@@ -80,7 +80,7 @@ module _ {g : GrammarView} {count : ℕ} (prefix_of : ℕ → List Symbol) {Next
         path = l.path;
       }) f)
 
-  -- the step of rule 5
+  -- it goes with the item over the symbol after its dot
   stands_moved : (s : ℕ) (item : Item) (x : Symbol) (rest : List Symbol) (t to : ℕ) (moved : Item) → Next s x to →
       after_dot g item ≡ x ∷ rest → moved ≡ advance item → Stands s item t → Stands to moved t
   stands_moved s item x rest t to moved next is moved_is (of_top top at zero_dot) =
