@@ -34,7 +34,7 @@ const CTX: &str = "format 1; host ctx; \
     concrete root : P ::= n : N { n.env = 1; n.store = 2; top.value = n.value; } \
     concrete leaf : N ::= x : X { top.value = @add(top.env, top.store); }";
 
-static ROWS: [Row; 19] = [
+static ROWS: [Row; 21] = [
     (
         "workbench certify h t",
         &[
@@ -44,7 +44,7 @@ static ROWS: [Row; 19] = [
                 concrete twin : T ::= m : D t : T {   forwards to num(@to_text(@mul(2, t.value))); }",
         ],
         Status::Done,
-        "certified host tiny\n…certified extension dup\n",
+        "certified host tiny\ncertified extension dup\n",
     ),
     (
         "workbench certify h t",
@@ -57,7 +57,7 @@ static ROWS: [Row; 19] = [
                 aspect num { top.leaves = 1; }",
         ],
         Status::Done,
-        "certified host tiny\n…certified extension count\n",
+        "certified host tiny\ncertified extension count\n",
     ),
     (
         "workbench certify h t",
@@ -66,7 +66,7 @@ static ROWS: [Row; 19] = [
             "format 1; extension minus for tiny; marking M /-/; concrete same : T ::= m : M t : T { forwards to t; }",
         ],
         Status::Done,
-        "certified host tiny\n…certified extension minus\n",
+        "certified host tiny\ncertified extension minus\n",
     ),
     (
         "workbench certify h t",
@@ -136,7 +136,7 @@ static ROWS: [Row; 19] = [
             "format 1; extension second for adj; marking K /k/; concrete kh : H ::= k : K y : Y { forwards to hx(\"x\"); }",
         ],
         Status::Done,
-        "certified host adj\n…certified extension second\n",
+        "certified host adj\ncertified extension second\n",
     ),
     (
         "workbench certify h t",
@@ -154,7 +154,7 @@ static ROWS: [Row; 19] = [
             "format 1; extension fit for pq; marking M /m/; concrete mg : G ::= m : M a : A x : X { forwards to gz(\"z\"); }",
         ],
         Status::Done,
-        "certified host pq\n…certified extension fit\n",
+        "certified host pq\ncertified extension fit\n",
     ),
     (
         "workbench certify h t",
@@ -164,6 +164,25 @@ static ROWS: [Row; 19] = [
         ],
         Status::NotCertified,
         "refused t E6 after…item ac/1 on Y\n",
+    ),
+    (
+        "workbench certify h t u",
+        &[
+            PQ,
+            "format 1; extension fit for pq; marking M /m/; concrete mg : G ::= m : M a : A x : X { forwards to gz(\"z\"); }",
+            "format 1; extension unfit for pq; marking M /m/; concrete mg : G ::= m : M a : A y : Y { forwards to gz(\"z\"); }",
+        ],
+        Status::NotCertified,
+        "refused u E6 after…item ac/1 on Y\n",
+    ),
+    (
+        "workbench certify h t t",
+        &[
+            PQ,
+            "format 1; extension fit for pq; marking M /m/; concrete mg : G ::= m : M a : A x : X { forwards to gz(\"z\"); }",
+        ],
+        Status::Done,
+        "certified host pq\ncertified extension fit\ncertified extension fit\n",
     ),
     (
         "workbench certify h t",
