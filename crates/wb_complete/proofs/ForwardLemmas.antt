@@ -16,7 +16,6 @@ use Rattle.wb_flow.specs.declared.vertex.Vertex.{Vertex}
 use Rattle.wb_flow.specs.declared.vertex.Vertex.TheVariants as code
 use Rattle.wb_flow.specs.Graphs.{IsFlowGraph}
 use Rattle.wb_flow.specs.Rules.{IsDefined, target_of}
-use Rattle.wb_flow.specs.Tops.{LeadsToTop}
 use Rattle.wb_flow.specs.Vertices.{vertex_of, vertex_below}
 use Rattle.wb_flow.proofs.ArrowLemmas.{defined_rule, below_rule}
 use Rattle.wb_flow.proofs.VertexLemmas.{name_of, name_of_vertex, top_is, direction_is}
@@ -33,6 +32,7 @@ use Rattle.wb_syntax_resolved.specs.declared.equation.Target.TheVariants as targ
 use Rattle.wb_syntax_resolved.specs.declared.production.Production.{Production}
 use Rattle.wb_syntax_resolved.specs.Attribution.{IsAttribution}
 use Rattle.wb_syntax_resolved.specs.Named.{IsNamedProduction, IsNamedEquation, IsNamedTarget}
+use Rattle.wb_flow.proofs.ReachLemmas.{LeadsToTop}
 
 -- what holds where there is no value, and nothing is asked where there is one
 pub where_none : {X P : Type 0} (o : Option X) → false ≡ is_some o → IfNone o P → P

@@ -16,8 +16,10 @@ use Rattle.wb_termset.specs.Sets.{IsMember, IsSubset}
 use Rattle.wb_termset.proofs.CallerLemmas.{IsUnion-left, IsUnion-right}
 use Rattle.wb_flow.specs.declared.vertex.Vertex.{Vertex}
 use Rattle.wb_flow.specs.Inner.Adding.{Adds}
-use Rattle.wb_flow.specs.Inner.Closing.{set_at, AreEven, AreFalling, AreJoined, IsClosing, AreClosed, AreClosedOver, AreStarts}
-use Rattle.wb_flow.specs.Inner.Closing.{IsStepOf, AreStepsOf, AreReachSets}
+use Rattle.wb_flow.specs.Inner.Closing.{AreEven, AreFalling, AreJoined, IsClosing, AreClosed, AreClosedOver, AreStarts}
+use Rattle.wb_flow.specs.ReachSets.{set_at}
+use Rattle.wb_flow.specs.Inner.Closing.{IsStepOf, AreStepsOf}
+use Rattle.wb_flow.specs.ReachSets.{AreReachSets}
 use Rattle.wb_flow.proofs.AddingLemmas.{below_or, adds_none, adds_one, adds_as}
 
 -- no join yet

@@ -7,7 +7,7 @@ use Rattle.std.proofs.lemmas.List.{length-replicate}
 use Rattle.std.proofs.lemmas.Option.{slice_get_within}
 use Rattle.wb_base.specs.Different.{Differ}
 use Rattle.wb_graph.specs.Components.{ComponentsView, AreComponents}
-use Rattle.wb_graph.specs.Graphs.{Edge, IsEdgeBelow}
+use Rattle.wb_graph.specs.Graphs.{Edge, IsEdgeBelow, Walk}
 use Rattle.wb_lemmas.proofs.Members.{contains_at, place_of}
 use Rattle.wb_lemmas.proofs.Places.{at_once, at_within}
 use Rattle.wb_flow_theory.specs.Occurrences.{Goes}
@@ -15,14 +15,20 @@ use Rattle.wb_flow.specs.declared.reach.TopReach.{TopReach}
 use Rattle.wb_flow.specs.declared.vertex.FlowGraph.{FlowGraph}
 use Rattle.wb_flow.specs.declared.vertex.Vertex.{Vertex}
 use Rattle.wb_flow.specs.declared.vertex.Vertex.TheVariants as code
-use Rattle.wb_flow.specs.Tops.{IsTop, LeadsToTop, KnowsTops, IsSelection, AddsSelected, HasSet, IsBeyond}
+use Rattle.wb_flow.specs.Tops.{IsTop, KnowsTops, IsSelection, AddsSelected, HasSet, IsBeyond}
 use Rattle.wb_flow.specs.Inner.Adding.{Adds, SomeOf}
-use Rattle.wb_flow.specs.Inner.Closing.{set_at, IsOutsideAt, IsSelectionBefore}
+use Rattle.wb_flow.specs.Inner.Closing.{IsOutsideAt, IsSelectionBefore}
+use Rattle.wb_flow.specs.ReachSets.{set_at}
 use Rattle.wb_flow.proofs.AddingLemmas.{below_or, adds_as}
 use Rattle.wb_syntax_resolved.specs.declared.attributes.Direction.TheVariants.{Inherited}
 use Rattle.wb_syntax_resolved.specs.declared.attribution.AttributionParts.{AttributionParts}
 use Rattle.wb_termset.specs.Sets.{IsMember, IsSubset}
 use Rattle.wb_termset.proofs.CallerLemmas.{has_or_not, IsEmpty-replicate, IsSubset-insert, IsMember-insert_same, IsMember-insert}
+
+-- a walk of zero or more edges leads from the vertex at this place to this inherited attribute of the top
+abbrev pub LeadsToTop : AttributionParts → FlowGraph → ℕ → ℕ → Type 0
+LeadsToTop a graph place i = Goes a Inherited i
+    × ((k : ℕ) × (slice_get graph.vertices k ≡ Some (code.Top i)) × Walk graph.edges place k)
 
 module _ (a : AttributionParts) (graph : FlowGraph) (reach : TopReach) (knows : KnowsTops a graph reach) (place : ℕ) where
   -- a vertex has a set

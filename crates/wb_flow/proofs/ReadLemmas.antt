@@ -17,7 +17,6 @@ use Rattle.wb_flow.specs.declared.vertex.Vertex.TheVariants as code
 use Rattle.wb_flow.specs.Graphs.{IsFlowGraph}
 use Rattle.wb_flow.specs.Inner.Sources.{IsSource, Allows, KeepsFrom, KeepsAll}
 use Rattle.wb_flow.specs.Refusals.{ReachesOutside}
-use Rattle.wb_flow.specs.Tops.{LeadsToTop}
 use Rattle.wb_flow.specs.Vertices.{vertex_of}
 use Rattle.wb_flow.proofs.VertexLemmas.{name_of, name_of_vertex, top_is}
 use Rattle.wb_flow.proofs.WalkLemmas.{PlaceOf, place_of_vertex, reaches_walk, walk_leads, reaches_from, reaches_to}
@@ -28,6 +27,7 @@ use Rattle.wb_syntax_resolved.specs.declared.attribution.AttributionParts.{Attri
 use Rattle.wb_syntax_resolved.specs.declared.production.Production.{Production}
 use Rattle.wb_syntax_resolved.specs.Attribution.{IsAttribution}
 use Rattle.wb_syntax_resolved.specs.Named.{IsNamedProduction}
+use Rattle.wb_flow.proofs.ReachLemmas.{LeadsToTop}
 
 -- all that is written on a production of an attribution is named
 pub known_production : (a : AttributionParts) → IsAttribution a → (number : ℕ) (production : Production)

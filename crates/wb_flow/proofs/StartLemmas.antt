@@ -15,7 +15,8 @@ use Rattle.wb_lemmas.proofs.Places.{at_once, append_after, append_keeps, default
 use Rattle.wb_termset.specs.Sets.{IsMember, IsUnion}
 use Rattle.wb_termset.proofs.CallerLemmas.{IsEmpty-replicate, IsSubset-insert, IsMember-insert_same, IsMember-insert, has_below}
 use Rattle.wb_flow.specs.declared.vertex.Vertex.{Vertex}
-use Rattle.wb_flow.specs.Inner.Closing.{set_at, AreSets, AreEven, IsStart, AddsStart, AreStartsBefore, AreStarts, AreJoined}
+use Rattle.wb_flow.specs.Inner.Closing.{AreEven, IsStart, AddsStart, AreStartsBefore, AreStarts, AreJoined}
+use Rattle.wb_flow.specs.ReachSets.{set_at, AreSets}
 use Rattle.wb_flow.proofs.AddingLemmas.{below_or}
 
 -- a set that is put at a place

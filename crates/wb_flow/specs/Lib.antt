@@ -6,6 +6,8 @@ pub mod Graphs
 pub mod Rules
 -- occurrences by nonterminal
 pub mod Occurrences
+-- sets of vertices to which walks lead
+pub mod ReachSets
 -- which inherited attributes of the top vertices reach
 pub mod Tops
 -- what the tests of flow types and cycles ask, and when each refusal is true

@@ -2,24 +2,18 @@
 use Rattle.std.specs.Prelude.{◌≡◌, ◌<◌, ◌↔◌, ◌⊎◌, ℕ, Bool, List, Some, Contains, length, slice_get}
 use Rattle.wb_flow_theory.specs.Occurrences.{Goes}
 use Rattle.wb_graph.specs.Components.{AreComponents}
-use Rattle.wb_graph.specs.Graphs.{Walk}
 use Rattle.wb_termset.specs.Sets.{IsMember}
 use Rattle.wb_flow.specs.declared.reach.TopReach.{TopReach}
 use Rattle.wb_flow.specs.declared.vertex.FlowGraph.{FlowGraph}
 use Rattle.wb_flow.specs.declared.vertex.Vertex.{Vertex}
 use Rattle.wb_flow.specs.declared.vertex.Vertex.TheVariants as v
-use Rattle.wb_flow.specs.Inner.Closing.{set_at, AreReachSets}
+use Rattle.wb_flow.specs.ReachSets.{set_at, AreReachSets}
 use Rattle.wb_syntax_resolved.specs.declared.attributes.Direction.TheVariants.{Inherited}
 use Rattle.wb_syntax_resolved.specs.declared.attribution.AttributionParts.{AttributionParts}
 
 -- the vertex is an inherited attribute of the top
 abbrev pub IsTop : AttributionParts → Vertex → Type 0
 IsTop a vertex = (i : ℕ) × (vertex ≡ v.Top i) × Goes a Inherited i
-
--- a walk of zero or more edges leads from the vertex at this place to this inherited attribute of the top
-abbrev pub LeadsToTop : AttributionParts → FlowGraph → ℕ → ℕ → Type 0
-LeadsToTop a graph place i = Goes a Inherited i
-    × ((k : ℕ) × (slice_get graph.vertices k ≡ Some (v.Top i)) × Walk graph.edges place k)
 
 -- the inherited attributes of the top are those of the graph, and each set has those to which walks lead
 pub record KnowsTops (a : AttributionParts) (graph : FlowGraph) (reach : TopReach) : Type 0 where

@@ -6,7 +6,8 @@ ghost use Rattle.std.specs.Prelude.{◌≡◌, ◌≢◌, ◌<◌, ℕ, All, Con
 ghost use Rattle.std.specs.List.Sorted.{IsNonDecreasingBy};
 ghost use Rattle.wb_flow.specs.declared.vertex.Vertex.{Vertex};
 ghost use Rattle.wb_flow.specs.Inner.Adding.{Adds};
-ghost use Rattle.wb_flow.specs.Inner.Closing.{set_at, AreEven, AreStarts, AddsStart, AreStepsOf, AreFalling, AreJoined, AreClosed, AreClosedOver, AreReachSets};
+ghost use Rattle.wb_flow.specs.Inner.Closing.{AreEven, AreStarts, AddsStart, AreStepsOf, AreFalling, AreJoined, AreClosed, AreClosedOver};
+ghost use Rattle.wb_flow.specs.ReachSets.{set_at, AreReachSets};
 ghost use Rattle.wb_graph.specs.Components.{AreComponents};
 ghost use Rattle.wb_graph.specs.Graphs.{Edge, IsEdgeBelow};
 

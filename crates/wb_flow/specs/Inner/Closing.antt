@@ -6,16 +6,8 @@ use Rattle.wb_graph.specs.Graphs.{Edge, Walk}
 use Rattle.wb_termset.specs.Sets.{IsMember, IsSubset, IsUnion}
 use Rattle.wb_flow.specs.declared.vertex.Vertex.{Vertex}
 use Rattle.wb_flow.specs.declared.vertex.Vertex.TheVariants as v
+use Rattle.wb_flow.specs.ReachSets.{set_at, AreSets}
 use Rattle.wb_flow.specs.Inner.Adding.{SomeOf}
-
--- the set at a place, and that of nothing beyond
-abbrev pub set_at : List (List Bool) → ℕ → List Bool
-set_at sets place = slice_index_or sets place []
-
--- so many sets, of numbers below this count
-pub record AreSets (number count : ℕ) (sets : List (List Bool)) : Type 0 where
-  pub len : length sets ≡ number
-  pub each : (c : ℕ) → c < number → length (set_at sets c) ≡ count
 
 -- all sets are of numbers below one count
 abbrev pub AreEven : List (List Bool) → Type 0
@@ -83,13 +75,6 @@ pub record AreClosed (steps : List Edge) (old new : List (List Bool)) : Type 0 w
 -- so it is along the steps of these edges
 abbrev pub AreClosedOver : List Edge → ComponentsView → List (List Bool) → List (List Bool) → Type 0
 AreClosedOver edges components old new = (steps : List Edge) × AreStepsOf edges components steps × AreClosed steps old new
-
--- the set of each component has the numbers of those vertices to which walks lead from its own
-pub record AreReachSets (vertices tops : List Vertex) (edges : List Edge) (components : ComponentsView) (sets : List (List Bool)) : Type 0
-  where
-    pub sizes : AreSets (length components.roots) (length tops) sets
-    pub each : (u c r : ℕ) (v : Vertex) → slice_get components.numbers u ≡ Some c → slice_get tops r ≡ Some v
-        → IsMember (set_at sets c) r ↔ ((place : ℕ) × (slice_get vertices place ≡ Some v) × Walk edges u place)
 
 -- the number is that of this attribute of the top, and the set has it and the other hasn't
 pub record IsOutsideAt (tops : List Vertex) (set allowed : List Bool) (number i : ℕ) : Type 0 where

@@ -1,7 +1,8 @@
 use Rattle.std.proofs.Common.{◌≡◌, ◌∙◌, Bool, List, [], true, sym, ap, subst}
 use Rattle.std.specs.Prelude.{slice_set}
 use Rattle.wb_lemmas.proofs.Places.{default_at}
-use Rattle.wb_flow.specs.Inner.Closing.{set_at, AddsStart}
+use Rattle.wb_flow.specs.Inner.Closing.{AddsStart}
+use Rattle.wb_flow.specs.ReachSets.{set_at}
 use Rattle.wb_flow.proofs.AddingLemmas.{read_item}
 use Rattle.wb_flow.proofs.StartLemmas.{adds_no_start, adds_start_at}
 use Rattle.wb_flow.proofs.closing.add_start.Goals as goal
