@@ -1,319 +1,310 @@
--- Pairs of places: what is marked, what completes both expressions after a pair, and that this is what both match.
-use Rattle.std.proofs.Common.{◌≡◌, ℕ, ◌+◌, ◌*◌, ◌/◌, ◌%◌, ◌≤◌, ◌<◌, ◌⊎◌, Bool, true, false, List, [], ◌∷◌, ◌++◌, refl, sym, ◌∙◌, ap}
-use Rattle.std.proofs.Common.{subst, arith, inl, inr, Some, length, get_or, set, take, length-set}
-use Rattle.std.specs.Prelude.{slice_get, Contains, IsTrue, ◌↔◌}
-use Rattle.std.proofs.lemmas.Bool.{cases_lt, true≢false}
-use Rattle.std.proofs.lemmas.List.{take_all, get_or_default, get_or_past}
-use Rattle.std.proofs.lemmas.List.Elements.{Contains-append_left, Contains-push, Contains-push_cases, All-contains}
+-- Pairs of places: what is met, and what leads from a pair to two ends leads there from a pair before it.
+use Rattle.std.proofs.Common.{◌≡◌, ℕ, ◌+◌, ◌*◌, ◌/◌, ◌%◌, ◌≤◌, ◌<◌, ◌⊎◌, List, [], ◌∷◌, ◌++◌, refl, sym, ◌∙◌, ap}
+use Rattle.std.proofs.Common.{subst, arith, inl, inr, Some, length, get_or, take, append_assoc, append-nil}
+use Rattle.std.specs.Prelude.{slice_get, Contains}
+use Rattle.std.proofs.lemmas.List.{take_all}
+use Rattle.std.proofs.lemmas.List.Elements.{Contains-append_left, Contains-push, Contains-push_cases}
 use Rattle.std.proofs.lemmas.Nat.{div-mul-add, mod-mul-add}
-use Rattle.std.proofs.lemmas.Option.{slice_get-get_or, same_Some}
-use Rattle.wb_termset.specs.Sets.{IsMember}
-use Rattle.wb_termset.proofs.CallerLemmas.{IsSubset-insert, IsMember-insert, IsMember-insert_same, members_mono}
-use Rattle.wb_termset.proofs.CallerLemmas.{members_grow}
-use Rattle.wb_regex.specs.Tree.{Tree}
-use Rattle.wb_regex.specs.Matches as w
-use Rattle.wb_regex.specs.declared.node.RegexNode.{RegexNode}
-use Rattle.wb_regex.specs.declared.node.RegexNode.TheVariants as n
-use Rattle.wb_automata.specs.declared.shared.Overlap.{Overlap}
-use Rattle.wb_automata.specs.declared.shared.Overlap.TheVariants as o
-use Rattle.wb_automata_positions.specs.declared.tables.Tables.{Tables}
-use Rattle.wb_automata.specs.Overlaps.{IsOverlap}
-use Rattle.wb_automata_positions.specs.Rows.{row}
-use Rattle.wb_automata_positions.specs.Classes.{AreClasses}
-use Rattle.wb_automata_positions.specs.Sizes.{bound_of}
-use Rattle.wb_automata.specs.Inner.Pairs.{Adds, Any, AreApart, AreFirsts, AreTwo, Completes, CompletesBoth, HasFlags, IsAfter, IsCompletion}
-use Rattle.wb_automata.specs.Inner.Pairs.{start_pair}
-use Rattle.wb_automata_positions.specs.PositionTrees.{PositionTree, Matches}
-use Rattle.wb_automata_positions.specs.Inner.Stands.{After}
-use Rattle.wb_automata_positions.specs.Positions.{Last}
-use Rattle.wb_automata_positions.specs.Tables.{AreTables}
-use Rattle.wb_automata_positions.specs.Leaves.{holds_of, node_holds}
-use Rattle.wb_automata_positions.specs.Transitions.{IsTable}
-use Rattle.wb_automata_positions.proofs.ErasingLemmas.{erased, placed, has_byte_holds}
+use Rattle.std.proofs.Math.Nat.{mod-lt}
+use Rattle.std.proofs.lemmas.Option.{slice_get-get_or}
+use Rattle.wb_automata_positions.specs.declared.places.Place.{Place}
+use Rattle.wb_automata_positions.specs.declared.places.Place.TheVariants as p
+use Rattle.wb_automata_positions.specs.Places.{ArePlacesBelow, GoesBelow, GoesOn, ReadsTo, Runs, reads, moves}
 use Rattle.wb_automata_positions.proofs.MachineLemmas.{taken, none_taken}
-use Rattle.wb_automata_positions.proofs.Paths.{last_after, after_last}
-use Rattle.wb_automata_positions.proofs.Ranges.{after_within}
-use Rattle.wb_automata_positions.proofs.StandsLemmas.{forth_from, back_from}
-use Rattle.wb_automata.proofs.WholeLemmas.{blank, forest_ranges, outside}
+use Rattle.wb_automata.specs.declared.steps.Steps.{Steps}
+use Rattle.wb_automata.specs.declared.steps.Steps.TheVariants.{Still}
+use Rattle.wb_automata.specs.Inner.Pairs.{Adds, Any, IsAfter, LeadTo}
+use Rattle.wb_automata.specs.Inner.Pairs.{both_steps, left_of, pair_steps, place_at, right_of, right_steps, steps_of}
 
 pub none_in : (c : ℕ) → Contains [] c → ⊥
 none_in c (k, lt, is) = absurd (omega arith)
 
 -- nothing is wanted
-pub adds_none : (wanted : ℕ → Type 0) (flags : List Bool) (next : List ℕ) → ((d : ℕ) → wanted d → ⊥) → Adds wanted flags next flags next
-adds_none wanted flags next none = record {
-  len = refl;
+pub adds_none : (wanted : ℕ → Type 0) (met next : List ℕ) → ((d : ℕ) → wanted d → ⊥) → Adds wanted met next met next
+adds_none wanted met next none = record {
+  more = [];
+  extends = sym (append-nil next);
   keeps = λ d h. h;
-  kept = λ d h. h;
   only = λ d h. inl h;
   sound = λ d h. inl h;
+  marked = λ d h. inl h;
   all = λ d want. absurd (none d want);
-  few = omega arith;
-  grew = inl refl;
+}
+
+-- one thing and then another
+pub adds_both : (one other : ℕ → Type 0) (met met' met'' next next' next'' : List ℕ) → Adds one met next met' next'
+    → Adds other met' next' met'' next'' → Adds (λ d. one d ⊎ other d) met next met'' next''
+adds_both one other met met' met'' next next' next'' h k = record {
+  more = h.more ++ k.more;
+  extends = k.extends ∙ ap (λ z. z ++ k.more) h.extends ∙ append_assoc next h.more k.more;
+  keeps = λ d a. k.keeps d (h.keeps d a);
+  only = λ d a. elim (k.only d a) [
+    | inr has ↦ inr has
+    | inl b ↦ elim (h.only d b) [
+      | inl before ↦ inl before
+      | inr has ↦ inr (subst (λ z. Contains z d) (sym k.extends) (Contains-append_left next' k.more d has))
+    ]
+  ];
+  sound = λ d a. elim (k.sound d a) [
+    | inr want ↦ inr (inr want)
+    | inl b ↦ elim (h.sound d b) [ inl before ↦ inl before | inr want ↦ inr (inl want) ]
+  ];
+  marked = λ d a. elim (k.marked d a) [
+    | inr m ↦ inr m
+    | inl b ↦ elim (h.marked d b) [ inl before ↦ inl before | inr m ↦ inr (k.keeps d m) ]
+  ];
+  all = λ d want. elim want [ inl a ↦ k.keeps d (h.all d a) | inr b ↦ k.all d b ];
 }
 
 -- what is wanted, in other words
-pub adds_same : (wanted other : ℕ → Type 0) (flags flags' : List Bool) (next next' : List ℕ) → ((d : ℕ) → wanted d → other d) →
-    ((d : ℕ) → other d → wanted d) → Adds wanted flags next flags' next' → Adds other flags next flags' next'
-adds_same wanted other flags flags' next next' f g h = record {
-  len = h.len;
+pub adds_same : (wanted other : ℕ → Type 0) (met next met' next' : List ℕ) → ((d : ℕ) → wanted d → other d) →
+    ((d : ℕ) → other d → wanted d) → Adds wanted met next met' next' → Adds other met next met' next'
+adds_same wanted other met next met' next' f g h = record {
+  more = h.more;
+  extends = h.extends;
   keeps = h.keeps;
-  kept = h.kept;
   only = h.only;
   sound = λ d has. elim (h.sound d has) [ inl before ↦ inl before | inr want ↦ inr (f d want) ];
+  marked = h.marked;
   all = λ d want. h.all d (g d want);
-  few = h.few;
-  grew = h.grew;
 }
 
--- a pair that wasn't marked
-pub adds_new : (flags : List Bool) (next : List ℕ) (c : ℕ) → c < length flags → ¬ IsMember flags c → Adds (λ d. d ≡ c) flags next
-    (set flags c true) (next ++ c ∷ [])
-adds_new flags next c lt out =
-    let len : length flags ≡ length (set flags c true) = sym (length-set flags c true) in
-    let subset = IsSubset-insert flags c in
-    let on : IsMember (set flags c true) c = IsMember-insert_same flags c lt in
-    record {
-      len = sym len;
-      keeps = subset;
-      kept = λ d h. Contains-append_left next (c ∷ []) d h;
-      only = λ d h. elim (IsMember-insert flags c d h) [
-        | inl before ↦ inl before
-        | inr e ↦ inr (subst (Contains (next ++ c ∷ [])) (sym e) (Contains-push next c))
-      ];
-      sound = λ d h. elim (Contains-push_cases next c d h) [ inl before ↦ inl before | inr e ↦ inr (sym e) ];
-      all = λ d e. subst (IsMember (set flags c true)) (sym e) on;
-      few = members_mono flags (set flags c true) len subset;
-      grew = inr (members_grow flags (set flags c true) len subset (c, out, on));
-    }
+-- a pair that wasn't met
+pub adds_new : (met met' next next' : List ℕ) (c : ℕ) → met' ≡ met ++ c ∷ [] → next' ≡ next ++ c ∷ []
+    → Adds (λ d. d ≡ c) met next met' next'
+adds_new met met' next next' c e f = record {
+  more = c ∷ [];
+  extends = f;
+  keeps = λ d h. subst (λ z. Contains z d) (sym e) (Contains-append_left met (c ∷ []) d h);
+  only = λ d h. elim (Contains-push_cases met c d (subst (λ z. Contains z d) e h)) [
+    | inl before ↦ inl before
+    | inr same ↦ inr (subst (Contains next') same (subst (λ z. Contains z c) (sym f) (Contains-push next c)))
+  ];
+  sound = λ d h. elim (Contains-push_cases next c d (subst (λ z. Contains z d) f h)) [ inl before ↦ inl before | inr same ↦ inr (sym same) ];
+  marked = λ d h. elim (Contains-push_cases next c d (subst (λ z. Contains z d) f h)) [
+    | inl before ↦ inl before
+    | inr same ↦ inr (subst (Contains met') same (subst (λ z. Contains z c) (sym e) (Contains-push met c)))
+  ];
+  all = λ d same. subst (Contains met') (sym same) (subst (λ z. Contains z c) (sym e) (Contains-push met c));
+}
 
 -- a pair that was
-pub adds_old : (flags : List Bool) (next : List ℕ) (c : ℕ) → IsMember flags c → Adds (λ d. d ≡ c) flags next flags next
-adds_old flags next c has = record {
-  len = refl;
-  keeps = λ d h. h;
-  kept = λ d h. h;
-  only = λ d h. inl h;
+pub adds_old : (met met' next : List ℕ) (c : ℕ) → met' ≡ met → Contains met c → Adds (λ d. d ≡ c) met next met' next
+adds_old met met' next c e has = record {
+  more = [];
+  extends = sym (append-nil next);
+  keeps = λ d h. subst (λ z. Contains z d) (sym e) h;
+  only = λ d h. inl (subst (λ z. Contains z d) e h);
   sound = λ d h. inl h;
-  all = λ d e. subst (IsMember flags) (sym e) has;
-  few = omega arith;
-  grew = inl refl;
+  marked = λ d h. inl h;
+  all = λ d same. subst (λ z. Contains z d) (sym e) (subst (Contains met) (sym same) has);
 }
 
-pub adds_begin : (xs : List ℕ) (P : ℕ → ℕ → Type 0) (flags : List Bool) (next : List ℕ) → Adds (Any (take 0 xs) P) flags next flags next
-adds_begin xs P flags next = adds_none (Any (take 0 xs) P) flags next (λ d want. none_taken xs want.one want.has)
+pub adds_begin : (xs : List ℕ) (P : ℕ → ℕ → Type 0) (met next : List ℕ) → Adds (Any (take 0 xs) P) met next met next
+adds_begin xs P met next = adds_none (Any (take 0 xs) P) met next (λ d want. none_taken xs want.one want.has)
 
 -- those of one element more
-pub adds_more : (xs : List ℕ) (i : ℕ) (P : ℕ → ℕ → Type 0) (f f' f'' : List Bool) (m m' m'' : List ℕ) → i < length xs
+pub adds_more : (xs : List ℕ) (i : ℕ) (P : ℕ → ℕ → Type 0) (f f' f'' m m' m'' : List ℕ) → i < length xs
     → Adds (P (get_or xs i 0)) f' m' f'' m'' → Adds (Any (take i xs) P) f m f' m' → Adds (Any (take (i + 1) xs) P) f m f'' m''
-adds_more xs i P f f' f'' m m' m'' lt k h = record {
-  len = k.len ∙ h.len;
-  keeps = λ d a. k.keeps d (h.keeps d a);
-  kept = λ d a. k.kept d (h.kept d a);
-  only = λ d a. elim (k.only d a) [
-    | inr has ↦ inr has
-    | inl b ↦ elim (h.only d b) [ inl before ↦ inl before | inr has ↦ inr (k.kept d has) ]
-  ];
-  sound = λ d a. elim (k.sound d a) [
-    | inr want ↦ inr (record { one = get_or xs i 0; has = (taken xs i (get_or xs i 0) lt).1 (inr refl); is = want })
-    | inl b ↦ elim (h.sound d b) [
-      | inl before ↦ inl before
-      | inr want ↦ inr (record { one = want.one; has = (taken xs i want.one lt).1 (inl want.has); is = want.is })
-    ]
-  ];
-  all = λ d want. elim ((taken xs i want.one lt).0 want.has) [
-    | inl a ↦ k.keeps d (h.all d (record { one = want.one; has = a; is = want.is }))
-    | inr e ↦ k.all d (subst (λ z. P z d) (sym e) want.is)
-  ];
-  few = omega (arith, h.few, k.few);
-  grew = elim h.grew [
-    | inr less ↦ inr (omega (arith, k.few))
-    | inl e ↦ elim k.grew [ inl g ↦ inl (g ∙ e) | inr less ↦ inr (omega (arith, h.few)) ]
-  ];
-}
+adds_more xs i P f f' f'' m m' m'' lt k h = adds_same (λ d. Any (take i xs) P d ⊎ P (get_or xs i 0) d) (Any (take (i + 1) xs) P) f m f'' m''
+    (λ d want. elim want [
+      | inl a ↦ record { one = a.one; has = (taken xs i a.one lt).1 (inl a.has); is = a.is }
+      | inr b ↦ record { one = get_or xs i 0; has = (taken xs i (get_or xs i 0) lt).1 (inr refl); is = b }
+    ]) (λ d want. elim ((taken xs i want.one lt).0 want.has) [
+      | inl a ↦ inl (record { one = want.one; has = a; is = want.is })
+      | inr e ↦ inr (subst (λ z. P z d) (sym e) want.is)
+    ]) (adds_both (Any (take i xs) P) (P (get_or xs i 0)) f f' f'' m m' m'' h k)
 
-pub adds_end : (xs : List ℕ) (i : ℕ) (P : ℕ → ℕ → Type 0) (f f' : List Bool) (m m' : List ℕ) → length xs ≤ i
+pub adds_end : (xs : List ℕ) (i : ℕ) (P : ℕ → ℕ → Type 0) (f f' m m' : List ℕ) → length xs ≤ i
     → Adds (Any (take i xs) P) f m f' m' → Adds (Any xs P) f m f' m'
 adds_end xs i P f f' m m' le h = subst (λ z. Adds (Any z P) f m f' m') (take_all i xs le) h
-
-pub flags_same : (t : Tables) (flags flags' : List Bool) → HasFlags t flags → length flags' ≡ length flags → HasFlags t flags'
-flags_same t flags flags' h e = record { table = h.table; len = e ∙ h.len; fits = h.fits }
 
 -- the places of a pair
 pub places_of_pair : (m left right d : ℕ) → right < m → d ≡ left * m + right → (d / m ≡ left) × (d % m ≡ right)
 places_of_pair m left right d lt e =
     (ap (λ z. z / m) e ∙ div-mul-add left m right lt, ap (λ z. z % m) e ∙ mod-mul-add left m right lt)
 
--- what follows is a place
-pub follow_below : (t : Tables) (p q : ℕ) → IsTable t → Contains (row t.follow p) q → q < length t.follow
-follow_below t p q table has =
-    let lt = All-contains (λ z. z < length t.nodes.items) (row t.follow p) q (table.below p) has in
-    omega (arith, table.len)
+module _ (places : List Place) where
+  pub right_below : (c : ℕ) → left_of places c < length places → right_of places c < length places
+  right_below c lt = mod-lt c (omega arith)
 
--- what completes both after a pair completes both after one before, with the byte
-pub after_forth : (t : Tables) (b c d : ℕ) (x : List ℕ) → IsTable t → IsAfter t b c d → CompletesBoth t d x → CompletesBoth t c (b ∷ x)
-after_forth t b c d x table a (f, g) =
-    let m = length t.follow in
-    let r = a.is.1 in
-    let (l, e) = places_of_pair m a.one r.one d (follow_below t (c % m) r.one table r.has) r.is.1 in (
-      (a.one, a.has, a.is.0, subst (λ z. Completes t 0 z x) l f),
-      (r.one, r.has, r.is.0, subst (λ z. Completes t 1 z x) e g),
-    )
+  pub place_is : (i : ℕ) → i < length places → slice_get places i ≡ Some (place_at places i)
+  place_is i lt = slice_get-get_or places i (p.End 0) lt
 
--- a pair after this one, which the text completes
-pub record IsStepped (t : Tables) (b c : ℕ) (x : List ℕ) : Type 0 where
-  pub to : ℕ
-  pub after : IsAfter t b c to
-  pub completes : CompletesBoth t to x
+  -- what is at a place goes on at places
+  pub goes_below : (i q : ℕ) (place : Place) → ArePlacesBelow places → slice_get places i ≡ Some place → GoesOn place q → q < length places
+  goes_below i q place below at goes = lemma place (below i place at) goes
+    where
+      lemma : (place : Place) → GoesBelow (length places) place → GoesOn place q → q < length places
+      lemma (p.Read words next) lt h = absurd h
+      lemma (p.Go next) lt h = omega arith
+      lemma (p.Fork next other) (lt, lt') (inl h) = omega arith
+      lemma (p.Fork next other) (lt, lt') (inr h) = omega arith
+      lemma (p.End number) lt h = absurd h
 
-pub after_back : (t : Tables) (b c : ℕ) (x : List ℕ) → IsTable t → CompletesBoth t c (b ∷ x) → IsStepped t b c x
-after_back t b c x table ((p, has, byte, f), (q, has', byte', g)) =
-    let m = length t.follow in
-    let (l, e) = places_of_pair m p q (p * m + q) (follow_below t (c % m) q table has') refl in
-    record {
-      to = p * m + q;
-      after = record { one = p; has = has; is = (byte, record { one = q; has = has'; is = (byte', refl) }) };
-      completes = (subst (λ z. Completes t 0 z x) (sym l) f, subst (λ z. Completes t 1 z x) (sym e) g);
-    }
+  pub reads_below : (i b q : ℕ) (place : Place) → ArePlacesBelow places → slice_get places i ≡ Some place → ReadsTo place b q
+      → q < length places
+  reads_below i b q place below at goes = lemma place (below i place at) goes
+    where
+      lemma : (place : Place) → GoesBelow (length places) place → ReadsTo place b q → q < length places
+      lemma (p.Read words next) lt (holds, h) = omega arith
+      lemma (p.Go next) lt h = absurd h
+      lemma (p.Fork next other) lt h = absurd h
+      lemma (p.End number) lt h = absurd h
 
-pub after_left : (t : Tables) (b c d : ℕ) → IsTable t → IsAfter t b c d → d / length t.follow < length t.follow
-after_left t b c d table a =
-    let m = length t.follow in
-    let r = a.is.1 in
-    let (l, e) = places_of_pair m a.one r.one d (follow_below t (c % m) r.one table r.has) r.is.1 in
-    let lt : a.one < m = follow_below t (c / m) a.one table a.has in
-    omega arith
+  -- one of the two places of a pair goes on, and the other stays
+  pub record IsStep (c d : ℕ) : Type 0 where
+    pub left : ℕ
+    pub right : ℕ
+    pub pair : d ≡ left * length places + right
+    pub goes : (GoesOn (place_at places (left_of places c)) left × (right ≡ right_of places c)) ⊎
+        ((left ≡ left_of places c) × GoesOn (place_at places (right_of places c)) right)
 
--- bytes that the same nodes hold lead to the same pairs
-pub after_same : (t : Tables) (b r c d : ℕ) → ((p : ℕ) → holds_of t.nodes.items p b ≡ holds_of t.nodes.items p r) → IsAfter t b c d
-    → IsAfter t r c d
-after_same t b r c d same a =
-    let x = a.is.1 in
-    record {
-      one = a.one;
-      has = a.has;
-      is = (sym (same a.one) ∙ a.is.0, record { one = x.one; has = x.has; is = (sym (same x.one) ∙ x.is.0, x.is.1) });
-    }
+  right_step : (left right d : ℕ) (y : Place) → LeadTo (right_steps (left * length places) (steps_of y)) d
+      → (q : ℕ) × (d ≡ left * length places + q) × GoesOn y q
+  right_step left right d (p.Read words next) h = absurd h
+  right_step left right d (p.Go next) h = (next, h, refl)
+  right_step left right d (p.Fork next other) (inl h) = (next, h, inl refl)
+  right_step left right d (p.Fork next other) (inr h) = (other, h, inr refl)
+  right_step left right d (p.End number) h = absurd h
 
--- the first bytes of the classes stand for all
-pub classes_first : (nodes : List RegexNode) (classes firsts : List ℕ) → AreClasses nodes classes firsts (length nodes)
-    → AreFirsts nodes firsts
-classes_first nodes classes firsts h = record {
-  rising = h.rising;
-  each = λ b lt. record {
-    place = get_or classes b 0;
-    within = h.below b lt;
-    first = h.first b lt;
-    alike = λ p. elim (cases_lt p (length nodes)) [
-      | inl less ↦ h.alike b lt p (get_or nodes p (n.Set [])) less (slice_get-get_or nodes p (n.Set []) less)
-      | inr past ↦ rw (get_or_past nodes p (n.Set []) past) (blank b ∙ sym (blank (get_or firsts (get_or classes b 0) 0)))
-    ];
-  };
-}
+  step_by : (c d : ℕ) (x : Place) → x ≡ place_at places (left_of places c)
+      → LeadTo (both_steps (length places) (left_of places c) (right_of places c) (steps_of x) (steps_of (place_at places (right_of places c)))) d
+      → IsStep c d
+  step_by c d (p.Read words next) e h =
+      let (q, f, goes) = right_step (left_of places c) (right_of places c) d (place_at places (right_of places c)) h in
+      record { left = left_of places c; right = q; pair = f; goes = inr (refl, goes) }
+  step_by c d (p.Go next) e h =
+      record { left = next; right = right_of places c; pair = h; goes = inl (subst (λ z. GoesOn z next) e refl, refl) }
+  step_by c d (p.Fork next other) e (inl h) =
+      record { left = next; right = right_of places c; pair = h; goes = inl (subst (λ z. GoesOn z next) e (inl refl), refl) }
+  step_by c d (p.Fork next other) e (inr h) =
+      record { left = other; right = right_of places c; pair = h; goes = inl (subst (λ z. GoesOn z other) e (inr refl), refl) }
+  step_by c d (p.End number) e h =
+      let (q, f, goes) = right_step (left_of places c) (right_of places c) d (place_at places (right_of places c)) h in
+      record { left = left_of places c; right = q; pair = f; goes = inr (refl, goes) }
 
--- a node of a table that was read
-pub holds_at : (nodes : List RegexNode) (q b : ℕ) (node : RegexNode) (is : Bool) → q < length nodes → node ≡ get_or nodes q node
-    → is ≡ node_holds node b → holds_of nodes q b ≡ is
-holds_at nodes q b node is lt e f =
-    ap (λ z. node_holds z b) (sym (e ∙ get_or_default nodes q node (n.Set []) lt)) ∙ sym f
+  pub step_of : (c d : ℕ) → LeadTo (pair_steps places c) d → IsStep c d
+  step_of c d h = step_by c d (place_at places (left_of places c)) refl h
 
--- both expressions end with none of one pair more
-pub apart_next : (t : Tables) (xs : List ℕ) (i : ℕ) (is : Bool) → i < length xs → IsTrue is ↔ CompletesBoth t (get_or xs i 0) []
-    → is ≡ false → AreApart t (take i xs) → AreApart t (take (i + 1) xs)
-apart_next t xs i is lt ends off before c has k = elim ((taken xs i c lt).0 has) [
-  | inl a ↦ before c a k
-  | inr e ↦ true≢false (sym (ends.1 (subst (λ z. CompletesBoth t z []) (sym e) k)) ∙ off)
-]
+  -- the places of what a pair goes on to
+  pub record AreAt (d left right : ℕ) : Type 0 where
+    pub left_is : left_of places d ≡ left
+    pub right_is : right_of places d ≡ right
+    pub left_below : left < length places
 
-pub apart_none : (t : Tables) (xs : List ℕ) → AreApart t (take 0 xs)
-apart_none t xs c has k = none_taken xs c has
-
-pub apart_all : (t : Tables) (xs : List ℕ) (i : ℕ) → length xs ≤ i → AreApart t (take i xs) → AreApart t xs
-apart_all t xs i le h = subst (AreApart t) (take_all i xs le) h
-
--- a node holds nothing but bytes
-pub node_byte : (node : RegexNode) (b : ℕ) → node_holds node b ≡ true → b < 256
-node_byte (n.Set words) b h = let (lt, bit) = has_byte_holds words b h in lt
-node_byte (n.Sequence i j) b h = cc
-node_byte (n.Choice i j) b h = cc
-node_byte (n.Star i) b h = cc
-node_byte (n.Plus i) b h = cc
-node_byte (n.Maybe i) b h = cc
-
--- what completes an expression after its start matches it
-module _ (trees : List Tree) (sets : List (List Bool)) (t : Tables) (h : AreTables trees sets t) where
-  abbrev pub holds : ℕ → ℕ → Bool
-  holds = holds_of t.nodes.items
-
-  abbrev pub size : ℕ
-  size = length t.nodes.items
-
-  completes_on : (x : List ℕ) (k p : ℕ) (l : PositionTree) → slice_get h.planted.linears k ≡ Some l → Completes t k p x
-      → After holds l p x ⊎ ((p ≡ size + k) × Matches holds l x)
-  completes_on [] k p l at has =
-      let e = (h.is_ends p k).0 has in
-      inl (last_after holds l p (subst (λ z. Last z p) (same_Some e.tree l (sym e.at ∙ at)) e.ends))
-  completes_on (b ∷ x) k p l at (q, has, byte, c) = forth_from holds h.planted.linears (bound_of trees) size
-      (forest_ranges t.nodes.items h.planted.linears (bound_of trees) h.planted.forest) (outside t.nodes.items) p q b k l x byte
-      ((h.is_follow p q).0 has) at (completes_on x k q l at c)
-
-  on_completes : (x : List ℕ) (k p : ℕ) (l : PositionTree) → slice_get h.planted.linears k ≡ Some l → ¬ Matches holds l []
-      → After holds l p x ⊎ ((p ≡ size + k) × Matches holds l x) → Completes t k p x
-  on_completes [] k p l at none r = elim r [
-    | inl after ↦ (h.is_ends p k).1 (record { tree = l; at = at; ends = after_last holds l p [] after refl })
-    | inr (e, m) ↦ absurd (none m)
-  ]
-  on_completes (b ∷ x) k p l at none r =
-      let d = back_from holds h.planted.linears size p b k l x at r in
-      (d.at, (h.is_follow p d.at).1 d.links, d.byte, on_completes x k d.at l at none (inl d.after))
-
-  pub match_completes : (k p : ℕ) (tree : Tree) (x : List ℕ) → slice_get trees k ≡ Some tree → p ≡ size + k → w.Matches tree x
-      → Completes t k p x
-  match_completes k p tree x at e m =
-      let place = h.planted.places k tree at in
-      on_completes x k p place.linear place.at place.not_empty (inr (e, placed t.nodes.items place.projects m))
-
-  pub completes_match : (k p : ℕ) (tree : Tree) (x : List ℕ) → slice_get trees k ≡ Some tree → p ≡ size + k → Completes t k p x
-      → w.Matches tree x
-  completes_match k p tree x at e c =
-      let place = h.planted.places k tree at in
-      elim (completes_on x k p place.linear place.at c) [
-        | inr (e', m) ↦ erased t.nodes.items place.projects m
-        | inl after ↦
-            let range = forest_ranges t.nodes.items h.planted.linears (bound_of trees) h.planted.forest in
-            let within = after_within holds place.linear (bound_of trees k) (bound_of trees (k + 1)) p x
-            (range.spans k place.linear place.at) after in
-            let above = h.planted.forest.all (k + 1) in
-            absurd (omega arith)
+  pub step_at : (c d : ℕ) (s : IsStep c d) → ArePlacesBelow places → left_of places c < length places → AreAt d s.left s.right
+  step_at c d s below lt =
+      let right_lt = right_below c lt in
+      elim s.goes [
+        | inl (goes, e) ↦
+            let (l, r) = places_of_pair (length places) s.left s.right d (omega arith) s.pair in
+            record {
+              left_is = l;
+              right_is = r;
+              left_below = goes_below (left_of places c) s.left (place_at places (left_of places c)) below (place_is (left_of places c) lt) goes;
+            }
+        | inr (e, goes) ↦
+            let small = goes_below (right_of places c) s.right (place_at places (right_of places c)) below
+            (place_is (right_of places c) right_lt) goes in
+            let (l, r) = places_of_pair (length places) s.left s.right d small s.pair in
+            record { left_is = l; right_is = r; left_below = omega arith }
       ]
 
-pub two_of : (left right : Tree) (t : Tables) → AreTables (left ∷ right ∷ []) [] t → AreTwo t
-two_of left right t h = record { table = h.table; len = h.follow_len; ends_len = h.ends_len }
+  -- what leads from there to two ends leads there from the pair
+  pub step_back : (c d i j : ℕ) (x : List ℕ) → ArePlacesBelow places → left_of places c < length places → LeadTo (pair_steps places c) d
+      → Runs places (left_of places d) i x → Runs places (right_of places d) j x
+      → Runs places (left_of places c) i x × Runs places (right_of places c) j x
+  step_back c d i j x below lt h f g =
+      let s = step_of c d h in
+      let a = step_at c d s below lt in
+      let f' = subst (λ z. Runs places z i x) a.left_is f in
+      let g' = subst (λ z. Runs places z j x) a.right_is g in
+      elim s.goes [
+        | inl (goes, e) ↦ (
+          moves (place_at places (left_of places c)) s.left (place_is (left_of places c) lt) goes f',
+          subst (λ z. Runs places z j x) e g',
+        )
+        | inr (e, goes) ↦ (
+          subst (λ z. Runs places z i x) e f',
+          moves (place_at places (right_of places c)) s.right (place_is (right_of places c) (right_below c lt)) goes g',
+        )
+      ]
 
-module _ (left right : Tree) (t : Tables) (h : AreTables (left ∷ right ∷ []) [] t) where
-  starts : (start_pair t / length t.follow ≡ length t.nodes.items) × (start_pair t % length t.follow ≡ length t.nodes.items + 1)
-  starts = places_of_pair (length t.follow) (length t.nodes.items) (length t.nodes.items + 1) (start_pair t)
-      (let e = h.follow_len in omega arith) refl
+  pub step_left : (c d : ℕ) → ArePlacesBelow places → left_of places c < length places → LeadTo (pair_steps places c) d
+      → left_of places d < length places
+  step_left c d below lt h =
+      let s = step_of c d h in let a = step_at c d s below lt in subst (λ z. z < length places) (sym a.left_is) a.left_below
 
-  first_start : start_pair t / length t.follow ≡ length t.nodes.items + 0
-  first_start = let (l, r) = starts in omega arith
+  -- where the left place goes on, and where the right one does while the left one waits
+  left_leads : (m left right q : ℕ) (x : Place) (steps : Steps) → GoesOn x q → LeadTo (both_steps m left right (steps_of x) steps) (q * m + right)
+  left_leads m left right q (p.Read words next) steps h = absurd h
+  left_leads m left right q (p.Go next) steps h = ap (λ z. z * m + right) h
+  left_leads m left right q (p.Fork next other) steps (inl h) = inl (ap (λ z. z * m + right) h)
+  left_leads m left right q (p.Fork next other) steps (inr h) = inr (ap (λ z. z * m + right) h)
+  left_leads m left right q (p.End number) steps h = absurd h
 
-  second_start : start_pair t % length t.follow ≡ length t.nodes.items + 1
-  second_start = let (l, r) = starts in r
+  right_leads : (first q : ℕ) (y : Place) → GoesOn y q → LeadTo (right_steps first (steps_of y)) (first + q)
+  right_leads first q (p.Read words next) h = absurd h
+  right_leads first q (p.Go next) h = ap (λ z. first + z) h
+  right_leads first q (p.Fork next other) (inl h) = inl (ap (λ z. first + z) h)
+  right_leads first q (p.Fork next other) (inr h) = inr (ap (λ z. first + z) h)
+  right_leads first q (p.End number) h = absurd h
 
-  both_complete : (x : List ℕ) → w.Matches left x → w.Matches right x → CompletesBoth t (start_pair t) x
-  both_complete x m k = (
-    match_completes (left ∷ right ∷ []) [] t h 0 (start_pair t / length t.follow) left x refl first_start m,
-    match_completes (left ∷ right ∷ []) [] t h 1 (start_pair t % length t.follow) right x refl second_start k,
-  )
+  pub leads_left : (c q : ℕ) → GoesOn (place_at places (left_of places c)) q
+      → LeadTo (pair_steps places c) (q * length places + right_of places c)
+  leads_left c q h = left_leads (length places) (left_of places c) (right_of places c) q (place_at places (left_of places c))
+      (steps_of (place_at places (right_of places c))) h
 
-  -- the least text that completes both is the least that both match
-  pub overlap_of : (overlap : Overlap) → IsCompletion t overlap → IsOverlap left right overlap
-  overlap_of (o.Both text) c =
-      let (f, g) = c.completes in
+  pub leads_right : (c q : ℕ) → steps_of (place_at places (left_of places c)) ≡ Still → GoesOn (place_at places (right_of places c)) q
+      → LeadTo (pair_steps places c) (left_of places c * length places + q)
+  leads_right c q still h = subst (λ z. LeadTo (both_steps (length places) (left_of places c) (right_of places c) z
+      (steps_of (place_at places (right_of places c)))) (left_of places c * length places + q)) (sym still)
+      (right_leads (left_of places c * length places) q (place_at places (right_of places c)) h)
+
+  -- the pair after a byte
+  pub after_at : (b c d : ℕ) (a : IsAfter places b c d) → ArePlacesBelow places → left_of places c < length places → AreAt d a.left a.right
+  after_at b c d a below lt =
+      let right_lt = right_below c lt in
+      let small = reads_below (right_of places c) b a.right (place_at places (right_of places c)) below (place_is (right_of places c) right_lt)
+      a.right_reads in
+      let (l, r) = places_of_pair (length places) a.left a.right d small a.pair in
       record {
-        one = completes_match (left ∷ right ∷ []) [] t h 0 (start_pair t / length t.follow) left text refl first_start f;
-        other = completes_match (left ∷ right ∷ []) [] t h 1 (start_pair t % length t.follow) right text refl second_start g;
-        least = λ shared p q. c.least shared (both_complete shared p q);
+        left_is = l;
+        right_is = r;
+        left_below = reads_below (left_of places c) b a.left (place_at places (left_of places c)) below (place_is (left_of places c) lt)
+            a.left_reads;
       }
-  overlap_of o.Disjoint c = λ s. c s.text (both_complete s.text s.one s.other)
+
+  pub after_back : (b c d i j : ℕ) (x : List ℕ) → ArePlacesBelow places → left_of places c < length places → IsAfter places b c d
+      → Runs places (left_of places d) i x → Runs places (right_of places d) j x
+      → Runs places (left_of places c) i (b ∷ x) × Runs places (right_of places c) j (b ∷ x)
+  after_back b c d i j x below lt a f g =
+      let at = after_at b c d a below lt in (
+        reads (place_at places (left_of places c)) b a.left (place_is (left_of places c) lt) a.left_reads
+            (subst (λ z. Runs places z i x) at.left_is f) refl,
+        reads (place_at places (right_of places c)) b a.right (place_is (right_of places c) (right_below c lt)) a.right_reads
+            (subst (λ z. Runs places z j x) at.right_is g) refl,
+      )
+
+  pub after_left : (b c d : ℕ) → ArePlacesBelow places → left_of places c < length places → IsAfter places b c d
+      → left_of places d < length places
+  after_left b c d below lt a =
+      let at = after_at b c d a below lt in subst (λ z. z < length places) (sym at.left_is) at.left_below
+
+-- a place that reads or ends waits
+pub reads_still : (x : Place) (b q : ℕ) → ReadsTo x b q → steps_of x ≡ Still
+reads_still (p.Read words next) b q h = refl
+reads_still (p.Go next) b q h = absurd h
+reads_still (p.Fork next other) b q h = absurd h
+reads_still (p.End number) b q h = absurd h
+
+pub end_still : (x : Place) (k : ℕ) → x ≡ p.End k → steps_of x ≡ Still
+end_still x k e = ap steps_of e
+
+-- only bytes are read
+pub reads_byte : (x : Place) (b q : ℕ) → ReadsTo x b q → b < 256
+reads_byte (p.Read words next) b q (holds, e) = holds.0
+reads_byte (p.Go next) b q h = absurd h
+reads_byte (p.Fork next other) b q h = absurd h
+reads_byte (p.End number) b q h = absurd h

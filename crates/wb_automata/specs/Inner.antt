@@ -1,5 +1,7 @@
 -- the terminals that states accept
 pub mod Accepted
+-- the first group that has the ends of two expressions
+pub mod Endings
 -- where bytes lead from the states that were found
 pub mod Exploring
 -- lists in one list
@@ -10,5 +12,9 @@ pub mod Found
 pub mod LeastStates
 -- pairs of places, and the groups in which they are met
 pub mod Pairs
+-- expressions that are one text alone
+pub mod PlainTexts
+-- pairs of starts and of ends
+pub mod Starts
 -- a code of views
 pub mod ViewCode

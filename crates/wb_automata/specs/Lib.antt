@@ -4,6 +4,8 @@ pub mod Automata
 pub mod Order
 -- the least texts that two expressions share and that one matches
 pub mod Overlaps
+-- the texts that expressions of a list share
+pub mod Sharing
 -- what an automaton keeps
 pub mod Kept
 -- codes of moves

@@ -1,35 +1,18 @@
-//! What is the least text that two expressions share, and the least that one matches?
+//! What is the least text that an expression matches?
 //!
-//! For two it is found over pairs of their places (`pairs`). States of one automaton are numbered by their paths, so that the first
-//! one that accepts has the least text.
+//! States of an automaton are numbered by their paths, so that the first one that accepts has the least text.
 
 ghost use Rattle.std.specs.Prelude.{◌≡◌, ◌<◌, ◌∷◌, ℕ, [], false, List, IfOk, IfSome, IsNone, IsTrue, length};
 ghost use Rattle.wb_regex.specs.Filled.{Filled};
 ghost use Rattle.wb_automata.specs.Automata.{LeadsTo, MatchesIn};
 ghost use Rattle.wb_automata.specs.Inner.LeastStates.{HasAll, IsLeastState};
-ghost use Rattle.wb_automata_positions.specs.Tables.{AreTables};
-ghost use Rattle.wb_automata.specs.Overlaps.{IsLeastMatch, IsOverlap};
+ghost use Rattle.wb_automata.specs.Overlaps.{IsLeastMatch};
 
 use crate::automaton::Automaton;
-use crate::pairs::least_shared;
-use crate::shared::Overlap;
 use std::alloc::{AllocError, Global};
-use wb_automata_positions::{Tables, tables_of};
 use wb_base::{Bytes, push};
 use wb_regex::Regex;
 use wb_termset::TermSet;
-
-/// The least text that both expressions match, by length and then by bytes, or that there is none.
-///
-/// Pairs of a position of the one and a position of the other are met, each once, and no automaton is built. So beside the tables of
-/// positions the time is, for each class of bytes, at most the product of how many positions may follow one another in the one and in the
-/// other; the memory is a bit for each two nodes of both, and a number for each pair that is met.
-pub fn overlap(alloc: Global, left: &Regex, right: &Regex) -> Result<Overlap, AllocError>
-    ensures { IfOk result (IsOverlap left.now right.now) }
-{
-    let tables = tables_of_two(alloc, left, right)?;
-    least_shared(alloc, &tables)
-}
 
 /// The shortest text that matches, and of these the first in byte order.
 pub fn least_text(alloc: Global, regex: &Regex) -> Result<Bytes, AllocError>
@@ -51,14 +34,6 @@ fn automaton_of_one(alloc: Global, regex: &Regex) -> Result<Automaton, AllocErro
 {
     let one = single(alloc, regex)?;
     build_of(alloc, &one)
-}
-
-// The tables of both, without sets.
-fn tables_of_two(alloc: Global, left: &Regex, right: &Regex) -> Result<Tables, AllocError>
-    ensures { IfOk result (AreTables (left.now ∷ right.now ∷ []) []) }
-{
-    let both = pair(alloc, left, right)?;
-    tables_of(alloc, &both, &[])
 }
 
 // The automaton of these expressions, in one set.
@@ -90,15 +65,6 @@ fn single(alloc: Global, regex: &Regex) -> Result<Vec<Regex>, AllocError>
     let mut one = Vec::new(alloc);
     push(&mut one, regex.copy()?)?;
     Ok(one)
-}
-
-fn pair(alloc: Global, left: &Regex, right: &Regex) -> Result<Vec<Regex>, AllocError>
-    ensures { IfOk result (λ both. both.items ≡ left.now ∷ right.now ∷ []) }
-{
-    let mut both = Vec::new(alloc);
-    push(&mut both, left.copy()?)?;
-    push(&mut both, right.copy()?)?;
-    Ok(both)
 }
 
 // The first state that accepts the terminal.

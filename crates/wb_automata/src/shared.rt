@@ -1,4 +1,4 @@
-//! What `overlap` answers.
+//! What the walks over pairs of places answer.
 
 use wb_base::Bytes;
 
@@ -9,4 +9,12 @@ pub enum Overlap {
     Both(Bytes),
     /// No text matches both.
     Disjoint,
+}
+
+/// Two expressions of a list, by their places in it, and the least text that both match.
+#[derive(Debug, Drop)]
+pub struct SharedText {
+    pub left: usize,
+    pub right: usize,
+    pub text: Bytes,
 }

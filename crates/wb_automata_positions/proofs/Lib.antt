@@ -7,10 +7,15 @@ pub mod JoinLemmas
 pub mod MachineLemmas
 pub mod NodeLemmas
 pub mod PlantLemmas
+pub mod NextLemmas
+pub mod ParentLemmas
 pub mod Paths
+pub mod PlaceListLemmas
 pub mod Ranges
+pub mod ReachLemmas
 pub mod RepeatedLemmas
 pub mod RootLemmas
+pub mod RunLemmas
 pub mod StandsLemmas
 pub mod StartLemmas
 pub mod Subs

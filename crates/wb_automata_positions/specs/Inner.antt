@@ -8,6 +8,8 @@ pub mod Ends
 pub mod Follows
 -- tables as they are made from nodes
 pub mod LinkTables
+-- places as they are made from nodes
+pub mod Machines
 -- tables with an entry for each node
 pub mod Nodes
 -- nodes that a star or plus repeats as a whole

@@ -20,6 +20,8 @@ pub mod Positions
 pub mod PositionSets
 -- several expressions over one list of nodes
 pub mod Forests
+-- a machine of places
+pub mod Places
 -- lists of leaves, and what may come after them
 pub mod Transitions
 -- the tables of several expressions

@@ -7,6 +7,7 @@
 mod classes;
 mod concatenated;
 mod ends;
+mod places;
 mod positions;
 mod post_order;
 mod repeated;
@@ -16,6 +17,7 @@ mod terminals;
 mod transition;
 
 pub use classes::{Classes, classes_of};
+pub use places::{Place, Places, places_of};
 pub use rows::{Leaves, Rows};
 pub use tables::{Tables, tables_of};
 pub use transition::{holds, reading, successors};

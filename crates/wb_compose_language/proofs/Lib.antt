@@ -1,7 +1,7 @@
 pub mod GrammarLemmas
 pub mod FormLemmas
 pub mod KindLemmas
-pub mod FirstByteLemmas
+pub mod KnownLemmas
 pub mod WithdrawnLemmas
 pub mod MadeLemmas
 pub mod WholeLemmas

@@ -24,7 +24,7 @@ use Rattle.wb_compose_language.specs.declared.addition.Addition.{Addition}
 use Rattle.wb_compose_language.specs.declared.addition.Lent.{Lent}
 use Rattle.wb_compose_language.specs.declared.extension_forms.OwnTerminal.{OwnTerminal}
 use Rattle.wb_compose_language.specs.declared.union_forms.UnitedForms.{UnitedForms}
-use Rattle.wb_compose_language.specs.Inner.FirstBytes.{HasOwnRows}
+use Rattle.wb_compose_language.specs.Inner.Known.{HasOwnRows}
 use Rattle.wb_compose_language.specs.Inner.FormsMade.{AreMadeBelow, IsBareAdded, IsChosen, IsPrefixOf, IsPrefixedAdded, IsWithdrawnIn}
 use Rattle.wb_compose_language.specs.Inner.Opened.{IsOwnTerminal, sizes_in, union_terminals}
 use Rattle.wb_compose_language.specs.Inner.Sharing.{SharesWithOther}

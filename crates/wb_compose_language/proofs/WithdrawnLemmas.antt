@@ -18,7 +18,7 @@ use Rattle.wb_compose_theory_language.specs.Apart.{IsMarkerRow}
 use Rattle.wb_compose_theory_language.specs.Written.{IsOwnRow, WrittenPiece, pieces_of}
 use Rattle.wb_compose_language.specs.declared.addition.Addition.{Addition}
 use Rattle.wb_compose_language.specs.declared.addition.Lent.{Lent}
-use Rattle.wb_compose_language.specs.Inner.FirstBytes.{HasTerminals}
+use Rattle.wb_compose_language.specs.Inner.Known.{HasTerminals}
 use Rattle.wb_compose_language.specs.Inner.FormsMade.{AreWithdrawnBelow, IsWithdrawnIn}
 use Rattle.wb_compose_language.specs.Inner.Sharing.{SharesWithOther}
 use Rattle.wb_compose_language.specs.Lents.{HasBridges, IsUnitable, all_in, is_marker_in, own_in, written_in}

@@ -1,7 +1,7 @@
 -- how many symbols a union has
 pub mod Totals
--- with which bytes texts begin
-pub mod FirstBytes
+-- what is known of own terminals
+pub mod Known
 -- what is known of a host with extensions while forms are made
 pub mod Opened
 -- which terminals share a text with an expression

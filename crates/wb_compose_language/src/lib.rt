@@ -6,9 +6,9 @@
 
 mod addition;
 mod extension_forms;
-mod first_bytes;
 mod form_sets;
 mod grammar;
+mod known;
 mod layout;
 mod own_productions;
 mod preferences;

@@ -7,11 +7,12 @@ ghost use Rattle.wb_compose_theory_language.specs.Languages.{AreForms, AreWithdr
 ghost use Rattle.wb_compose_language.specs.Expressions.{AreExpressions};
 ghost use Rattle.wb_compose_language.specs.Lents.{IsUnitable, all_in, own_in};
 ghost use Rattle.wb_compose_language.specs.Inner.FormsMade.{AreLayoutAdded, AreMadeBelow};
+ghost use Rattle.wb_compose_language.specs.Inner.Known.{AreBases};
 ghost use Rattle.wb_compose_language.specs.Inner.Opened.{IsOpened, union_terminals};
 
 use crate::Lent;
 use crate::extension_forms::add_extension;
-use crate::first_bytes::{FirstBytes, all_first_bytes};
+use crate::known::{Known, Owns, owns_of, texts_of, told_of};
 use crate::own_productions::sum;
 use crate::written::add_bare;
 use std::alloc::{AllocError, Global};
@@ -31,29 +32,50 @@ pub struct UnitedForms {
 
 /// The forms of the union of a host and its extensions.
 ///
-/// A marker is compared with a terminal of another extension only where texts of both may begin with one byte.
+/// Markers and terminals of other extensions that are one text each are compared as texts, and all other pairs of them by one walk over
+/// pairs of places.
 pub fn united_forms(alloc: Global, lent: &Lent) -> Result<UnitedForms, AllocError>
     requires { IsUnitable lent.now }
     ensures forms { IfOk result (λ made. AreForms lent.now.grammar.now lent.now.extensible.now (own_in lent.now) (all_in lent.now) made.forms.items) }
     ensures expressions { IfOk result (λ made. AreExpressions lent.now made.forms.items made.expressions.items) }
     ensures withdrawn { IfOk result (λ made. AreWithdrawn lent.now.grammar.now lent.now.extensible.now (own_in lent.now) (all_in lent.now) made.withdrawn.items) }
 {
-    let first_bytes = all_first_bytes(alloc, lent.grammar.terminals(), lent.extensions)?;
-    let opened = Opened {
-        lent: *lent,
-        first_bytes: &first_bytes,
-    };
-    forms_with(alloc, &opened)
+    let owns = owns_of(alloc, lent.grammar.terminals(), lent.extensions)?;
+    forms_of(alloc, lent, &owns)
 }
 
-// A host with extensions, and with which bytes their own terminals begin.
+// A host with extensions, and what is known of their own terminals.
 #[derive(Clone, Copy)]
 pub(crate) struct Opened<'a> {
     pub(crate) lent: Lent<'a>,
-    pub(crate) first_bytes: &'a [FirstBytes],
+    pub(crate) known: &'a Known<'a>,
 }
 
-// Like `united_forms`, where first bytes are known.
+// Like `united_forms`, where the own terminals are listed.
+fn forms_of(alloc: Global, lent: &Lent, owns: &Owns) -> Result<UnitedForms, AllocError>
+    requires unitable { IsUnitable lent.now }
+    requires owns { AreBases lent.now.grammar.now.terminals lent.now.extensions.now owns.now.patterns.items owns.now.bases.items }
+    ensures forms { IfOk result (λ made. AreForms lent.now.grammar.now lent.now.extensible.now (own_in lent.now) (all_in lent.now) made.forms.items) }
+    ensures expressions { IfOk result (λ made. AreExpressions lent.now made.forms.items made.expressions.items) }
+    ensures withdrawn { IfOk result (λ made. AreWithdrawn lent.now.grammar.now lent.now.extensible.now (own_in lent.now) (all_in lent.now) made.withdrawn.items) }
+{
+    let texts = texts_of(alloc, owns.patterns.as_slice())?;
+    let told = told_of(alloc, owns, texts.as_slice())?;
+    let known = Known {
+        owns,
+        texts: texts.as_slice(),
+        told: &told,
+    };
+    forms_with(
+        alloc,
+        &Opened {
+            lent: *lent,
+            known: &known,
+        },
+    )
+}
+
+// Like `united_forms`, where this is known.
 fn forms_with(alloc: Global, opened: &Opened) -> Result<UnitedForms, AllocError>
     requires { IsOpened opened.now }
     ensures forms { IfOk result (λ made. AreForms opened.now.lent.grammar.now opened.now.lent.extensible.now (own_in opened.now.lent) (all_in opened.now.lent) made.forms.items) }

@@ -1,1 +1,5 @@
+mod CandidateLemmas
 pub mod ClashLemmas
+mod FoundLemmas
+mod RowLemmas
+mod TextLemmas

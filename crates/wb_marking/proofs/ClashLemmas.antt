@@ -1,15 +1,19 @@
 -- Which pairs of terminals are compared, and when two that are compared don't clash.
-use Rattle.std.proofs.Common.{◌≡◌, ◌≢◌, ◌⊎◌, inl, inr, ◌<◌, ◌≤◌, ◌+◌, ℕ, Bool, true, false, not, List, Option, None, Some, length}
+use Rattle.std.proofs.Common.{◌≡◌, ◌≢◌, ◌⊎◌, inl, inr, ◌<◌, ◌≤◌, ◌+◌, ℕ, Bool, true, false, not, List, [], ◌∷◌, ◌++◌, Option, None, Some, length}
 use Rattle.std.proofs.Common.{refl, sym, ◌∙◌, ap, subst, arith, get_or, slice_get, Contains}
 use Rattle.std.specs.Prelude.{◌↔◌, IsSomeAnd, option_map}
 use Rattle.std.proofs.lemmas.Bool.{cases_lt}
+use Rattle.std.proofs.lemmas.List.{length-map}
+use Rattle.std.proofs.lemmas.List.Elements.{Contains-append_left, Contains-push, Contains-push_cases}
 use Rattle.std.proofs.lemmas.Option.{same_Some, slice_get_within, slice_get-map, slice_get-get_or}
-use Rattle.wb_lemmas.proofs.Elements.{all_at}
+use Rattle.wb_lemmas.proofs.Elements.{all_at, all_from_contained}
 use Rattle.wb_lemmas.proofs.Members.{contains_at, place_of}
 use Rattle.wb_lemmas.proofs.Places.{at_once}
-use Rattle.wb_automata.specs.Overlaps.{IsLeastShared}
+use Rattle.wb_automata.specs.Automata.{IsMatch}
+use Rattle.wb_automata.specs.Sharing.{ArePairsBelow, BothMatch, IsLeastSharedText, IsSharedText}
+use Rattle.wb_automata.specs.declared.shared.SharedText.{SharedText}
 use Rattle.wb_lexical.specs.Clash.{AreOrdered}
-use Rattle.wb_regex.specs.Matches.{Matches, ShareText, HoldsByte}
+use Rattle.wb_regex.specs.Matches.{Matches}
 use Rattle.wb_syntax_resolved.specs.declared.resolved.ResolvedParts.{ResolvedParts}
 use Rattle.wb_syntax_resolved.specs.declared.terminal.Preference.{Preference}
 use Rattle.wb_syntax_resolved.specs.declared.terminal.Terminal.{Terminal}
@@ -18,13 +22,12 @@ use Rattle.wb_syntax_resolved.specs.declared.terminal.TerminalKind.TheVariants.{
 use Rattle.wb_syntax_resolved.specs.Resolved.{IsResolved, IsNamedTerminal, IsNamedPreference}
 use Rattle.wb_termset.specs.Sets.{IsMember}
 use Rattle.wb_marking.specs.declared.clashes.Compared.{Compared}
-use Rattle.wb_marking.specs.declared.first_bytes.Beginning.{Beginning}
 use Rattle.wb_marking.specs.Clashes.{AreRivals, HasNoMarkerClash, preference_pairs}
 use Rattle.wb_marking.specs.Markers.{IsMarker}
 use Rattle.wb_marking.specs.Refusals.{IsShownClash}
 use Rattle.wb_marking.specs.Inner.Compared.{AreCompared, IsPreferenceBelow, Orders, SomeOrders, AreOrderedBy, AreOrderedWith}
-use Rattle.wb_marking.specs.Inner.Compared.{AreBeginnings, ShowsNone, IsCompared, MayClash}
-use Rattle.wb_marking.proofs.BeginLemmas.{no_shared}
+use Rattle.wb_marking.specs.Inner.Compared.{AreGathered, ArePairsToTest, Gathers, IsCompared, IsPairToTest, Lists, MayClash, ShowsNone}
+use Rattle.wb_marking.specs.Inner.Patterns.{patterns_of}
 
 -- what a list of values of another has
 mapped : {X Y : Type 0} (f : X → Y) (o : Option X) (y : Y) → option_map f o ≡ Some y → (x : X) × (o ≡ Some x) × (f x ≡ y)
@@ -137,45 +140,39 @@ module _ (r : ResolvedParts) where
     pub none_ordered : (other : ℕ) → AreOrdered (preference_pairs r) marker other → ShowsNone r marker other
     none_ordered other ordered text shown = shown.clash.unordered ordered
 
-    -- nor what begins apart
-    pub none_apart : (beginnings : List Beginning) → AreBeginnings r.terminals beginnings → (other : ℕ) (b d : Beginning)
-        → slice_get beginnings marker ≡ Some b → slice_get beginnings other ≡ Some d
-        → ((x : ℕ) → HoldsByte b.words x → ¬ HoldsByte d.words x) → ShowsNone r marker other
-    none_apart beginnings are other b d at_b at_d apart text shown =
-        let own = shown.clash.rivals.own in
-        let rival = shown.clash.rivals.rival in
-        no_shared own.pattern rival.pattern b d (are.each marker own b shown.clash.rivals.own_is at_b)
-        (are.each other rival d shown.clash.rivals.rival_is at_d) apart (are.some marker own shown.clash.rivals.own_is) text
-        shown.clash.own_matches shown.clash.rival_matches
+    match_at : (k : ℕ) (t : Terminal) (text : List ℕ) → slice_get r.terminals k ≡ Some t → IsMatch (patterns_of r.terminals) k text
+        → Matches t.pattern text
+    match_at k t text at m = subst (λ z. Matches z text) (same_Some m.tree t.pattern (sym m.at
+        ∙ slice_get-map (λ (t : Terminal). t.pattern) r.terminals k ∙ ap (option_map (λ (t : Terminal). t.pattern)) at)) m.matches
 
-    -- two that are compared, unordered and share a text show a clash
-    pub shows : (other : ℕ) (own rival : Terminal) (text : List ℕ) → slice_get r.terminals marker ≡ Some own
-        → slice_get r.terminals other ≡ Some rival → AreCompared r marker other → ¬ AreOrdered (preference_pairs r) marker other
-        → IsLeastShared own.pattern rival.pattern text → IsShownClash r marker other text
-    shows other own rival text own_is rival_is are unordered shared =
-        let one : own ≡ are.rivals.own = at_once r.terminals marker own are.rivals.own own_is are.rivals.own_is in
-        let two : rival ≡ are.rivals.rival = at_once r.terminals other rival are.rivals.rival rival_is are.rivals.rival_is in record {
-          clash = record {
-            rivals = are.rivals;
-            own_matches = subst (λ (z : Terminal). Matches z.pattern text) one shared.one;
-            rival_matches = subst (λ (z : Terminal). Matches z.pattern text) two shared.other;
-            unordered = unordered;
-          };
-          in_order = are.in_order;
-        }
+    at_match : (k : ℕ) (t : Terminal) (text : List ℕ) → slice_get r.terminals k ≡ Some t → Matches t.pattern text
+        → IsMatch (patterns_of r.terminals) k text
+    at_match k t text at m = record {
+      tree = t.pattern;
+      at = slice_get-map (λ (t : Terminal). t.pattern) r.terminals k ∙ ap (option_map (λ (t : Terminal). t.pattern)) at;
+      matches = m;
+    }
 
-    -- two that share no text show none
-    pub none_shared : (other : ℕ) (own rival : Terminal) → slice_get r.terminals marker ≡ Some own
-        → slice_get r.terminals other ≡ Some rival → ¬ ShareText own.pattern rival.pattern → ShowsNone r marker other
-    none_shared other own rival own_is rival_is apart text shown =
-        let rivals = shown.clash.rivals in
-        let one : rivals.own ≡ own = at_once r.terminals marker rivals.own own rivals.own_is own_is in
-        let two : rivals.rival ≡ rival = at_once r.terminals other rivals.rival rival rivals.rival_is rival_is in
-        apart (record {
-          text = text;
-          one = subst (λ (z : Terminal). Matches z.pattern text) one shown.clash.own_matches;
-          other = subst (λ (z : Terminal). Matches z.pattern text) two shown.clash.rival_matches;
-        })
+    -- two that have to be tested and match a text show a clash
+    pub shows : (other : ℕ) (text : List ℕ) → IsPairToTest r marker other → BothMatch (patterns_of r.terminals) (marker, other) text
+        → IsShownClash r marker other text
+    shows other text is (one, two) = record {
+      clash = record {
+        rivals = is.are.rivals;
+        own_matches = match_at marker is.are.rivals.own text is.are.rivals.own_is one;
+        rival_matches = match_at other is.are.rivals.rival text is.are.rivals.rival_is two;
+        unordered = is.unordered;
+      };
+      in_order = is.are.in_order;
+    }
+
+    -- the two of a clash match its text
+    pub both_match : (other : ℕ) (text : List ℕ) → IsShownClash r marker other text → BothMatch (patterns_of r.terminals) (marker, other) text
+    both_match other text shown =
+        let rivals = shown.clash.rivals in (
+          at_match marker rivals.own text rivals.own_is shown.clash.own_matches,
+          at_match other rivals.rival text rivals.rival_is shown.clash.rival_matches,
+        )
 
   marking_or_not : (k : TerminalKind) → (k ≡ Marking) ⊎ ((k ≡ Marking) → ⊥)
   marking_or_not Plain = inr (λ is. cc)
@@ -246,20 +243,7 @@ module _ (compared : Compared) (is : IsCompared compared) where
   marker_within = slice_get_within compared.scanned.now.parts.now.terminals compared.marker is.is_marker.terminal is.is_marker.is
 
   module _ (other : ℕ) where
-    -- what begins apart shows no clash
-    pub begin_apart : other < length compared.scanned.now.parts.now.terminals → (d e : Beginning)
-        → ((x : ℕ) → HoldsByte (get_or compared.scanned.now.beginnings.now compared.marker d).words x
-        → ¬ HoldsByte (get_or compared.scanned.now.beginnings.now other e).words x) → ShowsNone compared.scanned.now.parts.now compared.marker other
-    begin_apart within d e apart =
-        let beginnings = compared.scanned.now.beginnings.now in
-        let len = is.scanned.beginnings.len in
-        let own = marker_within in
-        let one : compared.marker < length beginnings = omega (arith, own, len) in
-        let two : other < length beginnings = omega (arith, within, len) in
-        none_apart compared.scanned.now.parts.now compared.marker beginnings is.scanned.beginnings other (get_or beginnings compared.marker d)
-        (get_or beginnings other e) (slice_get-get_or beginnings compared.marker d one) (slice_get-get_or beginnings other e two) apart
-
-    -- nor do two that are one text each, and not the same
+    -- two that are one text each, and not the same, show no clash
     pub texts_differ : (o p : Option (List ℕ)) → slice_get compared.scanned.now.texts.now compared.marker ≡ Some o
         → slice_get compared.scanned.now.texts.now other ≡ Some p → IsSomeAnd o (λ x. IsSomeAnd p (λ y. x ≢ y))
         → ShowsNone compared.scanned.now.parts.now compared.marker other
@@ -267,9 +251,9 @@ module _ (compared : Compared) (is : IsCompared compared) where
     texts_differ (Some x) None at_o at_p differ = absurd differ
     texts_differ (Some x) (Some y) at_o at_p differ = λ text shown.
         let rivals = shown.clash.rivals in
-        let own = is.scanned.texts.each compared.marker rivals.own x rivals.own_is at_o text shown.clash.own_matches in
-        let rival = is.scanned.texts.each other rivals.rival y rivals.rival_is at_p text shown.clash.rival_matches in
-        differ (sym own ∙ rival)
+        let own = is.scanned.texts.each compared.marker rivals.own x rivals.own_is at_o in
+        let rival = is.scanned.texts.each other rivals.rival y rivals.rival_is at_p in
+        differ (sym (own.only text shown.clash.own_matches) ∙ rival.only text shown.clash.rival_matches)
 
     -- two that are compared and unordered have to be tested but where they differ
     pub may_clash : AreCompared compared.scanned.now.parts.now compared.marker other → ¬ IsMember compared.ordered.now other → (differ : Bool)
@@ -277,3 +261,81 @@ module _ (compared : Compared) (is : IsCompared compared) where
     may_clash are unordered false shows_none =
         record { are = are; unordered = λ ordered. unordered ((is.ordered.each other).1 ordered) }
     may_clash are unordered true shows_none = shows_none refl
+
+-- pairs as they are gathered
+module _ (r : ResolvedParts) where
+  pub gathers_none : (pairs : List (ℕ × ℕ)) → Gathers r pairs pairs
+  gathers_none pairs = record { keeps = λ p has. has; sound = λ p has. inl has }
+
+  pub gathers_more : (a b c : List (ℕ × ℕ)) → Gathers r a b → Gathers r b c → Gathers r a c
+  gathers_more a b c h k = record {
+    keeps = λ p has. k.keeps p (h.keeps p has);
+    sound = λ p has. elim (k.sound p has) [ inr is ↦ inr is | inl old ↦ h.sound p old ];
+  }
+
+  pub gathers_push : (old new : List (ℕ × ℕ)) (marker other : ℕ) → new ≡ old ++ (marker, other) ∷ [] → IsPairToTest r marker other
+      → Gathers r old new
+  gathers_push old new marker other e is = record {
+    keeps = λ p has. subst (λ z. Contains z p) (sym e) (Contains-append_left old ((marker, other) ∷ []) p has);
+    sound = λ p has. elim (Contains-push_cases old (marker, other) p (subst (λ z. Contains z p) e has)) [
+      | inl before ↦ inl before
+      | inr same ↦ inr (subst (λ (z : ℕ × ℕ). IsPairToTest r z.0 z.1) same is)
+    ];
+  }
+
+  pub lists_push : (old new : List (ℕ × ℕ)) (marker other : ℕ) → new ≡ old ++ (marker, other) ∷ [] → Lists r new marker other
+  lists_push old new marker other e text shown = subst (λ z. Contains z (marker, other)) (sym e) (Contains-push old (marker, other))
+
+  pub lists_none : (pairs : List (ℕ × ℕ)) (marker other : ℕ) → ShowsNone r marker other → Lists r pairs marker other
+  lists_none pairs marker other none text shown = absurd (none text shown)
+
+  pub lists_keeps : (old new : List (ℕ × ℕ)) (marker other : ℕ) → Gathers r old new → Lists r old marker other → Lists r new marker other
+  lists_keeps old new marker other h l text shown = h.keeps (marker, other) (l text shown)
+
+  pub gathered_none : (pairs : List (ℕ × ℕ)) → pairs ≡ [] → AreGathered r pairs 0
+  gathered_none pairs e = record {
+    sound = λ p has. absurd (none_in p (subst (λ z. Contains z p) e has));
+    lists = λ m o lt. absurd (omega arith);
+  }
+    where
+      none_in : (p : ℕ × ℕ) → Contains [] p → ⊥
+      none_in p (k, lt, is) = absurd (omega arith)
+
+  pub gathered_more : (old new : List (ℕ × ℕ)) (count : ℕ) → AreGathered r old count → Gathers r old new → ((other : ℕ) → Lists r new count other)
+      → AreGathered r new (count + 1)
+  gathered_more old new count h g here = record {
+    sound = λ p has. elim (g.sound p has) [ inl before ↦ h.sound p before | inr is ↦ is ];
+    lists = λ m o lt. elim (cases_lt m count) [
+      | inl early ↦ lists_keeps old new m o g (h.lists m o early)
+      | inr late ↦ (let e : count ≡ m = omega (arith, lt, late) in subst (λ z. Lists r new z o) e (here o))
+    ];
+  }
+
+  pub gathered_all : (pairs : List (ℕ × ℕ)) (count : ℕ) → length r.terminals ≤ count → AreGathered r pairs count → ArePairsToTest r pairs
+  gathered_all pairs count le h = record {
+    sound = h.sound;
+    lists = λ m o text shown.
+        let within = slice_get_within r.terminals m shown.clash.rivals.own shown.clash.rivals.own_is in
+        h.lists m o (omega (arith, within, le)) text shown;
+  }
+
+  pub pairs_below : (pairs : List (ℕ × ℕ)) → ArePairsToTest r pairs → ArePairsBelow (length (patterns_of r.terminals)) pairs
+  pairs_below pairs h = all_from_contained (λ (p : ℕ × ℕ). (p.0 < length (patterns_of r.terminals)) × (p.1 < length (patterns_of r.terminals)))
+      pairs (λ p has.
+      let rivals = (h.sound p has).are.rivals in
+      let long = length-map r.terminals (λ (t : Terminal). t.pattern) in (
+        omega (arith, long, slice_get_within r.terminals p.0 rivals.own rivals.own_is),
+        omega (arith, long, slice_get_within r.terminals p.1 rivals.rival rivals.rival_is),
+      ))
+
+  pub none_clash : IsResolved r → (pairs : List (ℕ × ℕ)) → ArePairsToTest r pairs → IsSharedText (patterns_of r.terminals) pairs None
+      → HasNoMarkerClash r
+  none_clash is pairs h none = no_clash r is (λ marker other text shown. none text (record {
+    pair = (marker, other);
+    listed = h.lists marker other text shown;
+    both = both_match r marker other text shown;
+  }))
+
+  pub some_clash : (pairs : List (ℕ × ℕ)) (shared : SharedText) → ArePairsToTest r pairs
+      → IsLeastSharedText (patterns_of r.terminals) pairs shared → IsShownClash r shared.left shared.right shared.text
+  some_clash pairs shared h k = shows r shared.left shared.right shared.text (h.sound (shared.left, shared.right) k.listed) k.both

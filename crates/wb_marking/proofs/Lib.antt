@@ -1,4 +1,3 @@
-mod BeginLemmas
 mod PlaceLemmas
 mod ClashLemmas
 mod ListedLemmas
@@ -6,4 +5,3 @@ mod MarkedLemmas
 pub mod RefusalLemmas
 mod ScopeLemmas
 pub mod CallerLemmas
-mod TextLemmas

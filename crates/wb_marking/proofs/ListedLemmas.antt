@@ -5,12 +5,9 @@ use Rattle.std.specs.Prelude.{IfSome}
 use Rattle.std.proofs.lemmas.List.{take_more}
 use Rattle.std.proofs.lemmas.Option.{slice_get_within}
 use Rattle.wb_lemmas.proofs.Places.{at_once, at_push, push_before, push_last}
-use Rattle.wb_regex.specs.Matches.{Matches}
+use Rattle.wb_automata.specs.Sharing.{IsOnlyMatch}
 use Rattle.wb_syntax_resolved.specs.declared.terminal.Terminal.{Terminal}
-use Rattle.wb_marking.specs.declared.first_bytes.Beginning.{Beginning}
-use Rattle.wb_marking.specs.Inner.Compared.{AreBeginnings, AreOnlyTexts}
-use Rattle.wb_marking.specs.Inner.FirstBytes.{BeginWithin}
-use Rattle.wb_marking.specs.Inner.Texts.{MatchesOnly}
+use Rattle.wb_marking.specs.Inner.Compared.{AreOnlyTexts}
 
 -- in two lists that grow by one element each, what holds of elements at one place
 pushed_each : {X Y : Type 0} (R : X → Y → Type 0) (xs : List X) (ys : List Y) (x : X) (y : Y) → length ys ≡ length xs
@@ -34,29 +31,15 @@ pushed_len xs ys x y len = length-append ys (y ∷ []) ∙ ap (λ k. k + 1) len 
 module _ (terminals : List Terminal) (i : ℕ) (d : Terminal) (within : i < length terminals) where
   -- the text of one terminal more, if it has one alone
   pub texts_more : (texts : List (Option (List ℕ))) (found : Option (List ℕ)) → AreOnlyTexts (take i terminals) texts
-      → IfSome found (MatchesOnly (get_or terminals i d).pattern) → AreOnlyTexts (take (i + 1) terminals) (texts ++ found ∷ [])
+      → IfSome found (IsOnlyMatch (get_or terminals i d).pattern) → AreOnlyTexts (take (i + 1) terminals) (texts ++ found ∷ [])
   texts_more texts found are only = subst (λ z. AreOnlyTexts z (texts ++ found ∷ [])) (sym (take_more terminals i d within)) (record {
     len = pushed_len (take i terminals) texts (get_or terminals i d) found are.len;
     each = λ k t text at at_text.
-        let R : Terminal → Option (List ℕ) → Type 0 = λ t o. IfSome o (MatchesOnly t.pattern) in
+        let R : Terminal → Option (List ℕ) → Type 0 = λ t o. IfSome o (IsOnlyMatch t.pattern) in
         pushed_each R (take i terminals) texts (get_or terminals i d) found are.len (before texts are) only k t (Some text) at at_text;
   })
     where
       before : (texts : List (Option (List ℕ))) → AreOnlyTexts (take i terminals) texts → (k : ℕ) (t : Terminal) (o : Option (List ℕ))
-          → slice_get (take i terminals) k ≡ Some t → slice_get texts k ≡ Some o → IfSome o (MatchesOnly t.pattern)
+          → slice_get (take i terminals) k ≡ Some t → slice_get texts k ≡ Some o → IfSome o (IsOnlyMatch t.pattern)
       before texts are k t None at none = tt
       before texts are k t (Some text) at at_text = are.each k t text at at_text
-
-  -- the bytes with which matches of one terminal more begin
-  pub beginnings_more : (all : List Beginning) (b : Beginning) → AreBeginnings (take i terminals) all
-      → BeginWithin (get_or terminals i d).pattern b → ¬ Matches (get_or terminals i d).pattern []
-      → AreBeginnings (take (i + 1) terminals) (all ++ b ∷ [])
-  beginnings_more all b are begin some = subst (λ z. AreBeginnings z (all ++ b ∷ [])) (sym (take_more terminals i d within)) (record {
-    len = pushed_len (take i terminals) all (get_or terminals i d) b are.len;
-    each = pushed_each (λ (t : Terminal) (x : Beginning). BeginWithin t.pattern x) (take i terminals) all (get_or terminals i d) b are.len
-        are.each begin;
-    some = λ k t at. elim (at_push (take i terminals) (get_or terminals i d) t k at) [
-      | inl old ↦ are.some k t old
-      | inr (_, same) ↦ subst (λ (z : Terminal). ¬ Matches z.pattern []) same some
-    ];
-  })

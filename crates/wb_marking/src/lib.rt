@@ -7,7 +7,6 @@
 mod bridges;
 mod clashes;
 mod compared;
-mod first_bytes;
 mod laws;
 mod marks;
 mod places;

@@ -8,6 +8,8 @@ mod automata;
 #[cfg(test)]
 mod base;
 #[cfg(test)]
+mod common_texts;
+#[cfg(test)]
 mod graph;
 #[cfg(test)]
 mod lexical;

@@ -1,33 +1,66 @@
--- Pairs of places of two expressions, and the groups in which they are met. With m rows the places p and q are the pair p * m + q.
-use Rattle.std.specs.Prelude.{◌≡◌, ◌+◌, ◌*◌, ◌/◌, ◌%◌, ◌^◌, ◌<◌, ◌≤◌, ◌⊎◌, ℕ, Bool, true, Option, Some, None, List, [], ◌∷◌, ◌++◌}
+-- Pairs of places of two expressions, and the groups in which they are met. With m places the places p and q are the pair p * m + q.
+use Rattle.std.specs.Prelude.{◌≡◌, ◌+◌, ◌*◌, ◌/◌, ◌%◌, ◌^◌, ◌<◌, ◌≤◌, ◌⊎◌, ℕ, Bool, true, false, Option, Some, None, List, [], ◌∷◌, ◌++◌}
 use Rattle.std.specs.Prelude.{Contains, length, slice_index, slice_index_or}
-use Rattle.wb_termset.specs.Sets.{IsMember, members}
-use Rattle.wb_regex.specs.declared.node.RegexNode.{RegexNode}
-use Rattle.wb_automata.specs.declared.pairs.Groups.{Groups}
-use Rattle.wb_automata.specs.declared.shared.Overlap.{Overlap}
-use Rattle.wb_automata.specs.declared.shared.Overlap.TheVariants as o
-use Rattle.wb_automata_positions.specs.declared.tables.Tables.{Tables}
+use Rattle.wb_regex.specs.Matches.{HoldsByte}
+use Rattle.wb_automata.specs.declared.groups.Groups.{Groups}
+use Rattle.wb_automata.specs.declared.steps.Steps.{Steps}
+use Rattle.wb_automata.specs.declared.steps.Steps.TheVariants.{Still, One, Two}
+use Rattle.wb_automata.specs.declared.shared.SharedText.{SharedText}
+use Rattle.wb_automata_positions.specs.declared.places.Place.{Place}
+use Rattle.wb_automata_positions.specs.declared.places.Place.TheVariants as p
+use Rattle.wb_automata_positions.specs.Places.{ArePlacesBelow, ReadsTo, Runs}
+use Rattle.wb_automata_positions.specs.Rows.{row}
 use Rattle.wb_automata.specs.Automata.{Path, IsEarlier}
-use Rattle.wb_automata_positions.specs.Rising.{AreRising}
 use Rattle.wb_automata.specs.Order.{IsAtMost}
 use Rattle.wb_automata.specs.Paths.{paths_of}
-use Rattle.wb_automata_positions.specs.Rows.{row}
 use Rattle.wb_automata.specs.Inner.Found.{on}
-use Rattle.wb_automata_positions.specs.Leaves.{holds_of}
-use Rattle.wb_automata_positions.specs.Transitions.{IsTable}
 
--- after the place the text completes a match of the expression with this number
-abbrev pub Completes : Tables → ℕ → ℕ → List ℕ → Type 0
-Completes t k p [] = Contains (row t.ends p) k
-Completes t k p (b ∷ w) = (q : ℕ) × Contains (row t.follow p) q × (holds_of t.nodes.items q b ≡ true) × Completes t k q w
+-- what is at a place
+abbrev pub place_at : List Place → ℕ → Place
+place_at places i = slice_index_or places i (p.End 0)
 
--- the text completes a match of the first expression after the one place, and one of the second after the other
-abbrev pub CompletesBoth : Tables → ℕ → List ℕ → Type 0
-CompletesBoth t c w = Completes t 0 (c / length t.follow) w × Completes t 1 (c % length t.follow) w
+-- the left place of a pair, and the right one
+abbrev pub left_of : List Place → ℕ → ℕ
+left_of places c = c / length places
 
--- the pair of both starts
-abbrev pub start_pair : Tables → ℕ
-start_pair t = length t.nodes.items * length t.follow + (length t.nodes.items + 1)
+abbrev pub right_of : List Place → ℕ → ℕ
+right_of places c = c % length places
+
+-- where a place goes on without reading
+abbrev pub steps_of : Place → Steps
+steps_of (p.Read words next) = Still
+steps_of (p.Go next) = One next
+steps_of (p.Fork next other) = Two next other
+steps_of (p.End number) = Still
+
+-- the pairs of a left place, of which this is the first pair, and of where the right place goes on
+abbrev pub right_steps : ℕ → Steps → Steps
+right_steps first Still = Still
+right_steps first (One q) = One (first + q)
+right_steps first (Two q r) = Two (first + q) (first + r)
+
+-- the pairs of where the left place goes on and of the right place, and where it doesn't go on those of where the right place does
+abbrev pub both_steps : ℕ → ℕ → ℕ → Steps → Steps → Steps
+both_steps m left right Still steps = right_steps (left * m) steps
+both_steps m left right (One q) steps = One (q * m + right)
+both_steps m left right (Two q r) steps = Two (q * m + right) (r * m + right)
+
+-- the pairs to which a pair goes on without reading
+abbrev pub pair_steps : List Place → ℕ → Steps
+pair_steps places c = both_steps (length places) (left_of places c) (right_of places c) (steps_of (place_at places (left_of places c)))
+    (steps_of (place_at places (right_of places c)))
+
+-- these steps lead to numbers below the count
+abbrev pub AreStepsBelow : ℕ → Steps → Type 0
+AreStepsBelow m Still = Unit {0}
+AreStepsBelow m (One q) = q < m
+AreStepsBelow m (Two q r) = (q < m) × (r < m)
+
+-- one of these steps leads to the number
+abbrev pub LeadTo : Steps → ℕ → Type 0
+LeadTo Still d = ⊥
+LeadTo (One q) d = d ≡ q
+LeadTo (Two q r) d = (d ≡ q) ⊎ (d ≡ r)
 
 -- the number has the property with one of the list
 pub record Any (numbers : List ℕ) (P : ℕ → ℕ → Type 0) (d : ℕ) : Type 0 where
@@ -35,53 +68,85 @@ pub record Any (numbers : List ℕ) (P : ℕ → ℕ → Type 0) (d : ℕ) : Typ
   pub has : Contains numbers one
   pub is : P one d
 
--- d is the pair of both places, and the right one holds the byte
-abbrev pub IsRight : List RegexNode → ℕ → ℕ → ℕ → ℕ → ℕ → Type 0
-IsRight nodes m b left right d = (holds_of nodes right b ≡ true) × (d ≡ left * m + right)
+-- both places of the pair c read the byte, and d is the pair of where they go on
+pub record IsAfter (places : List Place) (b c d : ℕ) : Type 0 where
+  pub left : ℕ
+  pub right : ℕ
+  pub left_reads : ReadsTo (place_at places (left_of places c)) b left
+  pub right_reads : ReadsTo (place_at places (right_of places c)) b right
+  pub pair : d ≡ left * length places + right
 
--- the left place holds the byte, and d is the pair of it and one of the right places that does
-abbrev pub IsLeft : List RegexNode → ℕ → ℕ → List ℕ → ℕ → ℕ → Type 0
-IsLeft nodes m b rights left d = (holds_of nodes left b ≡ true) × Any rights (IsRight nodes m b left) d
+-- the two places are the ends of these expressions
+pub record AreEnds (places : List Place) (c i j : ℕ) : Type 0 where
+  pub left : place_at places (left_of places c) ≡ p.End i
+  pub right : place_at places (right_of places c) ≡ p.End j
 
--- the byte leads from the pair c to the pair d
-abbrev pub IsAfter : Tables → ℕ → ℕ → ℕ → Type 0
-IsAfter t b c d = Any (row t.follow (c / length t.follow))
-    (IsLeft t.nodes.items (length t.follow) b (row t.follow (c % length t.follow))) d
+-- both places of each pair are places of the list
+abbrev pub ArePairs : List Place → List ℕ → Type 0
+ArePairs places pairs = (c : ℕ) → Contains pairs c → left_of places c < length places
 
--- there is a flag for each pair
-pub record HasFlags (t : Tables) (flags : List Bool) : Type 0 where
-  pub table : IsTable t
-  pub len : length flags ≡ length t.follow * length t.follow
-  pub fits : length t.follow * length t.follow < 2 ^ 64
+-- each place goes on within the list, of which the square is a number
+pub record AreSmall (places : List Place) : Type 0 where
+  pub below : ArePlacesBelow places
+  pub fits : length places * length places < 2 ^ 64
 
--- all pairs that are wanted are marked, and those of them that weren't are put into the list
-pub record Adds (wanted : ℕ → Type 0) (flags : List Bool) (next : List ℕ) (flags' : List Bool) (next' : List ℕ) : Type 0 where
-  pub len : length flags' ≡ length flags
-  pub keeps : (d : ℕ) → IsMember flags d → IsMember flags' d
-  pub kept : (d : ℕ) → Contains next d → Contains next' d
-  pub only : (d : ℕ) → IsMember flags' d → IsMember flags d ⊎ Contains next' d
+-- the number was put after the others, if it wasn't there
+abbrev pub IsInserted : List ℕ → ℕ → List ℕ → Bool → Type 0
+IsInserted old number new true = (¬ Contains old number) × (new ≡ old ++ number ∷ [])
+IsInserted old number new false = Contains old number × (new ≡ old)
+
+-- all pairs that are wanted are met, and those of them that weren't are put after the list
+pub record Adds (wanted : ℕ → Type 0) (met next met' next' : List ℕ) : Type 0 where
+  pub more : List ℕ
+  pub extends : next' ≡ next ++ more
+  pub keeps : (d : ℕ) → Contains met d → Contains met' d
+  pub only : (d : ℕ) → Contains met' d → Contains met d ⊎ Contains next' d
   pub sound : (d : ℕ) → Contains next' d → Contains next d ⊎ wanted d
-  pub all : (d : ℕ) → wanted d → IsMember flags' d
-  pub few : members flags ≤ members flags'
-  pub grew : (next' ≡ next) ⊎ (members flags < members flags')
+  pub marked : (d : ℕ) → Contains next' d → Contains next d ⊎ Contains met' d
+  pub all : (d : ℕ) → wanted d → Contains met' d
 
--- the groups of pairs, the path of each, and which pairs are marked
+-- from one of the pairs one comes to this one without reading
+pub data Reached (places : List Place) (from : List ℕ) : ℕ → Type 0 where
+  begun : {d : ℕ} → Contains from d → Reached places from d
+  stepped : {d : ℕ} (c : ℕ) → Reached places from c → LeadTo (pair_steps places c) d → Reached places from d
+
+-- the list has been extended by pairs that are reached without reading, and what the first i go on to is met
+pub record Closes (places : List Place) (met next met' next' : List ℕ) (i : ℕ) : Type 0 where
+  pub more : List ℕ
+  pub extends : next' ≡ next ++ more
+  pub keeps : (d : ℕ) → Contains met d → Contains met' d
+  pub only : (d : ℕ) → Contains met' d → Contains met d ⊎ Contains next' d
+  pub sound : (d : ℕ) → Contains next' d → Reached places next d
+  pub marked : (d : ℕ) → Contains next' d → Contains next d ⊎ Contains met' d
+  pub pairs : ArePairs places next'
+  pub within : i ≤ length next'
+  pub closed : (k d : ℕ) → k < i → LeadTo (pair_steps places (slice_index next' k)) d → Contains met' d
+
+-- the groups of pairs, the path of each, and which pairs were met
 pub record Met : Type 0 where
   pub pairs : List (List ℕ)
   pub paths : List Path
-  pub flags : List Bool
+  pub numbers : List ℕ
 
 abbrev pub met_of : Groups → Met
-met_of groups = record { pairs = groups.pairs; paths = paths_of groups.predecessors.items; flags = groups.met }
+met_of groups = record { pairs = groups.pairs; paths = paths_of groups.predecessors.items; numbers = groups.met }
 
 -- the path of a group, from the one start
 abbrev pub path_at : List Path → ℕ → Path
 path_at paths g = record { set = 0; text = (slice_index_or paths g (record { set = 0; text = [] })).text }
 
--- the text leads to the pair: what completes both after it completes both with the text before it
-pub record IsMetBy (t : Tables) (text : List ℕ) (c : ℕ) : Type 0 where
-  pub left : c / length t.follow < length t.follow
-  pub reaches : (w : List ℕ) → CompletesBoth t c w → CompletesBoth t (start_pair t) (text ++ w)
+-- from one of the pairs the text leads to the ends of these two expressions
+pub record LeadsToBoth (places : List Place) (pairs : List ℕ) (i j : ℕ) (text : List ℕ) : Type 0 where
+  pub pair : ℕ
+  pub has : Contains pairs pair
+  pub left : Runs places (left_of places pair) i text
+  pub right : Runs places (right_of places pair) j text
+
+-- the text leads to the pair: what leads to two ends after it leads from a start to them with the text before it
+pub record IsMetBy (places : List Place) (seeds : List ℕ) (text : List ℕ) (c : ℕ) : Type 0 where
+  pub left : left_of places c < length places
+  pub reaches : (i j : ℕ) (x : List ℕ) → Runs places (left_of places c) i x → Runs places (right_of places c) j x
+      → LeadsToBoth places seeds i j (text ++ x)
 
 -- a group has the pair
 pub record IsListed (met : Met) (c : ℕ) : Type 0 where
@@ -96,99 +161,90 @@ pub record IsMetUpTo (met : Met) (c : ℕ) (path : Path) : Type 0 where
   pub has : Contains (row met.pairs group) c
   pub least : (path_at met.paths group ≡ path) ⊎ IsEarlier (path_at met.paths group) path
 
--- each group has pairs to which its path leads, in the order of the paths, and exactly these pairs are marked
-pub record AreMet (t : Tables) (met : Met) : Type 0 where
-  pub has_flags : HasFlags t met.flags
+-- each group has pairs to which its path leads, in the order of the paths, exactly these pairs are met, and what a pair goes on to without
+-- reading is met in its group or in an earlier one
+pub record AreMet (places : List Place) (seeds : List ℕ) (met : Met) : Type 0 where
+  pub small : AreSmall places
   pub len : length met.paths ≡ length met.pairs
-  pub few : length met.pairs ≤ members met.flags
-  pub listed : (c : ℕ) → IsMember met.flags c → IsListed met c
-  pub each : (g c : ℕ) → g < length met.pairs → Contains (row met.pairs g) c → IsMetBy t (path_at met.paths g).text c
+  pub listed : (c : ℕ) → Contains met.numbers c → IsListed met c
+  pub marked : (g c : ℕ) → g < length met.pairs → Contains (row met.pairs g) c → Contains met.numbers c
+  pub each : (g c : ℕ) → g < length met.pairs → Contains (row met.pairs g) c → IsMetBy places seeds (path_at met.paths g).text c
+  pub still : (g c d : ℕ) → g < length met.pairs → Contains (row met.pairs g) c → LeadTo (pair_steps places c) d
+      → IsMetUpTo met d (path_at met.paths g)
   pub sorted : (g h : ℕ) → g < h → h < length met.paths → IsEarlier (path_at met.paths g) (path_at met.paths h)
 
--- both expressions end with no pair of the list
-abbrev pub AreApart : Tables → List ℕ → Type 0
-AreApart t pairs = (c : ℕ) → Contains pairs c → ¬ CompletesBoth t c []
-
--- both end with some pair of the list
-pub record HasEnd (t : Tables) (pairs : List ℕ) : Type 0 where
-  pub pair : ℕ
-  pub has : Contains pairs pair
-  pub ends : CompletesBoth t pair []
-
 -- the byte leads from the pairs of the group to pairs that were met
-abbrev pub IsLed : Tables → Met → ℕ → ℕ → Type 0
-IsLed t met g b = (c d : ℕ) → Contains (row met.pairs g) c → IsAfter t b c d → IsMetUpTo met d (on (path_at met.paths g) b)
-
--- the group is done
-pub record IsClosed (t : Tables) (met : Met) (g : ℕ) : Type 0 where
-  pub apart : AreApart t (row met.pairs g)
-  pub led : (b : ℕ) → IsLed t met g b
+abbrev pub IsLed : List Place → Met → ℕ → ℕ → Type 0
+IsLed places met g b = (c d : ℕ) → Contains (row met.pairs g) c → IsAfter places b c d → IsMetUpTo met d (on (path_at met.paths g) b)
 
 -- the first group has the starts, and the first i groups are done
-pub record IsBegun (t : Tables) (met : Met) (i : ℕ) : Type 0 where
-  pub are_met : AreMet t met
+pub record IsBegun (places : List Place) (seeds : List ℕ) (met : Met) (i : ℕ) : Type 0 where
+  pub are_met : AreMet places seeds met
   pub some : 0 < length met.pairs
-  pub start : Contains (row met.pairs 0) (start_pair t)
+  pub starts : (c : ℕ) → Contains seeds c → Contains (row met.pairs 0) c
   pub empty : path_at met.paths 0 ≡ record { set = 0; text = [] }
-  pub closed : (g : ℕ) → g < i → IsClosed t met g
+  pub closed : (g b : ℕ) → g < i → IsLed places met g b
 
 -- each path is earlier than this one
 abbrev pub AreEarlier : List Path → Path → Type 0
 AreEarlier paths path = (g : ℕ) → g < length paths → IsEarlier (path_at paths g) path
 
 -- the first i groups are done, and what comes next comes after all
-pub record IsWalked (t : Tables) (met : Met) (i : ℕ) : Type 0 where
-  pub begun : IsBegun t met i
+pub record IsWalked (places : List Place) (seeds : List ℕ) (met : Met) (i : ℕ) : Type 0 where
+  pub begun : IsBegun places seeds met i
   pub within : i ≤ length met.pairs
   pub ready : i < length met.pairs → (b : ℕ) → AreEarlier met.paths (on (path_at met.paths i) b)
 
--- the first i groups are done, and group i up to the first k of the bytes
-pub record IsPassing (t : Tables) (bytes : List ℕ) (met : Met) (i k : ℕ) : Type 0 where
-  pub begun : IsBegun t met i
+-- the first i groups are done, and group i for the bytes below k
+pub record IsPassing (places : List Place) (seeds : List ℕ) (met : Met) (i k : ℕ) : Type 0 where
+  pub begun : IsBegun places seeds met i
   pub within : i < length met.pairs
-  pub apart : AreApart t (row met.pairs i)
-  pub led : (j : ℕ) → j < k → IsLed t met i (slice_index bytes j)
-  pub edge : (b : ℕ) → ((j : ℕ) → j < k → slice_index bytes j < b) → AreEarlier met.paths (on (path_at met.paths i) b)
+  pub led : (b : ℕ) → b < k → IsLed places met i b
+  pub edge : (b : ℕ) → k ≤ b → AreEarlier met.paths (on (path_at met.paths i) b)
 
--- the byte leads from the group to pairs of which those that are new are a group more
-pub record IsPassed (t : Tables) (i b : ℕ) (old new : Met) : Type 0 where
+-- the set has each byte that both places of some pair read
+abbrev pub HasCommonBytes : List Place → List ℕ → List ℕ → Type 0
+HasCommonBytes places pairs words = (b c d : ℕ) → Contains pairs c → IsAfter places b c d → HoldsByte words b
+
+-- the pairs are a group more, with the path
+pub record IsGrown (places : List Place) (old : Met) (met next : List ℕ) (path : Path) (new : Met) : Type 0 where
+  pub last : List ℕ
+  pub closes : Closes places met next new.numbers last (length last)
+  pub pairs : new.pairs ≡ old.pairs ++ last ∷ []
+  pub paths : new.paths ≡ old.paths ++ path ∷ []
+
+-- the byte leads from the group to pairs of which those that are new begin a group more
+pub record IsPassed (places : List Place) (i b : ℕ) (old new : Met) : Type 0 where
+  pub met : List ℕ
   pub next : List ℕ
-  pub adds : Adds (Any (row old.pairs i) (IsAfter t b)) old.flags [] new.flags next
-  pub change : ((next ≡ []) × (new.pairs ≡ old.pairs) × (new.paths ≡ old.paths)) ⊎
-      ((¬ (next ≡ [])) × (new.pairs ≡ old.pairs ++ next ∷ []) × (new.paths ≡ old.paths ++ on (path_at old.paths i) b ∷ []))
+  pub adds : Adds (Any (row old.pairs i) (IsAfter places b)) old.numbers [] met next
+  pub change : ((next ≡ []) × (new.pairs ≡ old.pairs) × (new.paths ≡ old.paths) × (new.numbers ≡ met)) ⊎
+      IsGrown places old met next (on (path_at old.paths i) b) new
 
--- one of the bytes isn't greater, and is held by the same nodes
-pub record HasFirst (nodes : List RegexNode) (bytes : List ℕ) (b : ℕ) : Type 0 where
-  pub place : ℕ
-  pub within : place < length bytes
-  pub first : slice_index bytes place ≤ b
-  pub alike : (p : ℕ) → holds_of nodes p b ≡ holds_of nodes p (slice_index bytes place)
+-- the group has the ends of two expressions
+pub record HasEnds (places : List Place) (pairs : List ℕ) (i j : ℕ) : Type 0 where
+  pub pair : ℕ
+  pub has : Contains pairs pair
+  pub ends : AreEnds places pair i j
 
--- the bytes stand for all
-pub record AreFirsts (nodes : List RegexNode) (bytes : List ℕ) : Type 0 where
-  pub rising : AreRising bytes
-  pub each : (b : ℕ) → b < 256 → HasFirst nodes bytes b
+-- the least text that leads from one of the pairs to the ends of two expressions, and these two
+pub record IsLeastCommon (places : List Place) (seeds : List ℕ) (shared : SharedText) : Type 0 where
+  pub leads : LeadsToBoth places seeds shared.left shared.right shared.text
+  pub least : (i j : ℕ) (text : List ℕ) → LeadsToBoth places seeds i j text → IsAtMost shared.text text
 
--- the tables are those of two expressions
-pub record AreTwo (t : Tables) : Type 0 where
-  pub table : IsTable t
-  pub len : length t.follow ≡ length t.nodes.items + 2
-  pub ends_len : length t.ends ≡ length t.follow
+-- or that there is none
+abbrev pub IsCommon : List Place → List ℕ → Option SharedText → Type 0
+IsCommon places seeds None = (i j : ℕ) (text : List ℕ) → ¬ LeadsToBoth places seeds i j text
+IsCommon places seeds (Some shared) = IsLeastCommon places seeds shared
 
--- the text is the least that completes both from their starts
-pub record IsLeastCompletion (t : Tables) (text : List ℕ) : Type 0 where
-  pub completes : CompletesBoth t (start_pair t) text
-  pub least : (other : List ℕ) → CompletesBoth t (start_pair t) other → IsAtMost text other
+-- a pair that was met, of the ends of these two expressions
+pub record IsMetEnd (places : List Place) (numbers : List ℕ) (i j : ℕ) : Type 0 where
+  pub pair : ℕ
+  pub has : Contains numbers pair
+  pub left : left_of places pair < length places
+  pub ends : AreEnds places pair i j
 
-abbrev pub IsNoCompletion : Tables → Type 0
-IsNoCompletion t = (text : List ℕ) → ¬ CompletesBoth t (start_pair t) text
-
--- the least text that completes both, or that there is none
-abbrev pub IsCompletion : Tables → Overlap → Type 0
-IsCompletion t (o.Both text) = IsLeastCompletion t text
-IsCompletion t o.Disjoint = IsNoCompletion t
-
--- the group whose path has the least text that completes both, or that there is none
-abbrev pub IsEnding : Tables → List Path → Option ℕ → Type 0
-IsEnding t paths None = IsNoCompletion t
-IsEnding t paths (Some g) = (g < length paths) × IsLeastCompletion t (path_at paths g).text
+-- the ends of two expressions are met exactly where some text leads to both
+pub record AreAllMet (places : List Place) (seeds numbers : List ℕ) : Type 0 where
+  pub sound : (c i j : ℕ) → Contains numbers c → AreEnds places c i j → (text : List ℕ) × LeadsToBoth places seeds i j text
+  pub complete : (i j : ℕ) (text : List ℕ) → LeadsToBoth places seeds i j text → IsMetEnd places numbers i j

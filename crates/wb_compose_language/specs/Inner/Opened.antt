@@ -11,7 +11,8 @@ use Rattle.wb_compose_language.specs.declared.addition.Lent.{Lent}
 use Rattle.wb_compose_language.specs.declared.extension_forms.OwnTerminal.{OwnTerminal}
 use Rattle.wb_compose_language.specs.declared.union_forms.Opened.{Opened}
 use Rattle.wb_compose_language.specs.Lents.{IsUnitable, all_in, own_in}
-use Rattle.wb_compose_language.specs.Inner.FirstBytes.{AreAllFirstBytes, HasOwnRows}
+use Rattle.wb_compose_language.specs.Inner.Known.{AreBases, HasOwnRows, IsKnown}
+use Rattle.wb_compose_language.specs.declared.withdrawn.Asked.{Asked}
 
 -- how many own terminals each extension has
 abbrev pub sizes_in : Lent → List ℕ
@@ -21,10 +22,12 @@ sizes_in lent = sizes lent.grammar.now lent.extensible.now (own_in lent) (all_in
 abbrev pub union_terminals : Lent → ℕ
 union_terminals lent = (united lent.grammar.now lent.extensible.now (pieces_of (all_in lent))).terminals
 
--- each extension has rows for its own terminals, and first bytes for each
+-- each extension has rows for its own terminals, which are listed
 pub record AreOpened (opened : Opened) : Type 0 where
   pub rows : All (HasOwnRows opened.lent.grammar.now.terminals) opened.lent.extensions.now
-  pub first_bytes : AreAllFirstBytes opened.lent.grammar.now.terminals opened.lent.extensions.now opened.first_bytes.now
+  pub known : IsKnown opened.known.now
+  pub bases : AreBases opened.lent.grammar.now.terminals opened.lent.extensions.now opened.known.now.owns.now.patterns.items
+      opened.known.now.owns.now.bases.items
 
 -- and all can be united
 pub record IsOpened (opened : Opened) : Type 0 where
@@ -45,3 +48,8 @@ pub record IsOwnTerminal (lent : Lent) (terminal : OwnTerminal) : Type 0 where
 pub record IsMarkerTerminal (lent : Lent) (terminal : OwnTerminal) : Type 0 where
   pub is_own : IsOwnTerminal lent terminal
   pub marking : is_own.row.kind ≡ Marking
+
+-- the expression is at its place
+pub record IsAsked (asked : Asked) : Type 0 where
+  pub known : IsKnown asked.known.now
+  pub at : slice_get asked.known.now.owns.now.patterns.items asked.place ≡ Some asked.pattern.now

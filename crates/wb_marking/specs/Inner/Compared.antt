@@ -1,18 +1,15 @@
 -- Terminals that are compared with a marker.
-use Rattle.std.specs.Prelude.{◌≡◌, ◌⊎◌, ◌<◌, ◌↔◌, ℕ, Bool, true, false, List, [], Option, Some, length, slice_get}
+use Rattle.std.specs.Prelude.{◌≡◌, ◌⊎◌, ◌<◌, ◌↔◌, ℕ, Bool, true, false, List, Option, Some, Contains, length, slice_get}
 use Rattle.wb_termset.specs.Sets.{IsMember}
 use Rattle.wb_lexical.specs.Clash.{AreOrdered}
-use Rattle.wb_regex.specs.Matches.{Matches}
+use Rattle.wb_automata.specs.Sharing.{IsOnlyMatch}
 use Rattle.wb_syntax_resolved.specs.declared.resolved.ResolvedParts.{ResolvedParts}
 use Rattle.wb_syntax_resolved.specs.declared.terminal.Preference.{Preference}
 use Rattle.wb_syntax_resolved.specs.declared.terminal.Terminal.{Terminal}
 use Rattle.wb_syntax_resolved.specs.Resolved.{IsResolved}
 use Rattle.wb_marking.specs.declared.clashes.Compared.{Compared}
 use Rattle.wb_marking.specs.declared.clashes.Scanned.{Scanned}
-use Rattle.wb_marking.specs.declared.first_bytes.Beginning.{Beginning}
 use Rattle.wb_marking.specs.Clashes.{AreRivals, preference_pairs}
-use Rattle.wb_marking.specs.Inner.FirstBytes.{BeginWithin}
-use Rattle.wb_marking.specs.Inner.Texts.{MatchesOnly}
 use Rattle.wb_marking.specs.Markers.{IsMarker}
 use Rattle.wb_marking.specs.Refusals.{IsShownClash}
 
@@ -49,23 +46,15 @@ pub record AreOrderedWith (r : ResolvedParts) (marker : ℕ) (set : List Bool) :
   pub len : length set ≡ length r.terminals
   pub each : (other : ℕ) → IsMember set other ↔ AreOrdered (preference_pairs r) marker other
 
--- matches of each terminal begin with the bytes that are listed for it
-pub record AreBeginnings (terminals : List Terminal) (beginnings : List Beginning) : Type 0 where
-  pub len : length beginnings ≡ length terminals
-  pub each : (k : ℕ) (terminal : Terminal) (b : Beginning) → slice_get terminals k ≡ Some terminal → slice_get beginnings k ≡ Some b
-      → BeginWithin terminal.pattern b
-  pub some : (k : ℕ) (terminal : Terminal) → slice_get terminals k ≡ Some terminal → ¬ Matches terminal.pattern []
-
 -- a terminal for which a text is listed matches that text alone
 pub record AreOnlyTexts (terminals : List Terminal) (texts : List (Option (List ℕ))) : Type 0 where
   pub len : length texts ≡ length terminals
   pub each : (k : ℕ) (terminal : Terminal) (text : List ℕ) → slice_get terminals k ≡ Some terminal → slice_get texts k ≡ Some (Some text)
-      → MatchesOnly terminal.pattern text
+      → IsOnlyMatch terminal.pattern text
 
--- what is compared is a resolved specification's, with the bytes with which its terminals begin and the texts of those that have one alone
+-- what is compared is a resolved specification's, with the texts of those of its terminals that have one alone
 pub record IsScanned (scanned : Scanned) : Type 0 where
   pub resolved : IsResolved scanned.parts.now
-  pub beginnings : AreBeginnings scanned.parts.now.terminals scanned.beginnings.now
   pub texts : AreOnlyTexts scanned.parts.now.terminals scanned.texts.now
 
 -- besides, there is such a marker, and the set has what is ordered against it
@@ -79,11 +68,30 @@ abbrev pub ShowsNone : ResolvedParts → ℕ → ℕ → Type 0
 ShowsNone r marker other = (text : List ℕ) → ¬ IsShownClash r marker other text
 
 -- the marker has to be told apart from the other, and no preference orders them
-pub record IsPairToTest (compared : Compared) (other : ℕ) : Type 0 where
-  pub are : AreCompared compared.scanned.now.parts.now compared.marker other
-  pub unordered : ¬ AreOrdered (preference_pairs compared.scanned.now.parts.now) compared.marker other
+pub record IsPairToTest (r : ResolvedParts) (marker other : ℕ) : Type 0 where
+  pub are : AreCompared r marker other
+  pub unordered : ¬ AreOrdered (preference_pairs r) marker other
 
 -- the two have to be tested, or else they don't clash
 abbrev pub MayClash : Compared → ℕ → Bool → Type 0
-MayClash compared other true = IsPairToTest compared other
+MayClash compared other true = IsPairToTest compared.scanned.now.parts.now compared.marker other
 MayClash compared other false = ShowsNone compared.scanned.now.parts.now compared.marker other
+
+-- the pair is listed, if it shows a clash
+abbrev pub Lists : ResolvedParts → List (ℕ × ℕ) → ℕ → ℕ → Type 0
+Lists r pairs marker other = (text : List ℕ) → IsShownClash r marker other text → Contains pairs (marker, other)
+
+-- pairs that have to be tested were added to a list
+pub record Gathers (r : ResolvedParts) (old new : List (ℕ × ℕ)) : Type 0 where
+  pub keeps : (pair : ℕ × ℕ) → Contains old pair → Contains new pair
+  pub sound : (pair : ℕ × ℕ) → Contains new pair → Contains old pair ⊎ IsPairToTest r pair.0 pair.1
+
+-- the list has the pairs of the first markers that may clash
+pub record AreGathered (r : ResolvedParts) (pairs : List (ℕ × ℕ)) (count : ℕ) : Type 0 where
+  pub sound : (pair : ℕ × ℕ) → Contains pairs pair → IsPairToTest r pair.0 pair.1
+  pub lists : (marker other : ℕ) → marker < count → Lists r pairs marker other
+
+-- all pairs have to be tested, and all that show a clash are listed
+pub record ArePairsToTest (r : ResolvedParts) (pairs : List (ℕ × ℕ)) : Type 0 where
+  pub sound : (pair : ℕ × ℕ) → Contains pairs pair → IsPairToTest r pair.0 pair.1
+  pub lists : (marker other : ℕ) → Lists r pairs marker other

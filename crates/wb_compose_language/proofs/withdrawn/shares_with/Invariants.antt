@@ -2,4 +2,4 @@ use Rattle.wb_compose_language.specs.Inner.Sharing.{SharesBefore}
 use Rattle.wb_compose_language.proofs.withdrawn.shares_with.Given as goal
 
 abbrev pub invariant-terminals : goal.invariant-terminals
-invariant-terminals l = ¬ SharesBefore l.own l.terminal l.extension l.marker.pattern.now
+invariant-terminals l = ¬ SharesBefore l.own l.terminal l.extension l.asked.pattern.now

@@ -3,4 +3,4 @@ use Rattle.wb_compose_language.proofs.withdrawn.shares_with_other.Given as goal
 
 abbrev pub invariant-extensions : goal.invariant-extensions
 invariant-extensions l =
-    ¬ SharesAmong l.opened.lent.grammar.now.terminals l.other l.opened.lent.extensions.now l.number l.marker.pattern.now
+    ¬ SharesAmong l.opened.lent.grammar.now.terminals l.other l.opened.lent.extensions.now l.number l.asked.pattern.now

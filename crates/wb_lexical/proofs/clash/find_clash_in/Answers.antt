@@ -1,23 +1,13 @@
-use Rattle.std.proofs.Common.{◌<◌, ℕ, List, Option, Some, None, Result, Ok, Err, refl}
-use Rattle.std.specs.Prelude.{IfOk, IfSome, IsNone, ◌↔◌}
-use Rattle.std.proofs.lemmas.Result.{IfOk-weaker}
+use Rattle.std.proofs.Common.{◌<◌, ℕ, List, refl}
+use Rattle.std.specs.Prelude.{IfOk, IfSome}
 use Rattle.wb_automata.specs.Automata.{IsMatch}
 use Rattle.wb_automata.specs.Order.{IsAtMost}
-use Rattle.wb_lemmas.proofs.Refusals.{none_from}
 use Rattle.wb_lexical.specs.declared.clash.Clash.{Clash}
 use Rattle.wb_lexical.specs.Clash.{IsClash, HasNoClash}
 use Rattle.wb_lexical.specs.Inner.Undecided.{IsLeastClash, HasNoUndecided}
+use Rattle.wb_lexical.proofs.FoundLemmas.{found_none, found_some}
 use Rattle.wb_lexical.proofs.ClashLemmas.{clash_is, least_is, no_clash}
 use Rattle.wb_lexical.proofs.clash.find_clash_in.Goals as goal
-
-some_weaker : {T : Type 0} (P Q : T → Type 0) → ((x : T) → P x → Q x) → (o : Option T) → IfSome o P → IfSome o Q
-some_weaker P Q f None h = tt
-some_weaker P Q f (Some x) h = f x h
-
-none_exact : {E : Type 0} (P : Clash → Type 0) (N M : Type 0) → (N → M) → ((x : Clash) → P x → M → ⊥) → (r : Result (Option Clash) E)
-    → IfOk r (λ found. IfSome found P) → IfOk r (λ found. IsNone found → N) → IfOk r (λ found. IsNone found ↔ M)
-none_exact P N M f g (Ok found) some none = (λ e. f (none e), λ m. none_from found P some (λ x p. g x p m))
-none_exact P N M f g (Err e) some none = tt
 
 module _ (c : goal.After-clash_in) where
   -- what the automaton found
@@ -25,8 +15,7 @@ module _ (c : goal.After-clash_in) where
   IsFound clash = IsLeastClash c.args.automaton.now c.args.preferences.now clash.set clash.left clash.right clash.text
 
   weaker : (Q : Clash → Type 0) → ((clash : Clash) → IsFound clash → Q clash) → IfOk c.clash_in.result (λ found. IfSome found Q)
-  weaker Q f = IfOk-weaker c.clash_in.result (λ found. IfSome found IsFound) (λ found. IfSome found Q)
-      (some_weaker IsFound Q f) c.clash_in.ensures.clash
+  weaker Q f = found_some IsFound Q f c.clash_in.result c.clash_in.ensures.clash
 
   is_clash : (clash : Clash) → IsFound clash
       → IsClash c.args.automaton.now.terminals c.args.automaton.now.sets c.args.preferences.now clash.set clash.left clash.right clash.text
@@ -47,7 +36,7 @@ returns-clause-least c = weaker c (λ clash. (text : List ℕ) → IsMatch c.arg
     clash.text refl)
 
 pub returns-clause-none : goal.returns-clause-none
-returns-clause-none c = none_exact (IsFound c) (HasNoUndecided c.args.automaton.now c.args.preferences.now)
+returns-clause-none c = found_none (IsFound c) (HasNoUndecided c.args.automaton.now c.args.preferences.now)
     (HasNoClash c.args.automaton.now.terminals c.args.automaton.now.sets c.args.preferences.now)
     (no_clash c.args.automaton.now c.args.automaton.now.terminals c.args.automaton.now.sets c.args.preferences.now
     refl refl)

@@ -3,10 +3,6 @@ use Rattle.wb_lemmas.proofs.Places.{read_at}
 use Rattle.wb_marking.proofs.ClashLemmas as p
 use Rattle.wb_marking.proofs.clashes.differs.Goals as goal
 
-pub returns-then-are_apart : goal.returns-then-are_apart
-returns-then-are_apart c true_is =
-    p.begin_apart c.args.compared.now c.requires.compared c.args.other c.requires.other _ _ (c.are_apart.ensures c.if-are_apart.true)
-
 pub offset_bounds-texts-compared : goal.offset_bounds-texts-compared
 offset_bounds-texts-compared c =
     let t = c.args.compared.now in

@@ -1,6 +1,0 @@
-use Rattle.std.proofs.Common.{◌≤◌, ℕ}
-use Rattle.wb_regex.specs.Matches.{HoldsByte}
-use Rattle.wb_marking.proofs.texts.first_from.Given as goal
-
-abbrev pub invariant-bytes : goal.invariant-bytes
-invariant-bytes l = (c : ℕ) → HoldsByte l.words c → l.from ≤ c → l.byte ≤ c
