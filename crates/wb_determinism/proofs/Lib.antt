@@ -6,6 +6,7 @@ mod ExtensionLemmas
 mod FlagLemmas
 mod ImageLemmas
 mod IndexLemmas
+mod JudgeLemmas
 mod KeepLemmas
 mod LawLemmas
 mod ListLemmas

@@ -14,7 +14,8 @@ use Rattle.wb_items.specs.Kernels.{KernelsView, AreKernels, count_of, prefix_of}
 use Rattle.wb_items.specs.LookaheadSets.{AreLookaheads}
 use Rattle.wb_items.specs.Lookaheads.{IsSetOf, items_in, row_of}
 use Rattle.wb_lookahead.proofs.PassLemmas.{set_at}
-use Rattle.wb_lookahead.proofs.StepLemmas.{closure_at, row_has}
+use Rattle.wb_items.proofs.CallerLemmas.{row_has}
+use Rattle.wb_lookahead.proofs.StepLemmas.{closure_at}
 use Rattle.wb_termset.specs.Sets.{IsMember}
 use Rattle.wb_determinism.specs.declared.context.Context.{Context}
 use Rattle.wb_determinism.specs.Numbers.{item_up}

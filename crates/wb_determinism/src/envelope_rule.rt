@@ -10,7 +10,6 @@ ghost use Rattle.wb_determinism.specs.Inner.Envelopes.{AreInKernel, IsEnvelopeRo
 use crate::context::{Context, ItemFault};
 use crate::lookahead_rule::foreign_member;
 use crate::numbers::item_after;
-use crate::position::position;
 use wb_items::{Item, ItemLookahead};
 
 // The first lookahead that an item of the closure mustn't have at a kernel of the extended host.
@@ -49,7 +48,7 @@ fn looks_fault(
     ensures { MatchOption result (KeepsLooks context.now own.now state looks.now.item) (λ found. IsRowFault context.now own.now state found.item found.terminal) }
 {
     let item = item_after(context.numbers, looks.item);
-    let Some(place) = position(context.both_lookaheads.row(state), item) else {
+    let Some(place) = context.both_lookaheads.find(state, item) else {
         return None;
     };
     let set = context.both_lookaheads.at(state, place);

@@ -5,6 +5,8 @@
 
 ghost use Rattle.std.specs.Prelude.{◌≡◌, ◌≤◌, ◌+◌, IfErr, IfOk, IfSome, IsSome, length};
 ghost use Rattle.wb_determinism_host.specs.HostGrammar.{HasGrammar};
+ghost use Rattle.wb_determinism_host.specs.Hosts.{AreHostParts, IsDeterministicHost};
+ghost use Rattle.wb_determinism_host.specs.Judged.{IsReadyToJudge};
 ghost use Rattle.wb_determinism.specs.Extensions.{AreExtensionParts, IsDeterministicExtension, IsHostBeside, both_numbers, numbers_of};
 ghost use Rattle.wb_determinism.specs.Refusals.{IsExtensionRefusal};
 ghost use Rattle.wb_determinism.specs.Regions.{AreRegions};
@@ -22,7 +24,9 @@ use crate::rules::{test_envelopes, test_lookaheads};
 use crate::{ExtensionParts, Region};
 use std::alloc::{AllocError, Global};
 use wb_base::{Grammar, Sequence};
-use wb_determinism_host::{DeterminismRefusal, HostParts, host_determinism};
+use wb_determinism_host::{AnalysedHost, DeterminismRefusal, HostParts, analysed_host, judge_host};
+use wb_grammar::Facts;
+use wb_items::{Kernels, Lookaheads};
 use wb_syntax_resolved::{Resolved, ResolvedParts};
 
 /// What is made of the grammar of a host with an extension, with holes, or why the extension isn't deterministic beside the host.
@@ -39,41 +43,97 @@ pub fn extension_determinism(
     ensures ok { IfOk result (λ parts. IfSome resolved.now.grammar (λ g. IsDeterministicExtension resolved.now g host.now.grammar × AreExtensionParts resolved.now g host.now parts)) }
     ensures refused { IfErr result (λ refusal. IfSome resolved.now.grammar (λ g. IsExtensionRefusal resolved.now g host.now.grammar refusal)) }
 {
+    let AnalysedHost {
+        grammar,
+        facts,
+        kernels,
+        lookaheads,
+    } = analysed_host(alloc, resolved)?;
+    judge_extension(alloc, host, resolved, grammar, &facts, kernels, lookaheads)
+}
+
+/// Like `extension_determinism`, where the kernels and lookaheads are there already: the first rule from the conflict on that fails.
+///
+/// `grammar` is the grammar of the host with the extension, with holes. Every rule before the conflict holds: that it has no unit cycle and
+/// no hidden left recursion is in its facts. The lookaheads may come from anywhere. The only other error is out of memory. No clause bounds
+/// the time.
+pub fn judge_extension(
+    alloc: Global,
+    host: &HostParts,
+    resolved: &Resolved,
+    grammar: Grammar,
+    facts: &Facts,
+    kernels: Kernels,
+    lookaheads: Lookaheads,
+) -> Result<ExtensionParts, DeterminismRefusal>
+    requires grammar { IsSome resolved.now.grammar }
+    requires host { IfSome resolved.now.grammar (λ g. IsHostBeside resolved.now g host.now) }
+    requires ready { IfSome resolved.now.grammar (λ g. IsReadyToJudge resolved.now g grammar facts.now kernels lookaheads) }
+    ensures ok { IfOk result (λ parts. IfSome resolved.now.grammar (λ g. IsDeterministicExtension resolved.now g host.now.grammar × AreExtensionParts resolved.now g host.now parts)) }
+    ensures refused { IfErr result (λ refusal. IfSome resolved.now.grammar (λ g. IsExtensionRefusal resolved.now g host.now.grammar refusal)) }
+{
+    let both = judge_host(alloc, resolved, grammar, facts, kernels, lookaheads)?;
+    match regions_beside(alloc, host, resolved, &both) {
+        Ok(regions) => Ok(ExtensionParts {
+            grammar: both.grammar,
+            kernels: both.kernels,
+            lookaheads: both.lookaheads,
+            tables: both.tables,
+            regions,
+        }),
+        Err(refusal) => {
+            both.release();
+            Err(refusal)
+        }
+    }
+}
+
+// The region of each kernel, where the rules hold that compare the host with the host with the extension, of which these are the parts.
+fn regions_beside(
+    alloc: Global,
+    host: &HostParts,
+    resolved: &Resolved,
+    both: &HostParts,
+) -> Result<Sequence<Region>, DeterminismRefusal>
+    requires grammar { IsSome resolved.now.grammar }
+    requires host { IfSome resolved.now.grammar (λ g. IsHostBeside resolved.now g host.now) }
+    requires both { IfSome resolved.now.grammar (λ g. IsDeterministicHost resolved.now g × AreHostParts resolved.now g both.now) }
+    ensures ok { IfOk result (λ regions. IfSome resolved.now.grammar (λ g. IsDeterministicExtension resolved.now g host.now.grammar)) }
+    ensures regions { IfOk result (λ regions. IfSome resolved.now.grammar (λ g. AreRegions host.now.kernels both.now.kernels (both_numbers resolved.now g host.now.grammar) (count_of both.now.kernels) regions)) }
+    ensures refused { IfErr result (λ refusal. IfSome resolved.now.grammar (λ g. IsExtensionRefusal resolved.now g host.now.grammar refusal)) }
+{
     match &resolved.parts().grammar {
-        Some(grammar) => with_grammar(alloc, host, resolved, grammar),
+        Some(grammar) => regions_with(alloc, host, resolved, grammar, both),
         None => unreachable!(),
     }
 }
 
-// Like `extension_determinism`, where the specification has this grammar.
-fn with_grammar(
+// Like `regions_beside`, where the specification has this grammar.
+fn regions_with(
     alloc: Global,
     host: &HostParts,
     resolved: &Resolved,
     grammar: &Grammar,
-) -> Result<ExtensionParts, DeterminismRefusal>
+    both: &HostParts,
+) -> Result<Sequence<Region>, DeterminismRefusal>
     requires grammar { HasGrammar resolved.now grammar.now }
     requires host { IsHostBeside resolved.now grammar.now host.now }
-    ensures ok { IfOk result (λ parts. IsDeterministicExtension resolved.now grammar.now host.now.grammar × AreExtensionParts resolved.now grammar.now host.now parts) }
+    requires deterministic { IsDeterministicHost resolved.now grammar.now }
+    requires both { AreHostParts resolved.now grammar.now both.now }
+    ensures ok { IfOk result (λ regions. IsDeterministicExtension resolved.now grammar.now host.now.grammar) }
+    ensures regions { IfOk result (AreRegions host.now.kernels both.now.kernels (both_numbers resolved.now grammar.now host.now.grammar) (count_of both.now.kernels)) }
     ensures refused { IfErr result (IsExtensionRefusal resolved.now grammar.now host.now.grammar) }
 {
-    let both = host_determinism(alloc, resolved)?;
-    let regions = tested_regions(
+    let parts = resolved.parts();
+    tested_regions(
         alloc,
         &Extended {
             host,
-            parts: resolved.parts(),
+            parts,
             grammar,
-            both: &both,
+            both,
         },
-    )?;
-    Ok(ExtensionParts {
-        grammar: both.grammar,
-        kernels: both.kernels,
-        lookaheads: both.lookaheads,
-        tables: both.tables,
-        regions,
-    })
+    )
 }
 
 // A host, the specification of the host with an extension, its grammar, and what is made of that with holes.

@@ -18,13 +18,12 @@ mod layout;
 mod lookahead_rule;
 mod numbers;
 mod parts;
-mod position;
 mod regions;
 mod rules;
 mod valid;
 
-pub use extension::extension_determinism;
+pub use extension::{extension_determinism, judge_extension};
 pub use laws::{composable_law, extension_refusals_law};
 pub use parts::ExtensionParts;
 pub use regions::Region;
-pub use wb_determinism_host::host_determinism;
+pub use wb_determinism_host::{host_determinism, judge_host};

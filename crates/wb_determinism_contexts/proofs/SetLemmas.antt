@@ -1,9 +1,12 @@
 -- Sets of what is considered at kernels.
-use Rattle.std.proofs.Common.{◌≡◌, ◌<◌, ◌+◌, ℕ, Bool, List, [], ◌∷◌, ◌++◌, length, Some, slice_get, sym, subst, arith, inl, inr, ◌∙◌}
+use Rattle.std.proofs.Common.{◌≡◌, ◌<◌, ◌≤◌, ◌+◌, ℕ, Bool, true, List, [], ◌∷◌, ◌++◌, length, Some, slice_get, sym, subst, arith, inl}
+use Rattle.std.proofs.Common.{inr, ◌∙◌}
 use Rattle.std.proofs.Common.{length-append}
-use Rattle.std.specs.Prelude.{◌↔◌, ◌⊎◌}
+use Rattle.std.specs.Prelude.{◌↔◌, ◌⊎◌, slice_set}
+use Rattle.std.proofs.lemmas.Bool.{cases_lt}
 use Rattle.wb_lemmas.proofs.Places.{at_push}
-use Rattle.wb_termset.specs.Sets.{IsMember}
+use Rattle.wb_termset.specs.Sets.{IsMember, IsNextMember, HasNoneFrom}
+use Rattle.wb_termset.proofs.CallerLemmas.{IsMember-insert, IsMember-insert_same, IsSubset-insert}
 use Rattle.wb_items.specs.Kernels.{KernelsView, prefix_of}
 use Rattle.wb_lookahead.specs.Tables.{IsValidSet}
 use Rattle.wb_determinism_contexts.specs.Considered.{LexiconView, IsConsideredAt}
@@ -28,6 +31,66 @@ considered_is kernels lexicon s valid set fits is len each = record {
         → ((t < lexicon.scanned) × IsMember valid t) ⊎ IsMember lexicon.layout t
     back t (inl (below, has)) = inl (below, (is.each t (omega (arith, below, fits.scanned))).1 has)
     back t (inr has) = inr has
+
+-- the set has what it had, and the members of the other below a number
+abbrev pub HasAdded : List Bool → List Bool → ℕ → List Bool → Type 0
+HasAdded old other below new = (t : ℕ) → IsMember new t ↔ (((t < below) × IsMember other t) ⊎ IsMember old t)
+
+-- nothing was added
+pub added_first : (old other : List Bool) → HasAdded old other 0 old
+added_first old other t = (λ has. inr has, λ either. elim either [ inl (lt, has) ↦ absurd (omega (arith, lt)) | inr has ↦ has ])
+
+-- the next member was added
+pub added_next : (old other now : List Bool) (from n : ℕ) → n < length now → IsNextMember other from n → HasAdded old other from now
+    → HasAdded old other (n + 1) (slice_set now n true)
+added_next old other now from n room next are t = (
+  λ has. elim (IsMember-insert now n t has) [
+    | inl before ↦ elim ((are t).0 before) [
+      | inl (lt, is) ↦ inl ((let le = next.from_on in omega (arith, lt, le)), is)
+      | inr first ↦ inr first
+    ]
+    | inr same ↦ inl (omega (arith, same), subst (IsMember other) (sym same) next.member)
+  ],
+  λ either. elim either [
+    | inl (lt, is) ↦ elim (cases_lt t from) [
+      | inl early ↦ IsSubset-insert now n t ((are t).1 (inl (early, is)))
+      | inr late ↦ elim (cases_lt t n) [
+        | inl between ↦ absurd (next.least t late between is)
+        | inr past ↦
+            subst (IsMember (slice_set now n true)) (let e : n ≡ t = omega (arith, lt, past) in e) (IsMember-insert_same now n room)
+      ]
+    ]
+    | inr first ↦ IsSubset-insert now n t ((are t).1 (inr first))
+  ],
+)
+
+-- the next member is past the last that is wanted
+pub added_past : (old other now : List Bool) (from below n : ℕ) → from ≤ below → below ≤ n → IsNextMember other from n
+    → HasAdded old other from now → HasAdded old other below now
+added_past old other now from below n low high next are t = (
+  λ has. elim ((are t).0 has) [ inl (lt, is) ↦ inl (omega (arith, lt, low), is) | inr first ↦ inr first ],
+  λ either. elim either [
+    | inl (lt, is) ↦ elim (cases_lt t from) [
+      | inl early ↦ (are t).1 (inl (early, is))
+      | inr late ↦ absurd (next.least t late (omega (arith, lt, high)) is)
+    ]
+    | inr first ↦ (are t).1 (inr first)
+  ],
+)
+
+-- no member is left
+pub added_all : (old other now : List Bool) (from below : ℕ) → from ≤ below → HasNoneFrom other from → HasAdded old other from now
+    → HasAdded old other below now
+added_all old other now from below low past are t = (
+  λ has. elim ((are t).0 has) [ inl (lt, is) ↦ inl (omega (arith, lt, low), is) | inr first ↦ inr first ],
+  λ either. elim either [
+    | inl (lt, is) ↦ elim (cases_lt t from) [
+      | inl early ↦ (are t).1 (inl (early, is))
+      | inr late ↦ absurd (past t late is)
+    ]
+    | inr first ↦ (are t).1 (inr first)
+  ],
+)
 
 -- one kernel more
 pub sets_more : (kernels : KernelsView) (lexicon : LexiconView) (s : ℕ) (sets : List (List Bool)) (set : List Bool)

@@ -53,9 +53,12 @@ fn add_members(set: &mut TermSet, other: &TermSet, below: usize)
     ensures len { length set.new ≡ length set.old }
     ensures each { (t : ℕ) → IsMember set.new t ↔ (((t < below) × IsMember other.now t) ⊎ IsMember set.old t) }
 {
-    'numbers: for number in 0..below {
-        if other.contains(number) {
-            set.insert(number);
+    let mut from = 0;
+    'members: while let Some(number) = other.next_member(from) {
+        if number >= below {
+            return;
         }
+        set.insert(number);
+        from = number + 1;
     }
 }

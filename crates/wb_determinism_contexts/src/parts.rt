@@ -94,12 +94,14 @@ fn decided_by(
     ensures refused { IfErr result (IsPartsRefusal grammar.now) }
 {
     let lookaheads = plain_lookaheads(alloc, grammar, facts, kernels)?;
-    let tables = tables_by(alloc, grammar, kernels, &lookaheads)?;
+    let tables = tables_of(alloc, grammar, kernels, &lookaheads)?;
     Ok(Decided { lookaheads, tables })
 }
 
-// The tables, or a conflict with its prefix.
-fn tables_by(
+/// The tables of kernels with their lookaheads, or a conflict. The only other error is out of memory.
+///
+/// It doesn't matter how the lookaheads were found.
+pub fn tables_of(
     alloc: Global,
     grammar: &Grammar,
     kernels: &Kernels,

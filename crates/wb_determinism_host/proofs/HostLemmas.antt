@@ -4,12 +4,8 @@ use Rattle.std.proofs.lemmas.List.{length-map}
 use Rattle.std.specs.Prelude.{Option, None, option_map}
 use Rattle.std.proofs.lemmas.Option.{slice_get_within, slice_get-map, same_Some}
 use Rattle.wb_base.specs.Grammar.{GrammarView}
-use Rattle.wb_determinism_contexts.specs.Considered.{HasNoClashAt}
-use Rattle.wb_determinism_contexts.specs.Parts.{ArePartsOf}
 use Rattle.wb_determinism_contexts.specs.Sets.{FitsGrammar}
-use Rattle.wb_determinism_contexts.specs.declared.parts.Parts.{Parts}
 use Rattle.wb_grammar.specs.Facts.{FactsView, AreFacts}
-use Rattle.wb_grammar_theory.specs.Lookaheads.{HasNoConflict}
 use Rattle.wb_graph.specs.Graphs.{IsEdgeBelow}
 use Rattle.wb_lemmas.proofs.Elements.{all_at, all_from_places}
 use Rattle.wb_marking_holes.specs.Holes.{with_holes_of}
@@ -18,7 +14,7 @@ use Rattle.wb_syntax_resolved.specs.declared.terminal.Preference.{Preference}
 use Rattle.wb_syntax_resolved.specs.declared.terminal.Terminal.{Terminal}
 use Rattle.wb_syntax_resolved.specs.Grammar.{IsGrammarOf}
 use Rattle.wb_syntax_resolved.specs.Resolved.{IsNamedPreference}
-use Rattle.wb_determinism_host.specs.Hosts.{IsSound, IsFitForParsing, IsDeterministicHost}
+use Rattle.wb_determinism_host.specs.Hosts.{IsSound, IsFitForParsing}
 use Rattle.wb_determinism_host.specs.HostGrammar.{HasGrammar}
 use Rattle.wb_determinism_host.specs.Lexicons.{is_layout, lexicon_of, preference_pairs}
 
@@ -38,15 +34,6 @@ fit_of r g holes facts sound is are = record {
 pub holes_are : (r : ResolvedParts) (g holes : GrammarView) → HasGrammar r g → IfSome r.grammar (λ h. holes ≡ with_holes_of h r.extensible)
     → holes ≡ with_holes_of g r.extensible
 holes_are r g holes has made = subst (λ o. IfSome o (λ h. holes ≡ with_holes_of h r.extensible)) has.grammar made
-
--- a host that passes all tests is deterministic
-pub deterministic : (r : ResolvedParts) (g holes : GrammarView) (parts : Parts) → IsFitForParsing r g → holes ≡ with_holes_of g r.extensible
-    → ArePartsOf holes parts → HasNoClashAt (with_holes_of g r.extensible) (lexicon_of r g) → IsDeterministicHost r g
-deterministic r g holes parts fit is are clear = record {
-  fit = fit;
-  no_conflict = subst HasNoConflict (are.grammar ∙ is) are.tables.no_conflict;
-  no_clash = clear;
-}
 
 -- preferences are between terminals
 pub edges_below : (r : ResolvedParts) → All (IsNamedPreference r) r.preferences

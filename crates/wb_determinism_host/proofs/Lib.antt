@@ -1,3 +1,4 @@
 mod FlagLemmas
 pub mod HostLemmas
+mod JudgeLemmas
 pub mod RefusalLemmas

@@ -4,6 +4,8 @@ pub mod HostGrammar
 pub mod Lexicons
 -- a host that is deterministic for all extensions that may come
 pub mod Hosts
+-- a host that passes every test before the conflict, with what is found of it
+pub mod Judged
 -- why a host isn't, each reason with a true example where no earlier one holds
 pub mod Refusals
 -- what only proofs need

@@ -1,32 +1,43 @@
 //! Is a host deterministic for every extension that may come?
 //!
 //! Each test in the order in which refusals are shown. The grammar is reduced without holes, since a hole makes nothing productive; all
-//! else is asked of the grammar with holes.
+//! else is asked of the grammar with holes. The tests from the conflict on are in `judge`.
 
 ghost use Rattle.std.specs.Prelude.{◌≡◌, IfErr, IfOk, IfSome, IsSome};
 ghost use Rattle.wb_grammar.specs.Facts.{AreFacts};
 ghost use Rattle.wb_grammar_theory.specs.Shape.{IsReduced};
-ghost use Rattle.wb_determinism_contexts.specs.Considered.{HasNoClashAt};
-ghost use Rattle.wb_determinism_contexts.specs.Parts.{ArePartsOf};
-ghost use Rattle.wb_determinism_contexts.specs.Sets.{lent};
+ghost use Rattle.wb_items.specs.LookaheadSets.{AreLookaheads};
 ghost use Rattle.wb_marking_holes.specs.Holes.{with_holes_of};
-ghost use Rattle.wb_determinism_host.specs.Hosts.{AreAcyclic, AreHostParts, IsDeterministicHost, IsFitForParsing, IsSound};
-ghost use Rattle.wb_determinism_host.specs.Lexicons.{lexicon_of};
+ghost use Rattle.wb_determinism_host.specs.Hosts.{AreAcyclic, AreHostParts, IsDeterministicHost, IsSound};
+ghost use Rattle.wb_determinism_host.specs.Judged.{IsReadyToJudge};
+ghost use Rattle.wb_determinism_host.specs.Lexicons.{preference_pairs};
 ghost use Rattle.wb_determinism_host.specs.Refusals.{IsHostRefusal};
 ghost use Rattle.wb_determinism_host.specs.HostGrammar.{HasGrammar};
-ghost use Rattle.wb_determinism_host.specs.Inner.Lists.{AreLists};
 
-use crate::lexicon::{expressions_of, layout_of, pairs_of};
+use crate::judge::judge_host;
+use crate::lexicon::pairs_of;
 use crate::{DeterminismRefusal, HostParts};
 use std::alloc::{AllocError, Global};
 use wb_base::{Grammar, Sequence};
-use wb_determinism_contexts::{Lexicon, Parts, PartsRefusal, clash_at, parts_of};
+use wb_digraph::digraph_lookaheads;
 use wb_grammar::{Facts, GrammarRefusal, analyse};
+use wb_items::{Kernels, Lookaheads};
 use wb_lexical::preference_cycle;
 use wb_marking_holes::with_holes;
-use wb_regex::Regex;
 use wb_syntax_resolved::Resolved;
-use wb_termset::TermSet;
+
+/// A host's grammar with holes, and what is found of it before it is judged.
+#[derive(Drop)]
+pub struct AnalysedHost {
+    /// The grammar with holes.
+    pub grammar: Grammar,
+    /// What an analysis knows of it.
+    pub facts: Facts,
+    /// The kernels of its prefixes.
+    pub kernels: Kernels,
+    /// The lookaheads of their items.
+    pub lookaheads: Lookaheads,
+}
 
 /// What is made of a host's grammar with holes, or why the host isn't deterministic.
 ///
@@ -34,6 +45,23 @@ use wb_termset::TermSet;
 pub fn host_determinism(alloc: Global, resolved: &Resolved) -> Result<HostParts, DeterminismRefusal>
     requires { IsSome resolved.now.grammar }
     ensures ok { IfOk result (λ parts. IfSome resolved.now.grammar (λ g. IsDeterministicHost resolved.now g × AreHostParts resolved.now g parts)) }
+    ensures refused { IfErr result (λ refusal. IfSome resolved.now.grammar (λ g. IsHostRefusal resolved.now g refusal)) }
+{
+    let AnalysedHost {
+        grammar,
+        facts,
+        kernels,
+        lookaheads,
+    } = analysed_host(alloc, resolved)?;
+    judge_host(alloc, resolved, grammar, &facts, kernels, lookaheads)
+}
+
+/// What is found of a host's grammar with holes before it is judged, or the first rule before the conflict that fails.
+///
+/// The lookaheads are found by relations.
+pub fn analysed_host(alloc: Global, resolved: &Resolved) -> Result<AnalysedHost, DeterminismRefusal>
+    requires { IsSome resolved.now.grammar }
+    ensures ok { IfOk result (λ host. IfSome resolved.now.grammar (λ g. IsReadyToJudge resolved.now g host.grammar host.facts host.kernels host.lookaheads)) }
     ensures refused { IfErr result (λ refusal. IfSome resolved.now.grammar (λ g. IsHostRefusal resolved.now g refusal)) }
 {
     match &resolved.parts().grammar {
@@ -49,71 +77,21 @@ struct Host<'a> {
     grammar: &'a Grammar,
 }
 
-// The lists that a lexicon lends.
-#[derive(Drop)]
-struct Lists {
-    expressions: Vec<Regex>,
-    layout: TermSet,
-    pairs: Vec<(usize, usize)>,
-}
-
-// Like `host_determinism`, where the host has this grammar.
-fn with_grammar(alloc: Global, host: &Host) -> Result<HostParts, DeterminismRefusal>
+// Like `analysed_host`, where the host has this grammar.
+fn with_grammar(alloc: Global, host: &Host) -> Result<AnalysedHost, DeterminismRefusal>
     requires { HasGrammar host.now.resolved.now host.now.grammar.now }
-    ensures ok { IfOk result (λ parts. IsDeterministicHost host.now.resolved.now host.now.grammar.now × AreHostParts host.now.resolved.now host.now.grammar.now parts) }
+    ensures ok { IfOk result (λ made. IsReadyToJudge host.now.resolved.now host.now.grammar.now made.grammar made.facts made.kernels made.lookaheads) }
     ensures refused { IfErr result (IsHostRefusal host.now.resolved.now host.now.grammar.now) }
 {
-    let lists = lists_of(alloc, host)?;
-    let answer = with_lexicon(
-        alloc,
-        host,
-        &Lexicon {
-            expressions: &lists.expressions,
-            scanned: host.grammar.terminals(),
-            layout: &lists.layout,
-            preferences: &lists.pairs,
-        },
-    );
-    drop(lists);
-    answer
-}
-
-// What is scanned of the host, as lists.
-fn lists_of(alloc: Global, host: &Host) -> Result<Lists, AllocError>
-    ensures { IfOk result (λ lists. AreLists host.now.resolved.now lists) }
-{
-    let parts = host.resolved.parts();
-    let terminals = parts.terminals.as_slice();
-    let layout = layout_of(alloc, terminals)?;
-    let pairs = pairs_of(alloc, parts.preferences.as_slice())?;
-    let expressions = expressions_of(alloc, terminals)?;
-    Ok(Lists {
-        expressions,
-        layout,
-        pairs,
-    })
-}
-
-// Like `with_grammar`, where this is scanned.
-fn with_lexicon(
-    alloc: Global,
-    host: &Host,
-    lexicon: &Lexicon,
-) -> Result<HostParts, DeterminismRefusal>
-    requires host { HasGrammar host.now.resolved.now host.now.grammar.now }
-    requires lexicon { lent lexicon.now ≡ lexicon_of host.now.resolved.now host.now.grammar.now }
-    ensures ok { IfOk result (λ parts. IsDeterministicHost host.now.resolved.now host.now.grammar.now × AreHostParts host.now.resolved.now host.now.grammar.now parts) }
-    ensures refused { IfErr result (IsHostRefusal host.now.resolved.now host.now.grammar.now) }
-{
-    test_preferences(alloc, host, lexicon)?;
+    test_preferences(alloc, host)?;
     test_reduced(alloc, host)?;
     let holes = with_holes(alloc, host.resolved)?;
-    match parts_with_holes(alloc, host, lexicon, &holes) {
-        Ok(parts) => Ok(HostParts {
+    match found_with_holes(alloc, host, &holes) {
+        Ok(found) => Ok(AnalysedHost {
             grammar: holes,
-            kernels: parts.kernels,
-            lookaheads: parts.lookaheads,
-            tables: parts.tables,
+            facts: found.facts,
+            kernels: found.kernels,
+            lookaheads: found.lookaheads,
         }),
         Err(refusal) => {
             drop(holes);
@@ -123,13 +101,28 @@ fn with_lexicon(
 }
 
 // Whether preferences are acyclic.
-fn test_preferences(alloc: Global, host: &Host, lexicon: &Lexicon) -> Result<(), DeterminismRefusal>
-    requires { lent lexicon.now ≡ lexicon_of host.now.resolved.now host.now.grammar.now }
+fn test_preferences(alloc: Global, host: &Host) -> Result<(), DeterminismRefusal>
+    ensures ok { IfOk result (λ done. AreAcyclic host.now.resolved.now) }
+    ensures refused { IfErr result (IsHostRefusal host.now.resolved.now host.now.grammar.now) }
+{
+    let pairs = pairs_of(alloc, host.resolved.parts().preferences.as_slice())?;
+    let tested = test_pairs(alloc, host, &pairs);
+    drop(pairs);
+    tested
+}
+
+// Like `test_preferences`, where the preferences are these pairs.
+fn test_pairs(
+    alloc: Global,
+    host: &Host,
+    pairs: &[(usize, usize)],
+) -> Result<(), DeterminismRefusal>
+    requires { pairs.now ≡ preference_pairs host.now.resolved.now }
     ensures ok { IfOk result (λ done. AreAcyclic host.now.resolved.now) }
     ensures refused { IfErr result (IsHostRefusal host.now.resolved.now host.now.grammar.now) }
 {
     let count = host.resolved.parts().terminals.len();
-    match preference_cycle(alloc, count, lexicon.preferences)? {
+    match preference_cycle(alloc, count, pairs)? {
         Some(cycle) => Err(DeterminismRefusal::PreferenceCycle(Sequence::from_vec(cycle))),
         None => Ok(()),
     }
@@ -159,29 +152,35 @@ fn test_reduced(alloc: Global, host: &Host) -> Result<(), DeterminismRefusal>
     }
 }
 
-// What is made of the grammar with holes.
-fn parts_with_holes(
+// What is found of a grammar with holes.
+#[derive(Drop)]
+struct Found {
+    facts: Facts,
+    kernels: Kernels,
+    lookaheads: Lookaheads,
+}
+
+// The facts, kernels and lookaheads of the grammar with holes.
+fn found_with_holes(
     alloc: Global,
     host: &Host,
-    lexicon: &Lexicon,
     holes: &Grammar,
-) -> Result<Parts, DeterminismRefusal>
+) -> Result<Found, DeterminismRefusal>
     requires sound { IsSound host.now.resolved.now host.now.grammar.now }
     requires holes { holes.now ≡ with_holes_of host.now.grammar.now host.now.resolved.now.extensible }
-    requires host { HasGrammar host.now.resolved.now host.now.grammar.now }
-    requires lexicon { lent lexicon.now ≡ lexicon_of host.now.resolved.now host.now.grammar.now }
-    ensures ok { IfOk result (λ parts. ArePartsOf holes.now parts × IsDeterministicHost host.now.resolved.now host.now.grammar.now) }
+    ensures ok { IfOk result (λ made. IsReadyToJudge host.now.resolved.now host.now.grammar.now holes.now made.facts made.kernels made.lookaheads) }
     ensures refused { IfErr result (IsHostRefusal host.now.resolved.now host.now.grammar.now) }
 {
     let facts = facts_with_holes(alloc, host, holes)?;
-    let made = parts_by(alloc, host, holes, &facts);
-    drop(facts);
-    let parts = made?;
-    match test_clashes(alloc, host, lexicon, &parts) {
-        Ok(()) => Ok(parts),
-        Err(refusal) => {
-            drop(parts);
-            Err(refusal)
+    match kernels_and_lookaheads(alloc, holes, &facts) {
+        Ok(made) => Ok(Found {
+            facts,
+            kernels: made.kernels,
+            lookaheads: made.lookaheads,
+        }),
+        Err(error) => {
+            drop(facts);
+            Err(DeterminismRefusal::NoMemory(error))
         }
     }
 }
@@ -208,52 +207,32 @@ fn facts_with_holes(
     }
 }
 
-// What is made of the grammar with holes by its facts, or a conflict.
-fn parts_by(
-    alloc: Global,
-    host: &Host,
-    holes: &Grammar,
-    facts: &Facts,
-) -> Result<Parts, DeterminismRefusal>
-    requires sound { IsSound host.now.resolved.now host.now.grammar.now }
-    requires holes { holes.now ≡ with_holes_of host.now.grammar.now host.now.resolved.now.extensible }
-    requires facts { AreFacts holes.now facts.now }
-    ensures ok { IfOk result (ArePartsOf holes.now) }
-    ensures refused { IfErr result (IsHostRefusal host.now.resolved.now host.now.grammar.now) }
-{
-    match parts_of(alloc, holes, facts) {
-        Ok(parts) => Ok(parts),
-        Err(PartsRefusal::Conflict(conflict)) => Err(DeterminismRefusal::Conflict {
-            prefix: conflict.prefix,
-            terminal: conflict.terminal,
-            first: conflict.first,
-            second: conflict.second,
-        }),
-        Err(PartsRefusal::NoMemory(error)) => Err(DeterminismRefusal::NoMemory(error)),
-    }
+// The kernels of a grammar, and their lookaheads.
+#[derive(Drop)]
+struct Looked {
+    kernels: Kernels,
+    lookaheads: Lookaheads,
 }
 
-// Whether no two terminals clash.
-fn test_clashes(
+// The kernels and lookaheads of a grammar with these facts.
+fn kernels_and_lookaheads(
     alloc: Global,
-    host: &Host,
-    lexicon: &Lexicon,
-    parts: &Parts,
-) -> Result<(), DeterminismRefusal>
-    requires fit { IsFitForParsing host.now.resolved.now host.now.grammar.now }
-    requires parts { ArePartsOf (with_holes_of host.now.grammar.now host.now.resolved.now.extensible) parts.now }
-    requires host { HasGrammar host.now.resolved.now host.now.grammar.now }
-    requires lexicon { lent lexicon.now ≡ lexicon_of host.now.resolved.now host.now.grammar.now }
-    ensures ok { IfOk result (λ done. HasNoClashAt (with_holes_of host.now.grammar.now host.now.resolved.now.extensible) (lexicon_of host.now.resolved.now host.now.grammar.now)) }
-    ensures refused { IfErr result (IsHostRefusal host.now.resolved.now host.now.grammar.now) }
+    grammar: &Grammar,
+    facts: &Facts,
+) -> Result<Looked, AllocError>
+    requires { AreFacts grammar.now facts.now }
+    ensures kernels { IfOk result (λ made. made.kernels.grammar ≡ grammar.now) }
+    ensures lookaheads { IfOk result (λ made. AreLookaheads made.kernels made.lookaheads) }
 {
-    match clash_at(alloc, &parts.kernels, &parts.tables, lexicon)? {
-        Some(clash) => Err(DeterminismRefusal::Clash {
-            prefix: clash.prefix,
-            left: clash.left,
-            right: clash.right,
-            text: clash.text,
+    let kernels = Kernels::build(alloc, grammar, facts)?;
+    match digraph_lookaheads(alloc, grammar, facts, &kernels) {
+        Ok(lookaheads) => Ok(Looked {
+            kernels,
+            lookaheads,
         }),
-        None => Ok(()),
+        Err(error) => {
+            drop(kernels);
+            Err(error)
+        }
     }
 }

@@ -5,12 +5,14 @@
 #![tactic(auto)]
 
 mod host;
+mod judge;
 mod laws;
 mod lexicon;
 mod parts;
 mod refusal;
 
-pub use host::host_determinism;
+pub use host::{AnalysedHost, analysed_host, host_determinism};
+pub use judge::judge_host;
 pub use laws::host_refusals_law;
 pub use lexicon::{expressions_of, pairs_of};
 pub use parts::HostParts;

@@ -56,6 +56,11 @@ pub after_at : (g : GrammarView) (p b d : ℕ) (right : List Symbol) (default : 
     after_dot g (record { production = p; dot = d }) ≡ get_or right d default ∷ drop (d + 1) right
 after_at g p b d right default rule lt = ap (drop d) (after_initial g p b right rule) ∙ drop_at right d default lt
 
+-- where no symbols lead, their path stays
+pub path_none : {Next : ℕ → Symbol → ℕ → Type 0} {target s : ℕ} (w : List Symbol) → length w ≡ 0 → Path Next target s w → s ≡ target
+path_none [] len (here is) = is
+path_none (x ∷ w) len path = absurd (omega (arith, len))
+
 module _ {kernels : KernelsView} (h : AreKernels kernels) where
   -- a symbol leads to one kernel alone
   pub next_once : (s : ℕ) (x : Symbol) (a b : ℕ) → LeadsTo kernels s x a → LeadsTo kernels s x b → a ≡ b

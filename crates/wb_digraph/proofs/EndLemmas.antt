@@ -18,9 +18,9 @@ use Rattle.wb_items.specs.declared.item_lookahead.ItemLookahead.{ItemLookahead}
 use Rattle.wb_items.specs.Kernels.{KernelsView, AreKernels, LeadsTo, count_of, prefix_of}
 use Rattle.wb_digraph.specs.Relations.{whole}
 use Rattle.wb_digraph.specs.Inner.Kernels.{IsByRelations}
-use Rattle.wb_digraph.specs.Inner.Unions.{Unites}
-use Rattle.wb_digraph.specs.Inner.Filling.{AreSound, IsEndListed, IsEndSet, Lists}
-use Rattle.wb_digraph.proofs.Borrowed.{lists_added, lists_kept}
+use Rattle.wb_items.specs.Lookaheads.{Lists, Unites}
+use Rattle.wb_digraph.specs.Inner.Filling.{AreSound, IsEndListed, IsEndSet}
+use Rattle.wb_items.proofs.CallerLemmas.{lists_added, lists_kept}
 use Rattle.wb_digraph.proofs.FillLemmas.{state_within, united_sound}
 
 -- where an item of `S' -> S` is: at the empty prefix, or after the start

@@ -1,5 +1,5 @@
 -- Sets of items as they fill with what follows the moves that the items look back to.
-use Rattle.std.proofs.Common.{◌≡◌, ℕ, ◌+◌, ◌<◌, ◌≤◌, ◌⊎◌, Bool, List, [], length, set, Some}
+use Rattle.std.proofs.Common.{◌≡◌, ℕ, ◌+◌, ◌<◌, ◌≤◌, ◌⊎◌, Bool, List, [], length, Some, ◌∙◌}
 use Rattle.std.proofs.Common.{sym, subst, inl}
 use Rattle.std.proofs.Common.{inr, arith}
 use Rattle.std.specs.Prelude.{All, slice_get, ◌↔◌}
@@ -16,19 +16,20 @@ use Rattle.wb_grammar_theory.specs.Productions.{end_of}
 use Rattle.wb_grammar_theory.specs.Lookaheads.{IsLookahead}
 use Rattle.wb_items.specs.declared.item_lookahead.ItemLookahead.{ItemLookahead}
 use Rattle.wb_items.specs.Kernels.{KernelsView, AreKernels, LeadsTo, count_of, prefix_of}
-use Rattle.wb_items.specs.Lookaheads.{AreEmpty, AreLookaheadsOf, IsSetOf, row_of}
+use Rattle.wb_items.specs.Lookaheads.{AreEmpty, AreLookaheadsOf, IsSetOf, Lists, Unites, row_of}
 use Rattle.wb_items.specs.LookaheadSets.{AreLookaheads}
 use Rattle.wb_digraph.specs.declared.moves.NonterminalMove.{NonterminalMove}
 use Rattle.wb_digraph.specs.declared.walk.Visit.{Visit}
+use Rattle.wb_grammar_theory.proofs.DotLemmas.{top_no_production}
+use Rattle.wb_grammar_theory.proofs.ProductionLemmas.{production_once}
 use Rattle.wb_digraph.specs.Relations.{whole, back}
 use Rattle.wb_digraph.specs.Inner.Kernels.{IsByRelations, IsFollowIn, LooksBackIn}
 use Rattle.wb_digraph.specs.Inner.Moves.{AreMovesOf}
 use Rattle.wb_digraph.specs.Inner.Sets.{HoldSets}
-use Rattle.wb_digraph.specs.Inner.Unions.{Unites}
-use Rattle.wb_digraph.specs.Inner.Filling.{AreFollowed, AreSound, FillsAbove, IsEndListed, IsFollowSet, Lists}
+use Rattle.wb_digraph.specs.Inner.Filling.{AreFollowed, AreSound, FillsAbove, IsEndListed, IsFollowSet}
 use Rattle.wb_digraph.specs.Inner.Visits.{IsVisit}
-use Rattle.wb_digraph.proofs.BackLemmas.{back_once, back_within}
-use Rattle.wb_digraph.proofs.Borrowed.{empty_lists, lists_added, lists_kept, lists_new, row_wide, rows_within, set_once, shape_kept}
+use Rattle.wb_digraph.proofs.BackLemmas.{back_once, back_within, path_none}
+use Rattle.wb_items.proofs.CallerLemmas.{empty_lists, lists_added, lists_kept, lists_new, row_wide, rows_within, set_once, shape_kept}
 use Rattle.wb_digraph.proofs.IncludeLemmas.{item_cases}
 use Rattle.wb_digraph.proofs.MoveLemmas.{move_of}
 use Rattle.wb_digraph.proofs.RelationComplete.{relations_exact}
@@ -156,6 +157,24 @@ module _ {kernels : KernelsView} (h : AreKernels kernels) where
                 let (b, other, has) = listed s item t lt (laws.1 look) in
                 subst (λ z. IsMember z t) (set_once h lookaheads sound.shape s lt item b a other set_is) has,
           )
+
+-- what is listed at an initial item follows the one move that it looks back to
+pub initial_within : {kernels : KernelsView} (moves : List NonterminalMove) (visit : Visit) (set : List Bool)
+    (lookaheads : List (List ItemLookahead)) → IsVisit kernels moves visit → IsFollowSet kernels moves visit.number set →
+    AreSound kernels lookaheads → visit.item.dot ≡ 0 → (t : ℕ) → Lists lookaheads visit.state visit.item t → IsMember set t
+initial_within {kernels} moves visit set lookaheads v follows sound first t lists =
+    go (sound.sound visit.state visit.item t lists)
+  where
+    go : IsByRelations kernels visit.state visit.item t → IsMember set t
+    go (whole has top is) = absurd (top_no_production kernels.grammar visit.item.production v.from.nonterminal v.back.right v.back.rule
+        top)
+    go (back s' a l f) =
+        let left : a ≡ v.from.nonterminal = (production_once kernels.grammar visit.item.production a v.from.nonterminal l.right v.back.right
+        l.rule v.back.rule).0 in
+        let own : v.from.state ≡ visit.state = path_none v.back.before (v.back.dot ∙ first) v.back.path in
+        let other : s' ≡ visit.state = path_none l.before (l.dot ∙ first) l.path in
+        (follows.members v.from t v.at).1 (subst (λ z. IsFollowIn kernels z v.from.nonterminal t) (other ∙ sym own)
+        (subst (λ z. IsFollowIn kernels s' z t) left f))
 
 -- sets of a row with room for what is in the set
 pub row_fits : {kernels : KernelsView} → AreKernels kernels → (lookaheads : List (List ItemLookahead)) →

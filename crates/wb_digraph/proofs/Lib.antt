@@ -1,5 +1,4 @@
 pub mod BackLemmas
-pub mod Borrowed
 pub mod EmptyLemmas
 pub mod EndLemmas
 pub mod FillLemmas

@@ -8,7 +8,7 @@ use Rattle.std.proofs.lemmas.List.{append-nil, drop_all, get_or_past, get_or-rep
 use Rattle.std.proofs.lemmas.Option.{slice_get-get_or, slice_get_within}
 use Rattle.std.proofs.lemmas.List.Elements.{All-set, All-get_or, Contains-get_or}
 use Rattle.wb_lemmas.proofs.Places.{append_after, append_keeps, at_once, at_within, default_at}
-use Rattle.wb_termset.specs.Sets.{IsMember, IsUnion}
+use Rattle.wb_termset.specs.Sets.{IsMember, IsSubset, IsUnion}
 use Rattle.wb_termset.proofs.CallerLemmas.{IsEmpty-replicate, has_below}
 use Rattle.wb_graph.specs.Graphs.{Edge, IsEdge, IsEdgeBelow}
 use Rattle.wb_graph.specs.Components.{ComponentsView, AreComponents}
@@ -57,6 +57,21 @@ adds_changed old new k New u lt is len exact = record {
 pub adds_union : (old new : List (List Bool)) (k : ℕ) (added union : List Bool) → k < length old → IsUnion (set_of old k) added union →
     new ≡ set old k union → Adds k (λ t. IsMember added t) old new
 adds_union old new k added union lt joined is = adds_changed old new k (λ t. IsMember added t) union lt is joined.len joined.each
+
+-- the members of a set that were there
+pub adds_within : (sets : List (List Bool)) (k : ℕ) (added own : List Bool) → set_of sets k ≡ own → IsSubset added own →
+    Adds k (λ t. IsMember added t) sets sets
+adds_within sets k added own own_is within = record {
+  len = refl;
+  widths = λ w h. h;
+  members = λ j t. (
+    λ has. inl has,
+    λ either. elim either [
+      | inl before ↦ before
+      | inr (same, has) ↦ subst (λ z. IsMember (set_of sets z) t) (sym same) (subst (λ z. IsMember z t) (sym own_is) (within t has))
+    ],
+  );
+}
 
 -- nothing more
 pub adds_none : (k : ℕ) (New : ℕ → Type 0) (sets : List (List Bool)) → ((t : ℕ) → New t → ⊥) → Adds k New sets sets
@@ -249,3 +264,14 @@ has_here components sets n k r at lt is t =
       λ (j, at_j, has). subst (λ z. IsMember z t) (ap (set_of sets) (at_once components.numbers n j k at_j at) ∙ same) has,
       λ has. (k, at, subst (λ z. IsMember z t) (sym same) has),
     )
+
+-- a set that was empty has what it took
+pub one_exact : {P : ℕ → Type 0} (one new : List (List Bool)) (width : ℕ) (r : List Bool) → one ≡ replicate 1 (replicate width false) →
+    Adds 0 P one new → set_of new 0 ≡ r → (t : ℕ) → P t ↔ IsMember r t
+one_exact one new width r is adds r_is t = (
+  λ p. subst (λ z. IsMember z t) r_is ((adds.members 0 t).1 (inr (refl, p))),
+  λ has. elim ((adds.members 0 t).0 (subst (λ z. IsMember z t) (sym r_is) has)) [
+    | inl before ↦ absurd (IsEmpty-replicate width t (subst (λ (z : List (List Bool)). IsMember (set_of z 0) t) is before))
+    | inr (_, p) ↦ p
+  ],
+)

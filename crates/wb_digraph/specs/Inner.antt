@@ -4,5 +4,4 @@ pub mod Filling
 pub mod Kernels
 pub mod Moves
 pub mod Sets
-pub mod Unions
 pub mod Visits

@@ -47,9 +47,8 @@ fn with_productions(
     requires productions { AreProductions grammar.now productions.now }
     ensures { IfOk result (AreLookaheads kernels.now) }
 {
-    let _states = kernels.count();
     let _productions = grammar.productions();
-    let moves = moves_of(alloc, kernels)?;
+    let moves = moves_of(alloc, kernels, kernels.count())?;
     let context = Context {
         grammar,
         facts,
@@ -72,7 +71,7 @@ fn with_moves(alloc: Global, context: &Context) -> Result<Lookaheads, AllocError
 // Like `with_moves`, with their follow sets.
 fn with_sets(alloc: Global, context: &Context, sets: &MoveSets) -> Result<Lookaheads, AllocError>
     requires context { IsContext context.now.kernels.now context.now.grammar.now context.now.facts.now context.now.productions.now context.now.moves.now }
-    requires sets { HoldSets (IsFollowIn context.now.kernels.now) (context.now.kernels.now.grammar.terminals + 1) context.now.moves.now sets.now.components sets.now.sets.items }
+    requires sets { HoldSets (IsFollowIn context.now.kernels.now) (context.now.kernels.now.grammar.terminals + 1) context.now.moves.now sets.now.components sets.now.sets }
     ensures { IfOk result (AreLookaheads context.now.kernels.now) }
 {
     let mut lookaheads = Lookaheads::new(alloc, context.grammar, context.kernels)?;

@@ -10,6 +10,7 @@ mod includes;
 pub mod laws;
 mod moves;
 mod reads;
+mod set_list;
 mod sets;
 mod spread;
 mod walk;

@@ -19,11 +19,16 @@ pub(crate) struct NonterminalMove {
 }
 
 // All moves by nonterminals.
-pub(crate) fn moves_of(alloc: Global, kernels: &Kernels) -> Result<Vec<NonterminalMove>, AllocError>
+pub(crate) fn moves_of(
+    alloc: Global,
+    kernels: &Kernels,
+    count: usize,
+) -> Result<Vec<NonterminalMove>, AllocError>
+    requires { count ≡ count_of kernels.now }
     ensures { IfOk result (λ moves. AreMovesOf kernels.now moves.items) }
 {
     let mut moves = Vec::new(alloc);
-    'states: for state in 0..kernels.count() {
+    'states: for state in 0..count {
         add_moves(kernels, state, &mut moves)?;
     }
     Ok(moves)

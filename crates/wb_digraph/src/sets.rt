@@ -1,5 +1,5 @@
 //! What can come after each move? Read sets, and over them follow sets, one for each group of moves that lead to each other.
-ghost use Rattle.std.specs.Prelude.{◌≡◌, ◌<◌, ◌+◌, ℕ, IfOk, length, replicate, false};
+ghost use Rattle.std.specs.Prelude.{◌≡◌, ◌<◌, ◌+◌, ℕ, IfOk, OnOk, length, replicate, false};
 ghost use Rattle.wb_termset.specs.Sets.{IsMember};
 ghost use Rattle.wb_base.specs.declared.symbol.Symbol.TheVariants.{Terminal};
 ghost use Rattle.wb_base.specs.Grammar.{IsSymbolBelow};
@@ -13,6 +13,7 @@ ghost use Rattle.wb_digraph.specs.Inner.Sets.{Adds, AreWithin, DirectlyReadsAt, 
 use crate::context::Context;
 use crate::includes::includes_of;
 use crate::reads::reads_of;
+use crate::set_list::SetList;
 use crate::spread::spread;
 use std::alloc::{AllocError, Global};
 use wb_base::{Symbol, push};
@@ -22,7 +23,7 @@ use wb_termset::TermSet;
 // A set for each group of moves, and the group of each move.
 pub(crate) struct MoveSets {
     pub(crate) components: Components,
-    pub(crate) sets: Vec<TermSet>,
+    pub(crate) sets: SetList,
 }
 
 impl Drop for MoveSets {
@@ -36,7 +37,7 @@ impl Drop for MoveSets {
 // The follow sets.
 pub(crate) fn follow_sets(alloc: Global, context: &Context) -> Result<MoveSets, AllocError>
     requires { IsContext context.now.kernels.now context.now.grammar.now context.now.facts.now context.now.productions.now context.now.moves.now }
-    ensures { IfOk result (λ made. HoldSets (IsFollowIn context.now.kernels.now) (context.now.kernels.now.grammar.terminals + 1) context.now.moves.now made.components made.sets.items) }
+    ensures { IfOk result (λ made. HoldSets (IsFollowIn context.now.kernels.now) (context.now.kernels.now.grammar.terminals + 1) context.now.moves.now made.components made.sets) }
 {
     let reads = read_sets(alloc, context)?;
     follow_sets_over(alloc, context, &reads)
@@ -45,7 +46,7 @@ pub(crate) fn follow_sets(alloc: Global, context: &Context) -> Result<MoveSets, 
 // The read sets.
 fn read_sets(alloc: Global, context: &Context) -> Result<MoveSets, AllocError>
     requires { IsContext context.now.kernels.now context.now.grammar.now context.now.facts.now context.now.productions.now context.now.moves.now }
-    ensures { IfOk result (λ made. HoldSets (IsReadIn context.now.kernels.now) (context.now.kernels.now.grammar.terminals + 1) context.now.moves.now made.components made.sets.items) }
+    ensures { IfOk result (λ made. HoldSets (IsReadIn context.now.kernels.now) (context.now.kernels.now.grammar.terminals + 1) context.now.moves.now made.components made.sets) }
 {
     let edges = reads_of(alloc, context)?;
     read_sets_by(alloc, context, &edges)
@@ -59,7 +60,7 @@ fn read_sets_by(
 ) -> Result<MoveSets, AllocError>
     requires context { IsContext context.now.kernels.now context.now.grammar.now context.now.facts.now context.now.productions.now context.now.moves.now }
     requires edges { ListsEdges (ReadsIn context.now.kernels.now) context.now.moves.now edges.now }
-    ensures { IfOk result (λ made. HoldSets (IsReadIn context.now.kernels.now) (context.now.kernels.now.grammar.terminals + 1) context.now.moves.now made.components made.sets.items) }
+    ensures { IfOk result (λ made. HoldSets (IsReadIn context.now.kernels.now) (context.now.kernels.now.grammar.terminals + 1) context.now.moves.now made.components made.sets) }
 {
     let components = strong_components(alloc, context.moves.len(), edges)?;
     let sets = read_sets_in(alloc, context, edges, &components)?;
@@ -72,11 +73,11 @@ fn read_sets_in(
     context: &Context,
     edges: &[(usize, usize)],
     components: &Components,
-) -> Result<Vec<TermSet>, AllocError>
+) -> Result<SetList, AllocError>
     requires context { IsContext context.now.kernels.now context.now.grammar.now context.now.facts.now context.now.productions.now context.now.moves.now }
     requires edges { ListsEdges (ReadsIn context.now.kernels.now) context.now.moves.now edges.now }
     requires components { AreComponents (length context.now.moves.now) edges.now components.now }
-    ensures { IfOk result (λ sets. HoldSets (IsReadIn context.now.kernels.now) (context.now.kernels.now.grammar.terminals + 1) context.now.moves.now components.now sets.items) }
+    ensures { IfOk result (λ sets. HoldSets (IsReadIn context.now.kernels.now) (context.now.kernels.now.grammar.terminals + 1) context.now.moves.now components.now sets) }
 {
     let mut sets = direct_sets(alloc, context, components)?;
     spread(alloc, components, edges, &mut sets)?;
@@ -90,8 +91,8 @@ fn follow_sets_over(
     reads: &MoveSets,
 ) -> Result<MoveSets, AllocError>
     requires context { IsContext context.now.kernels.now context.now.grammar.now context.now.facts.now context.now.productions.now context.now.moves.now }
-    requires reads { HoldSets (IsReadIn context.now.kernels.now) (context.now.kernels.now.grammar.terminals + 1) context.now.moves.now reads.now.components reads.now.sets.items }
-    ensures { IfOk result (λ made. HoldSets (IsFollowIn context.now.kernels.now) (context.now.kernels.now.grammar.terminals + 1) context.now.moves.now made.components made.sets.items) }
+    requires reads { HoldSets (IsReadIn context.now.kernels.now) (context.now.kernels.now.grammar.terminals + 1) context.now.moves.now reads.now.components reads.now.sets }
+    ensures { IfOk result (λ made. HoldSets (IsFollowIn context.now.kernels.now) (context.now.kernels.now.grammar.terminals + 1) context.now.moves.now made.components made.sets) }
 {
     let edges = includes_of(alloc, context)?;
     follow_sets_by(alloc, context, reads, &edges)
@@ -105,9 +106,9 @@ fn follow_sets_by(
     edges: &[(usize, usize)],
 ) -> Result<MoveSets, AllocError>
     requires context { IsContext context.now.kernels.now context.now.grammar.now context.now.facts.now context.now.productions.now context.now.moves.now }
-    requires reads { HoldSets (IsReadIn context.now.kernels.now) (context.now.kernels.now.grammar.terminals + 1) context.now.moves.now reads.now.components reads.now.sets.items }
+    requires reads { HoldSets (IsReadIn context.now.kernels.now) (context.now.kernels.now.grammar.terminals + 1) context.now.moves.now reads.now.components reads.now.sets }
     requires edges { ListsEdges (IncludesIn context.now.kernels.now) context.now.moves.now edges.now }
-    ensures { IfOk result (λ made. HoldSets (IsFollowIn context.now.kernels.now) (context.now.kernels.now.grammar.terminals + 1) context.now.moves.now made.components made.sets.items) }
+    ensures { IfOk result (λ made. HoldSets (IsFollowIn context.now.kernels.now) (context.now.kernels.now.grammar.terminals + 1) context.now.moves.now made.components made.sets) }
 {
     let components = strong_components(alloc, context.moves.len(), edges)?;
     let sets = follow_sets_in(alloc, context, reads, edges, &components)?;
@@ -121,12 +122,12 @@ fn follow_sets_in(
     reads: &MoveSets,
     edges: &[(usize, usize)],
     components: &Components,
-) -> Result<Vec<TermSet>, AllocError>
+) -> Result<SetList, AllocError>
     requires context { IsContext context.now.kernels.now context.now.grammar.now context.now.facts.now context.now.productions.now context.now.moves.now }
-    requires reads { HoldSets (IsReadIn context.now.kernels.now) (context.now.kernels.now.grammar.terminals + 1) context.now.moves.now reads.now.components reads.now.sets.items }
+    requires reads { HoldSets (IsReadIn context.now.kernels.now) (context.now.kernels.now.grammar.terminals + 1) context.now.moves.now reads.now.components reads.now.sets }
     requires edges { ListsEdges (IncludesIn context.now.kernels.now) context.now.moves.now edges.now }
     requires components { AreComponents (length context.now.moves.now) edges.now components.now }
-    ensures { IfOk result (λ sets. HoldSets (IsFollowIn context.now.kernels.now) (context.now.kernels.now.grammar.terminals + 1) context.now.moves.now components.now sets.items) }
+    ensures { IfOk result (λ sets. HoldSets (IsFollowIn context.now.kernels.now) (context.now.kernels.now.grammar.terminals + 1) context.now.moves.now components.now sets) }
 {
     let mut sets = united_sets(alloc, context, reads, components)?;
     spread(alloc, components, edges, &mut sets)?;
@@ -138,17 +139,18 @@ fn direct_sets(
     alloc: Global,
     context: &Context,
     components: &Components,
-) -> Result<Vec<TermSet>, AllocError>
+) -> Result<SetList, AllocError>
     requires context { IsContext context.now.kernels.now context.now.grammar.now context.now.facts.now context.now.productions.now context.now.moves.now }
     requires len { length components.now.numbers ≡ length context.now.moves.now }
     requires within { AreWithin components.now.numbers (length components.now.roots) }
-    ensures len { IfOk result (λ sets. length sets.items ≡ length components.now.roots) }
-    ensures widths { IfOk result (λ sets. HaveWidth (context.now.kernels.now.grammar.terminals + 1) sets.items) }
-    ensures gathers { IfOk result (λ sets. Gathers (DirectlyReadsAt context.now.kernels.now context.now.moves.now) components.now.numbers (length context.now.moves.now) sets.items) }
+    ensures len { IfOk result (λ sets. length sets ≡ length components.now.roots) }
+    ensures widths { IfOk result (λ sets. HaveWidth (context.now.kernels.now.grammar.terminals + 1) sets) }
+    ensures gathers { IfOk result (λ sets. Gathers (DirectlyReadsAt context.now.kernels.now context.now.moves.now) components.now.numbers (length context.now.moves.now) sets) }
 {
-    let mut sets = empty_sets(alloc, components.len(), context.grammar.lookahead_count()?)?;
+    let width = context.grammar.lookahead_count()?;
+    let mut sets = SetList::new(alloc, components.len(), width)?;
     'moves: for number in 0..context.moves.len() {
-        add_direct(context, number, components.of(number), &mut sets);
+        add_reads(alloc, context, number, components.of(number), &mut sets)?;
     }
     Ok(sets)
 }
@@ -159,21 +161,43 @@ fn united_sets(
     context: &Context,
     reads: &MoveSets,
     components: &Components,
-) -> Result<Vec<TermSet>, AllocError>
+) -> Result<SetList, AllocError>
     requires context { IsContext context.now.kernels.now context.now.grammar.now context.now.facts.now context.now.productions.now context.now.moves.now }
-    requires reads { HoldSets (IsReadIn context.now.kernels.now) (context.now.kernels.now.grammar.terminals + 1) context.now.moves.now reads.now.components reads.now.sets.items }
+    requires reads { HoldSets (IsReadIn context.now.kernels.now) (context.now.kernels.now.grammar.terminals + 1) context.now.moves.now reads.now.components reads.now.sets }
     requires len { length components.now.numbers ≡ length context.now.moves.now }
     requires within { AreWithin components.now.numbers (length components.now.roots) }
-    ensures len { IfOk result (λ sets. length sets.items ≡ length components.now.roots) }
-    ensures widths { IfOk result (λ sets. HaveWidth (context.now.kernels.now.grammar.terminals + 1) sets.items) }
-    ensures gathers { IfOk result (λ sets. Gathers (HasAt reads.now.components reads.now.sets.items) components.now.numbers (length context.now.moves.now) sets.items) }
+    ensures len { IfOk result (λ sets. length sets ≡ length components.now.roots) }
+    ensures widths { IfOk result (λ sets. HaveWidth (context.now.kernels.now.grammar.terminals + 1) sets) }
+    ensures gathers { IfOk result (λ sets. Gathers (HasAt reads.now.components reads.now.sets) components.now.numbers (length context.now.moves.now) sets) }
 {
-    let mut sets = empty_sets(alloc, components.len(), context.grammar.lookahead_count()?)?;
+    let width = context.grammar.lookahead_count()?;
+    let mut sets = SetList::new(alloc, components.len(), width)?;
     'moves: for number in 0..context.moves.len() {
-        let set = &reads.sets[reads.components.of(number)];
-        unite_with(components.of(number), set, &mut sets);
+        let set = reads.sets.get(reads.components.of(number));
+        sets.unite(alloc, components.of(number), set.as_set())?;
     }
     Ok(sets)
+}
+
+// Adds what a move reads directly to the set of a group.
+fn add_reads(
+    alloc: Global,
+    context: &Context,
+    number: usize,
+    group: usize,
+    sets: &mut SetList,
+) -> Result<(), AllocError>
+    requires context { IsContext context.now.kernels.now context.now.grammar.now context.now.facts.now context.now.productions.now context.now.moves.now }
+    requires number { number < length context.now.moves.now }
+    requires group { group < length sets.old }
+    requires widths { HaveWidth (context.now.kernels.now.grammar.terminals + 1) sets.old }
+    ensures { OnOk result (Adds group (DirectlyReadsAt context.now.kernels.now context.now.moves.now number) sets.old sets.new) }
+{
+    let width = context.grammar.lookahead_count()?;
+    let mut one = empty_sets(alloc, 1, width)?;
+    add_direct(context, number, 0, &mut one);
+    sets.unite(alloc, group, &one[0])?;
+    Ok(())
 }
 
 // So many empty sets of numbers below the width.
@@ -255,13 +279,4 @@ fn add_terminal(group: usize, terminal: usize, sets: &mut Vec<TermSet>)
     ensures { Adds group (λ t. t ≡ terminal) sets.old.items sets.new.items }
 {
     sets[group].insert(terminal);
-}
-
-// Adds the members of a set.
-fn unite_with(group: usize, set: &TermSet, sets: &mut Vec<TermSet>)
-    requires group { group < length sets.old.items }
-    requires widths { HaveWidth (length set.now) sets.old.items }
-    ensures { Adds group (λ t. IsMember set.now t) sets.old.items sets.new.items }
-{
-    sets[group].union_with(set);
 }

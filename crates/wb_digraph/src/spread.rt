@@ -8,10 +8,10 @@ ghost use Rattle.wb_graph.specs.Graphs.{IsEdgeBelow};
 ghost use Rattle.wb_grammar.specs.Facts.{set_of};
 ghost use Rattle.wb_digraph.specs.Inner.Sets.{Adds, AddsLink, AreLinks, AreLinksInOrder, AreSpread, AreWithin, HaveWidth, UnitedUpTo};
 
+use crate::set_list::SetList;
 use std::alloc::{AllocError, Global};
 use wb_base::push;
 use wb_graph::Components;
-use wb_termset::TermSet;
 
 // An edge between groups.
 #[derive(Clone, Copy, PartialEq, Eq, PartialOrd, Ord)]
@@ -25,15 +25,15 @@ pub(crate) fn spread(
     alloc: Global,
     components: &Components,
     edges: &[(usize, usize)],
-    sets: &mut Vec<TermSet>,
+    sets: &mut SetList,
 ) -> Result<(), AllocError>
     requires edges { All (IsEdgeBelow (length components.now.numbers)) edges.now }
-    requires within { AreWithin components.now.numbers (length sets.old.items) }
-    requires widths { (w : ℕ) × HaveWidth w sets.old.items }
-    ensures { OnOk result (AreSpread components.now.numbers edges.now sets.old.items sets.new.items) }
+    requires within { AreWithin components.now.numbers (length sets.old) }
+    requires widths { (w : ℕ) × HaveWidth w sets.old }
+    ensures { OnOk result (AreSpread components.now.numbers edges.now sets.old sets.new) }
 {
     let links = sorted_links(alloc, components, edges)?;
-    unite_along(&links, sets);
+    unite_along(alloc, &links, sets)?;
     Ok(())
 }
 
@@ -92,25 +92,27 @@ fn add_link(
 }
 
 // Adds the sets that links lead to, in the order of the links.
-fn unite_along(links: &[Link], sets: &mut Vec<TermSet>)
+fn unite_along(alloc: Global, links: &[Link], sets: &mut SetList) -> Result<(), AllocError>
     requires in_order { AreLinksInOrder links.now }
-    requires fall { All (λ link. (link.to < link.from) × (link.from < length sets.old.items)) links.now }
-    requires widths { (w : ℕ) × HaveWidth w sets.old.items }
-    ensures { UnitedUpTo links.now (length links.now) sets.old.items sets.new.items }
+    requires fall { All (λ link. (link.to < link.from) × (link.from < length sets.old)) links.now }
+    requires widths { (w : ℕ) × HaveWidth w sets.old }
+    ensures { OnOk result (UnitedUpTo links.now (length links.now) sets.old sets.new) }
 {
     'links: for number in 0..links.len() {
         let link = links[number];
-        unite(link.from, link.to, sets);
+        unite(alloc, link.from, link.to, sets)?;
     }
+    Ok(())
 }
 
 // Adds an earlier set to a later one.
-fn unite(from: usize, to: usize, sets: &mut Vec<TermSet>)
+fn unite(alloc: Global, from: usize, to: usize, sets: &mut SetList) -> Result<(), AllocError>
     requires falls { to < from }
-    requires from { from < length sets.old.items }
-    requires widths { (w : ℕ) × HaveWidth w sets.old.items }
-    ensures { Adds from (λ t. IsMember (set_of sets.old.items to) t) sets.old.items sets.new.items }
+    requires from { from < length sets.old }
+    requires widths { (w : ℕ) × HaveWidth w sets.old }
+    ensures { OnOk result (Adds from (λ t. IsMember (set_of sets.old to) t) sets.old sets.new) }
 {
-    let (before, after) = sets.split_at_mut(from);
-    after[0].union_with(&before[to]);
+    let other = sets.get(to).copy()?;
+    sets.unite(alloc, from, other.as_set())?;
+    Ok(())
 }

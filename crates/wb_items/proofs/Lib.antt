@@ -1,15 +1,16 @@
 pub mod AdvanceLemmas
+pub mod CallerLemmas
 pub mod ClosingLemmas
 pub mod CompareLemmas
 pub mod HalvesLemmas
 pub mod InOrderLemmas
 pub mod IndexLemmas
 pub mod IndexedLemmas
-pub mod ItemLookaheadLemmas
 pub mod KernelsLemmas
 pub mod MoveLemmas
 pub mod OrderLemmas
 pub mod ProductionRows
+pub mod RowLemmas
 pub mod SymbolLemmas
 pub mod SymbolOrder
 pub mod TableLemmas

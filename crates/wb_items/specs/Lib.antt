@@ -8,6 +8,8 @@ pub mod Table
 pub mod Index
 -- sets of terminals for the items of each kernel
 pub mod Lookaheads
+-- one kernel's items and sets, as they are kept
+pub mod Rows
 -- the lookaheads of a grammar's items as such sets
 pub mod LookaheadSets
 -- what loops keep, and words of private functions

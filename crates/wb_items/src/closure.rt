@@ -10,6 +10,7 @@ ghost use Rattle.wb_items.specs.Inner.Passes.{AreRising, StrictUpTo};
 ghost use Rattle.wb_items.specs.Table.{AreProductions};
 
 use crate::dot::{is_item, item_at, nonterminal_after};
+use crate::item_list::ItemList;
 use crate::productions_of::Numbers;
 use std::alloc::{AllocError, Global};
 use wb_base::{Grammar, Sequence, push};
@@ -42,7 +43,7 @@ pub(crate) fn close(
     grammar: &Grammar,
     rules: &[Numbers],
     kernel: &[Item],
-) -> Result<Sequence<Item>, AllocError>
+) -> Result<ItemList, AllocError>
     requires { AreProductions grammar.now rules.now }
     ensures exact { IfOk result (λ closure. (item : Item) → Contains closure item ↔ InClosure grammar.now (Contains kernel.now) item) }
     ensures in_order { IfOk result (λ closure. AreInOrder closure) }
@@ -50,7 +51,8 @@ pub(crate) fn close(
     let mut closure = kernel_closure(alloc, grammar, rules, kernel)?;
     closure.sort()?;
     let list = deduplicated(alloc, &closure)?;
-    Ok(list)
+    let made = ItemList::new(list)?;
+    Ok(made)
 }
 
 // The same items, each once.

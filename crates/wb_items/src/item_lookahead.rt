@@ -1,14 +1,16 @@
 //! Keeps a set of terminals for each item of one kernel.
 
-ghost use Rattle.std.specs.Prelude.{◌≡◌, ◌<◌, ◌↔◌, List, Bool, IsTrue, true, false, IfOk, Some, length, All, Contains, slice_get, slice_set};
-ghost use Rattle.wb_termset.specs.Sets.{IsMember, IsEmpty, IsUnion, Grew};
-ghost use Rattle.wb_grammar_theory.specs.declared.item.Item.{Item};
+ghost use Rattle.std.specs.Prelude.{◌≡◌, ◌<◌, ◌↔◌, List, Bool, IsTrue, true, false, IfOk, OnOk, MatchOption, Some, length, replicate, Contains, slice_get, slice_set};
+ghost use Rattle.wb_termset.specs.Sets.{IsMember, IsUnion, Grew};
 ghost use Rattle.wb_items.specs.declared.item_lookahead.ItemLookahead.{ItemLookahead};
 ghost use Rattle.wb_items.specs.Kernels.{AreInOrder};
 ghost use Rattle.wb_items.specs.Lookaheads.{items_in};
+ghost use Rattle.wb_items.specs.Rows.{all_with};
 
 use crate::compare::precedes;
-use crate::dot::is_item;
+use crate::dot::{is_item, item_at};
+use crate::item_list::ItemList;
+use crate::shared_set::SharedSet;
 use std::alloc::{AllocError, Global};
 use std::marker::Model;
 use wb_base::push;
@@ -28,46 +30,63 @@ impl Drop for ItemLookahead {
     }
 }
 
-// The items in order.
+// The items in order, and for each item its set.
 #[derive(Drop)]
 pub(crate) struct Row {
-    looks: Vec<ItemLookahead>,
+    items: ItemList,
+    sets: Vec<SharedSet>,
 }
 
 impl Model for Row {
     ghost use Rattle.std.specs.Prelude.{List};
     ghost use Rattle.wb_items.specs.declared.item_lookahead.ItemLookahead.{ItemLookahead};
-    ghost use Rattle.wb_items.specs.Kernels.{AreInOrder};
-    ghost use Rattle.wb_items.specs.Lookaheads.{items_in};
+    ghost use Rattle.wb_items.specs.Rows.{AreRow, with_sets};
 
     ghost Value = { List ItemLookahead };
 
-    ghost view = { λ r. r.looks.items };
+    ghost view = { λ r. with_sets r.items r.sets.items };
 
-    ghost invariant = { λ r. AreInOrder (items_in r.looks.items) };
+    ghost invariant = { λ r. AreRow r.items r.sets.items };
 }
 
 impl Row {
-    // These items with empty sets of numbers below the count.
-    pub(crate) fn new(alloc: Global, items: &[Item], count: usize) -> Result<Row, AllocError>
-        requires { AreInOrder items.now }
-        ensures items { IfOk result (λ row. items_in row ≡ items.now) }
-        ensures widths { IfOk result (λ row. All (λ looks. length looks.set ≡ count) row) }
-        ensures empty { IfOk result (λ row. All (λ looks. IsEmpty looks.set) row) }
+    // These items, all with one set.
+    pub(crate) fn new(alloc: Global, items: ItemList, set: &SharedSet) -> Result<Row, AllocError>
+        requires { AreInOrder items }
+        ensures { IfOk result (λ row. row ≡ all_with set.now items) }
     {
-        let mut looks = Vec::with_capacity(alloc, items.len())?;
-        'items: for &item in items {
-            let set = TermSet::new(alloc, count)?;
-            push(&mut looks, ItemLookahead { item, set })?;
-        }
-        Ok(Row { looks })
+        let sets = copies(alloc, set, items.as_slice().len())?;
+        Ok(Row { items, sets })
     }
 
-    // All items with their sets.
-    pub(crate) fn as_slice(&self) -> &[ItemLookahead]
-        ensures { result.now ≡ self.now }
+    // How many items there are.
+    pub(crate) fn len(&self) -> usize
+        ensures { result ≡ length self.now }
     {
-        &self.looks
+        self.sets.len()
+    }
+
+    // The item at a place.
+    pub(crate) fn item_at(&self, place: usize) -> Item
+        requires { place < length self.now }
+        ensures { slice_get (items_in self.now) place ≡ Some result }
+    {
+        item_at(self.items.as_slice(), place)
+    }
+
+    // The set at a place.
+    pub(crate) fn at(&self, place: usize) -> &SharedSet
+        requires { place < length self.now }
+        ensures { (looks : ItemLookahead) × (slice_get self.now place ≡ Some looks) × (result.now ≡ looks.set) }
+    {
+        &self.sets[place]
+    }
+
+    // The place of an item, if it is in the row.
+    pub(crate) fn find(&self, item: Item) -> Option<usize>
+        ensures { MatchOption result (¬ Contains (items_in self.now) item) (λ place. slice_get (items_in self.now) place ≡ Some item) }
+    {
+        position(self.items.as_slice(), item)
     }
 
     // The place of an item that is in the row.
@@ -75,7 +94,10 @@ impl Row {
         requires { Contains (items_in self.now) item }
         ensures { slice_get (items_in self.now) result ≡ Some item }
     {
-        position(&self.looks, item)
+        let Some(place) = self.find(item) else {
+            unreachable!()
+        };
+        place
     }
 
     // Like `place`, where the item may be at this place.
@@ -83,59 +105,75 @@ impl Row {
         requires { Contains (items_in self.now) item }
         ensures { slice_get (items_in self.now) result ≡ Some item }
     {
-        if near < self.looks.len() && is_item(item_in(&self.looks, near), item) {
+        if near < self.len() && is_item(self.item_at(near), item) {
             return near;
         }
-        position(&self.looks, item)
+        self.place(item)
     }
 
     // Adds a terminal to the set at a place, and answers whether it was new.
-    pub(crate) fn insert(&mut self, place: usize, terminal: usize) -> bool
+    pub(crate) fn insert(&mut self, place: usize, terminal: usize) -> Result<bool, AllocError>
         requires place { place < length self.old }
         requires terminal { (looks : ItemLookahead) → slice_get self.old place ≡ Some looks → terminal < length looks.set }
-        ensures after { (looks : ItemLookahead) × (slice_get self.old place ≡ Some looks) × (self.new ≡ slice_set self.old place (record looks { set = slice_set looks.set terminal true })) }
-        ensures new { (looks : ItemLookahead) → slice_get self.old place ≡ Some looks → IsTrue result ↔ (¬ IsMember looks.set terminal) }
+        ensures after { OnOk result ((looks : ItemLookahead) × (slice_get self.old place ≡ Some looks) × (self.new ≡ slice_set self.old place (record looks { set = slice_set looks.set terminal true }))) }
+        ensures new { IfOk result (λ new. (looks : ItemLookahead) → slice_get self.old place ≡ Some looks → IsTrue new ↔ (¬ IsMember looks.set terminal)) }
     {
-        self.looks[place].set.insert(terminal)
+        let alloc = *self.sets.allocator();
+        let new = self.sets[place].insert(alloc, terminal)?;
+        Ok(new)
     }
 
     // Adds each member of a set to the set at a place, and answers whether one was new.
-    pub(crate) fn unite(&mut self, place: usize, set: &TermSet) -> bool
+    pub(crate) fn unite(&mut self, place: usize, set: &TermSet) -> Result<bool, AllocError>
         requires place { place < length self.old }
         requires len { (looks : ItemLookahead) → slice_get self.old place ≡ Some looks → length looks.set ≡ length set.now }
-        ensures after { (looks : ItemLookahead) × (union : List Bool) × (slice_get self.old place ≡ Some looks) × IsUnion looks.set set.now union × (IsTrue result → Grew looks.set union) × (self.new ≡ slice_set self.old place (record looks { set = union })) }
-        ensures stayed { result ≡ false → self.new ≡ self.old }
+        ensures after { IfOk result (λ grew. (looks : ItemLookahead) × (union : List Bool) × (slice_get self.old place ≡ Some looks) × IsUnion looks.set set.now union × (IsTrue grew → Grew looks.set union) × (self.new ≡ slice_set self.old place (record looks { set = union }))) }
+        ensures stayed { IfOk result (λ grew. grew ≡ false → self.new ≡ self.old) }
     {
-        self.looks[place].set.union_with(set)
+        let alloc = *self.sets.allocator();
+        let grew = self.sets[place].union_with(alloc, set)?;
+        Ok(grew)
+    }
+
+    // Gives the item at a place another set.
+    pub(crate) fn put(&mut self, place: usize, set: &SharedSet) -> Result<(), AllocError>
+        requires { place < length self.old }
+        ensures { OnOk result ((looks : ItemLookahead) × (slice_get self.old place ≡ Some looks) × (self.new ≡ slice_set self.old place (record looks { set = set.now }))) }
+    {
+        let copy = set.copy()?;
+        self.sets[place] = copy;
+        Ok(())
     }
 }
 
-// The place of an item that is in the list, found by binary search.
-fn position(row: &[ItemLookahead], item: Item) -> usize
-    requires in_order { AreInOrder (items_in row.now) }
-    requires there { Contains (items_in row.now) item }
-    ensures { slice_get (items_in row.now) result ≡ Some item }
+// So many of a set.
+fn copies(alloc: Global, set: &SharedSet, count: usize) -> Result<Vec<SharedSet>, AllocError>
+    ensures { IfOk result (λ sets. sets.items ≡ replicate count set.now) }
+{
+    let mut sets = Vec::with_capacity(alloc, count)?;
+    'sets: for _set in 0..count {
+        push(&mut sets, set.copy()?)?;
+    }
+    Ok(sets)
+}
+
+// The place of an item, if it is in the list, found by binary search.
+fn position(items: &[Item], item: Item) -> Option<usize>
+    requires { AreInOrder items.now }
+    ensures { MatchOption result (¬ Contains items.now item) (λ place. slice_get items.now place ≡ Some item) }
 {
     let mut low = 0;
-    let mut high = row.len();
+    let mut high = items.len();
     'halves: while low < high {
         let middle = low + (high - low) / 2;
-        let found = item_in(row, middle);
+        let found = items[middle];
         if precedes(found, item) {
             low = middle + 1;
         } else if precedes(item, found) {
             high = middle;
         } else {
-            return middle;
+            return Some(middle);
         }
     }
-    unreachable!()
-}
-
-// The item at a place.
-fn item_in(row: &[ItemLookahead], place: usize) -> Item
-    requires { place < length row.now }
-    ensures { slice_get (items_in row.now) place ≡ Some result }
-{
-    row[place].item
+    None
 }

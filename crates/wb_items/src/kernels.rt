@@ -8,6 +8,7 @@ ghost use Rattle.wb_items.specs.Table.{AreMovesInOrder};
 ghost use Rattle.wb_items.specs.declared.transitions.Move.{Move};
 ghost use Rattle.wb_items.specs.Kernels.{AreKernels, AreInOrder, HasNoneBefore, LeadsTo, ListsItems, ListsKernel, closure_of, count_of, prefix_of};
 
+use crate::item_list::ItemList;
 use crate::kernel_index::KernelIndex;
 use crate::table::build_table;
 use crate::transitions::{Move, find_move};
@@ -24,7 +25,7 @@ use wb_grammar_theory::Item;
 pub struct Kernels {
     grammar: Grammar,
     found: KernelIndex,
-    closures: Vec<Sequence<Item>>,
+    closures: Vec<ItemList>,
     rows: Vec<Sequence<Move>>,
 }
 
@@ -82,6 +83,15 @@ impl Kernels {
         ensures in_order { AreInOrder result.now }
     {
         self.closures[state].as_slice()
+    }
+
+    // The list of a kernel's `closure`, as another owner of it.
+    pub(crate) fn items(&self, state: usize) -> Result<ItemList, AllocError>
+        requires { state < count_of self.now }
+        ensures is { IfOk result (λ list. list ≡ closure_of self.now state) }
+        ensures in_order { IfOk result (λ list. AreInOrder list) }
+    {
+        self.closures[state].copy()
     }
 
     /// The moves of a kernel: each symbol that some item has after its dot, with the kernel of the prefix with that symbol after it.

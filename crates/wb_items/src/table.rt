@@ -17,6 +17,7 @@ ghost use Rattle.wb_items.specs.Inner.Growing.{Grows, IsKernelFor};
 
 use crate::advance::{Advance, advances, symbol_at};
 use crate::closure::close;
+use crate::item_list::ItemList;
 use crate::kernel_index::KernelIndex;
 use crate::kernel_of_symbol::{kernel_after, run_end};
 use crate::productions_of::{Numbers, production_numbers};
@@ -29,7 +30,7 @@ use wb_grammar_theory::Item;
 #[derive(Drop)]
 pub(crate) struct Table {
     pub(crate) found: KernelIndex,
-    pub(crate) closures: Vec<Sequence<Item>>,
+    pub(crate) closures: Vec<ItemList>,
     pub(crate) rows: Vec<Sequence<Move>>,
 }
 

@@ -13,21 +13,21 @@ use Rattle.wb_grammar_theory.specs.Items.{initial_item}
 use Rattle.wb_grammar_theory.proofs.ProductionLemmas.{production_once}
 use Rattle.wb_base.specs.declared.symbol.Symbol.{Symbol}
 use Rattle.wb_lookahead.specs.declared.worklist.Place.{Place}
-use Rattle.wb_lookahead.specs.Inner.Unions.{Unites}
-use Rattle.wb_lookahead.specs.Inner.Spreading.{ArePropagated, FlowsTo, IsFilled, IsFilledFrom, IsFirstOf, Keeps, Lists, StandsFor, itself}
+use Rattle.wb_lookahead.specs.Inner.Spreading.{ArePropagated, FlowsTo, IsFilled, IsFilledFrom, IsFirstOf, Keeps, StandsFor, itself}
+use Rattle.wb_items.specs.Lookaheads.{Lists, Unites}
 use Rattle.wb_lookahead.specs.Inner.Spreading.{initial}
 use Rattle.wb_lookahead.proofs.SpreadLemmas.{union_sound}
 use Rattle.wb_lookahead.proofs.StandInLemmas.{initial_flows_all, stands_once}
-use Rattle.wb_lookahead.proofs.UnionLemmas.{lists_kept, shape_kept}
+use Rattle.wb_items.proofs.CallerLemmas.{lists_kept, shape_kept}
 
 pub of_stands : (kernels : KernelsView) {g : GrammarView} {one item : Item} → kernels.grammar ≡ g → StandsFor g one item →
     StandsFor kernels.grammar one item
 of_stands kernels {one = one} {item} same stands = subst (λ z. StandsFor z one item) (sym same) stands
 
 -- a union with terminals that flow to the item of the place
-pub union_propagated : {kernels : KernelsView} {old new : List (List ItemLookahead)} {set : List Bool} {b : Bool} (place : Place) →
+pub union_propagated : {kernels : KernelsView} {old new : List (List ItemLookahead)} {set : List Bool} (place : Place) →
     place.state < length old → ArePropagated kernels old →
-    ((t : ℕ) → IsMember set t → FlowsTo kernels place.state place.item t) → Unites old place.state place.item set b new →
+    ((t : ℕ) → IsMember set t → FlowsTo kernels place.state place.item t) → Unites old place.state place.item set new →
     ArePropagated kernels new
 union_propagated {kernels} {old} {new} {set} place lt h flows u = record {
   shape = shape_kept u lt h.shape;

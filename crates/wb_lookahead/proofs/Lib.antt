@@ -2,6 +2,7 @@ pub mod FillLemmas
 pub mod GotoLemmas
 pub mod MatrixLemmas
 pub mod MarkLemmas
+pub mod MemberLemmas
 pub mod PartLemmas
 pub mod PassLemmas
 pub mod PlaceLemmas
@@ -15,5 +16,4 @@ pub mod StandInLemmas
 pub mod StandLemmas
 pub mod StepLemmas
 pub mod TableLaws
-pub mod UnionLemmas
 pub mod WaitingLemmas

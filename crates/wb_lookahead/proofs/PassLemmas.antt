@@ -1,15 +1,14 @@
 -- How what is listed at an item is passed on.
 use Rattle.std.proofs.Common.{◌≡◌, ℕ, ◌+◌, ◌-◌, ◌<◌, ◌≤◌, ◌⊎◌, Bool, true, false, List, [], ◌∷◌, ◌++◌, length, get_or, take, drop}
 use Rattle.std.proofs.Common.{replicate, set, Some, refl, sym, ◌∙◌, ap, subst, inl, inr, arith, length-drop}
-use Rattle.std.specs.Prelude.{All, Contains, IfSome, slice_get, option_map}
-use Rattle.std.proofs.lemmas.Bool.{cases_eq, cases_lt}
-use Rattle.std.proofs.lemmas.List.{take_all, get_or_past, length-map}
-use Rattle.std.proofs.lemmas.List.Elements.{All-get_or, All-contains}
-use Rattle.std.proofs.lemmas.Option.{slice_get-map, slice_get_read, slice_get-get_or, slice_get_within, get_or_from_slice_get, same_Some}
+use Rattle.std.specs.Prelude.{IfSome, slice_get, option_map}
+use Rattle.std.proofs.lemmas.Bool.{cases_eq}
+use Rattle.std.proofs.lemmas.List.{take_all, length-map}
+use Rattle.std.proofs.lemmas.Option.{slice_get-map, slice_get-get_or, slice_get_within, get_or_from_slice_get, same_Some}
 use Rattle.wb_base.specs.declared.symbol.Symbol.{Symbol}
 use Rattle.wb_base.specs.declared.symbol.Symbol.TheVariants.{Terminal, Nonterminal}
 use Rattle.wb_base.specs.Grammar.{GrammarView, Production}
-use Rattle.wb_termset.specs.Sets.{IsMember, IsEmpty}
+use Rattle.wb_termset.specs.Sets.{IsMember}
 use Rattle.wb_termset.proofs.CallerLemmas.{IsEmpty-replicate, IsMember-insert}
 use Rattle.wb_grammar_theory.specs.declared.item.Item.{Item}
 use Rattle.wb_grammar_theory.specs.Productions.{IsProduction, right_of, end_of}
@@ -22,13 +21,14 @@ use Rattle.wb_grammar_theory.specs.States.{close}
 use Rattle.wb_grammar_theory.proofs.DotLemmas.{after_initial, after_advance}
 use Rattle.wb_grammar_theory.proofs.FlowLemmas.{zero_state}
 use Rattle.wb_items.specs.declared.item_lookahead.ItemLookahead.{ItemLookahead}
-use Rattle.wb_items.specs.Kernels.{KernelsView, AreKernels, LeadsTo, Precedes, closure_of, count_of, prefix_of}
-use Rattle.wb_items.specs.Lookaheads.{AreEmpty, AreLookaheadsOf, IsSetOf, items_in, row_of}
+use Rattle.wb_items.specs.Kernels.{KernelsView, AreKernels, LeadsTo, closure_of, count_of, prefix_of}
+use Rattle.wb_items.specs.Lookaheads.{AreLookaheadsOf, IsSetOf, Lists, row_of}
 use Rattle.wb_items.proofs.SymbolLemmas.{symbol_last, symbol_end, symbol_none}
 use Rattle.wb_lookahead.specs.Inner.Rests.{Repeats}
-use Rattle.wb_lookahead.specs.Inner.Spreading.{FlowsTo, IsFirstOf, IsItemPassed, IsPassedOn, IsSole, Keeps, Lists, itself, initial}
-use Rattle.wb_lookahead.proofs.StepLemmas.{initial_has, row_items}
+use Rattle.wb_lookahead.specs.Inner.Spreading.{FlowsTo, IsFirstOf, IsItemPassed, IsPassedOn, IsSole, Keeps, itself, initial}
+use Rattle.wb_lookahead.proofs.StepLemmas.{initial_has}
 use Rattle.wb_lookahead.proofs.StandInLemmas.{item_flows}
+use Rattle.wb_items.proofs.CallerLemmas.{row_items}
 
 right_is : (g : GrammarView) (p : ℕ) (right : List Symbol) → p < length g.productions →
     IfSome (slice_get g.productions p) (λ r. right ≡ r.1) → right_of g p ≡ right
@@ -56,34 +56,6 @@ rest_past g item le x rest is = elim (cases_eq item.production (length g.product
   | inr past ↦ (let e = symbol_none g item (omega arith) in cc)
 ]
 
--- the set at an item is one alone
-pub set_once : {kernels : KernelsView} → AreKernels kernels → (lookaheads : List (List ItemLookahead)) →
-    AreLookaheadsOf kernels lookaheads → (s : ℕ) → s < count_of kernels → (item : Item) (a b : List Bool) → IsSetOf lookaheads s item a →
-    IsSetOf lookaheads s item b → a ≡ b
-set_once {kernels} h lookaheads shape s lt item a b (i, i_lt, i_is) (j, j_lt, j_is) =
-    let row : List ItemLookahead = row_of lookaheads s in
-    let x : ItemLookahead = record { item = item; set = a } in
-    let y : ItemLookahead = record { item = item; set = b } in
-    let at_i : slice_get row i ≡ Some x = slice_get_read row (length row) i x refl i_lt (sym i_is) in
-    let at_j : slice_get row j ≡ Some y = slice_get_read row (length row) j y refl j_lt (sym j_is) in
-    elim (cases_eq i j) [
-      | inl same ↦ ap (λ (z : ItemLookahead). z.set) (same_Some x y (sym at_i ∙ ap (slice_get row) same ∙ at_j))
-      | inr other ↦
-          let items : items_in row ≡ closure_of kernels s = row_items h lookaheads shape s lt in
-          let in_i : slice_get (closure_of kernels s) i ≡ Some item = ap (λ z. slice_get z i) (sym items)
-          ∙ slice_get-map (λ (z : ItemLookahead). z.item) row i ∙ ap (option_map (λ (z : ItemLookahead). z.item)) at_i in
-          let in_j : slice_get (closure_of kernels s) j ≡ Some item = ap (λ z. slice_get z j) (sym items)
-          ∙ slice_get-map (λ (z : ItemLookahead). z.item) row j ∙ ap (option_map (λ (z : ItemLookahead). z.item)) at_j in
-          absurd (elim (cases_lt i j) [
-            | inl less ↦ not_before item (h.in_order s i j item item less in_i in_j)
-            | inr more ↦ not_before item (h.in_order s j i item item (omega arith) in_j in_i)
-          ])
-    ]
-  where
-    not_before : (item : Item) → Precedes item item → ⊥
-    not_before item (inl less) = omega arith
-    not_before item (inr less) = (let f = less.1 in omega arith)
-
 -- the start item is at the kernel of the empty prefix
 pub start_has : {kernels : KernelsView} → AreKernels kernels → HasItem kernels.grammar (prefix_of kernels 0) (start_item kernels.grammar)
 start_has {kernels} h = subst (λ z. HasItem kernels.grammar z (start_item kernels.grammar)) (sym h.states.first)
@@ -96,16 +68,6 @@ pub one_member : (n k : ℕ) (empty one : List Bool) → empty ≡ replicate n f
 one_member n k empty one e f t has = elim (IsMember-insert empty k t (subst (λ z. IsMember z t) f has)) [
   | inl before ↦ absurd (IsEmpty-replicate n t (subst (λ z. IsMember z t) e before))
   | inr same ↦ same
-]
-
--- empty sets list nothing
-pub empty_lists : (lookaheads : List (List ItemLookahead)) → AreEmpty lookaheads → (s : ℕ) (item : Item) (t : ℕ) →
-    Lists lookaheads s item t → ⊥
-empty_lists lookaheads empty s item t (a, there, has) = elim (cases_lt s (length lookaheads)) [
-  | inl lt ↦ All-contains (λ (looks : ItemLookahead). IsEmpty looks.set) (row_of lookaheads s) (record { item = item; set = a })
-      (All-get_or (All (λ (looks : ItemLookahead). IsEmpty looks.set)) lookaheads s [] lt empty) there t has
-  | inr past ↦ (let none : Contains [] (record { item = item; set = a }) = subst (λ z. Contains z (record { item = item; set = a }))
-      (get_or_past lookaheads s [] past) there in absurd (omega (arith, none.1)))
 ]
 
 -- what begins the symbols after a nonterminal flows to its initial items

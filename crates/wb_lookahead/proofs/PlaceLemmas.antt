@@ -9,12 +9,12 @@ use Rattle.wb_grammar_theory.specs.declared.item.Item.{Item}
 use Rattle.wb_grammar_theory.specs.Items.{HasItem}
 use Rattle.wb_items.specs.declared.item_lookahead.ItemLookahead.{ItemLookahead}
 use Rattle.wb_items.specs.Kernels.{KernelsView, AreKernels, closure_of, count_of, prefix_of}
-use Rattle.wb_items.specs.Lookaheads.{AreLookaheadsOf, IsSetOf, row_of}
+use Rattle.wb_items.specs.Lookaheads.{AreLookaheadsOf, IsSetOf, Lists, row_of}
 use Rattle.wb_items.specs.Table.{AreProductions, AreProductionsOf}
 use Rattle.wb_lookahead.specs.declared.worklist.Place.{Place}
-use Rattle.wb_lookahead.specs.Inner.Spreading.{IsPlace, Lists}
-use Rattle.wb_lookahead.proofs.PassLemmas.{set_at, set_once}
-use Rattle.wb_lookahead.proofs.StepLemmas.{row_wide}
+use Rattle.wb_lookahead.specs.Inner.Spreading.{IsPlace}
+use Rattle.wb_lookahead.proofs.PassLemmas.{set_at}
+use Rattle.wb_items.proofs.CallerLemmas.{row_wide, set_once}
 
 -- the item of a place is one of its prefix
 pub place_has : {kernels : KernelsView} → AreKernels kernels → (place : Place) → IsPlace kernels place →

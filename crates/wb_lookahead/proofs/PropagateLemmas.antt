@@ -16,7 +16,8 @@ use Rattle.wb_items.specs.declared.item_lookahead.ItemLookahead.{ItemLookahead}
 use Rattle.wb_items.specs.Table.{AreProductionsOf}
 use Rattle.wb_lookahead.specs.declared.first_of.Rest.{Rest}
 use Rattle.wb_lookahead.specs.Inner.Rests.{AreRests, IsOpening}
-use Rattle.wb_lookahead.specs.Inner.Spreading.{IsFirstOf, Lists}
+use Rattle.wb_lookahead.specs.Inner.Spreading.{IsFirstOf}
+use Rattle.wb_items.specs.Lookaheads.{Lists}
 use Rattle.wb_lookahead.proofs.PassLemmas.{first_then, rest_past}
 use Rattle.wb_lookahead.proofs.RestLemmas.{nothing_first}
 use Rattle.wb_lookahead.proofs.StandInLemmas.{first_once}

@@ -10,14 +10,13 @@ use Rattle.wb_grammar_theory.specs.declared.item.Item.{Item}
 use Rattle.wb_termset.specs.Sets.{IsMember}
 use Rattle.wb_items.specs.declared.item_lookahead.ItemLookahead.{ItemLookahead}
 use Rattle.wb_items.specs.Kernels.{KernelsView, AreKernels, count_of}
-use Rattle.wb_items.specs.Lookaheads.{AreLookaheadsOf, items_in, row_of}
-use Rattle.wb_lookahead.specs.Inner.Unions.{Unites}
+use Rattle.wb_items.specs.Lookaheads.{AnswersUnion, AreLookaheadsOf, Lists, Unites, items_in, row_of}
 use Rattle.wb_lookahead.specs.declared.worklist.Place.{Place}
-use Rattle.wb_lookahead.specs.Inner.Spreading.{AreSound, FlowsTo, IsPlace, Lists, Spreads, Waits}
+use Rattle.wb_lookahead.specs.Inner.Spreading.{AreSound, FlowsTo, IsPlace, Spreads, Waits}
 use Rattle.wb_lookahead.specs.Inner.Waiting.{Adds, in_front, at_end, stays}
-use Rattle.wb_lookahead.proofs.UnionLemmas.{lists_kept, lists_new, shape_kept}
+use Rattle.wb_items.proofs.CallerLemmas.{lists_kept, lists_new, rows_within, shape_kept}
 use Rattle.wb_lookahead.proofs.RoomLemmas.{room_less}
-use Rattle.wb_lookahead.proofs.StepLemmas.{closure_at, rows_within}
+use Rattle.wb_lookahead.proofs.StepLemmas.{closure_at}
 use Rattle.wb_items.proofs.OrderLemmas.{same_item}
 
 pub spreads_none : (l : List (List ItemLookahead)) (w : List Place) → Spreads l w l w
@@ -97,8 +96,8 @@ adds_length {old} {new} place (stays item is there) = (let e : length new ≡ le
     ap (λ (z : List Place). length z) is in omega (arith, e))
 
 -- what a union leaves flows where it is listed
-pub union_sound : (kernels : KernelsView) (place : Place) {old new : List (List ItemLookahead)} {added : List Bool} {b : Bool} →
-    Unites old place.state place.item added b new → place.state < length old →
+pub union_sound : (kernels : KernelsView) (place : Place) {old new : List (List ItemLookahead)} {added : List Bool} →
+    Unites old place.state place.item added new → place.state < length old →
     ((s : ℕ) (item : Item) (t : ℕ) → Lists old s item t → FlowsTo kernels s item t) →
     ((t : ℕ) → IsMember added t → FlowsTo kernels place.state place.item t) →
     (s : ℕ) (item : Item) (t : ℕ) → Lists new s item t → FlowsTo kernels s item t
@@ -124,8 +123,8 @@ adds_to {v = v} {place} same adds = subst (λ z. Adds z place v) same adds
 
 -- a union that adds something, whose place then waits
 pub spread_sound : {kernels : KernelsView}
-    (place : Place) {old new : List (List ItemLookahead)} {added : List Bool} {b : Bool} {w v : List Place} → AreKernels kernels →
-    IsPlace kernels place → Unites old place.state place.item added b new → AreSound kernels old w →
+    (place : Place) {old new : List (List ItemLookahead)} {added : List Bool} {w v : List Place} → AreKernels kernels →
+    IsPlace kernels place → Unites old place.state place.item added new → AreSound kernels old w →
     ((t : ℕ) → IsMember added t → FlowsTo kernels place.state place.item t) →
     Adds w place v → AreSound kernels new v
 spread_sound {kernels} place {old} k p u h flows adds =
@@ -135,10 +134,10 @@ spread_sound {kernels} place {old} k p u h flows adds =
 -- the sets grew, and the place waits
 pub spread_spreads : {kernels : KernelsView}
     (place : Place) {old new : List (List ItemLookahead)} {added : List Bool} {b : Bool} {w v : List Place} → place.state < length old →
-    Unites old place.state place.item added b new → b ≡ true → All (IsPlace kernels) w → IsPlace kernels place → Adds w place v →
+    AnswersUnion old place.state place.item added new b → b ≡ true → All (IsPlace kernels) w → IsPlace kernels place → Adds w place v →
     Spreads old w new v
 spread_spreads {kernels} place {old} {new} {added} {b} {w} {v} lt u grew places p adds = record {
-  keeps = lists_kept u lt;
+  keeps = lists_kept u.united lt;
   waits = adds_waits place adds;
   grew = λ s item. changes s item (same_at s place.state item place.item);
   less = (let less = room_less u lt grew in let more = adds_length place adds in omega (arith, less, more));
@@ -154,7 +153,7 @@ spread_spreads {kernels} place {old} {new} {added} {b} {w} {v} lt u grew places 
         Waits v s item ⊎ ((t : ℕ) → Lists new s item t → Lists old s item t)
     changes s item (inl same) = inl
         (subst (λ z. Waits v z item) (sym same.0) (subst (Waits v place.state) (sym same.1) (adds_it places p adds)))
-    changes s item (inr other) = inr (λ t h. kept s item other t (lists_new u lt s item t h))
+    changes s item (inr other) = inr (λ t h. kept s item other t (lists_new u.united lt s item t h))
 
 -- an element of a prefix that is one longer
 pub contains_more : {A : Type 0} (xs : List A) (i : ℕ) (d x : A) → i < length xs → Contains (take (i + 1) xs) x →

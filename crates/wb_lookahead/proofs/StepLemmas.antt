@@ -1,8 +1,6 @@
 -- Steps between kernels, and the items that they lead to.
-use Rattle.std.proofs.Common.{◌≡◌, ℕ, ◌+◌, ◌<◌, List, [], ◌∷◌, length, get_or, Some, refl, sym, ◌∙◌, ap, subst, arith}
-use Rattle.std.specs.Prelude.{All, Contains, slice_get}
-use Rattle.std.proofs.lemmas.List.{get_or-map, length-map}
-use Rattle.std.proofs.lemmas.List.Elements.{All-get_or}
+use Rattle.std.proofs.Common.{◌≡◌, ℕ, ◌<◌, List, ◌∷◌, Some, refl, sym, ◌∙◌, ap}
+use Rattle.std.specs.Prelude.{slice_get}
 use Rattle.wb_base.specs.declared.symbol.Symbol.{Symbol}
 use Rattle.wb_base.specs.declared.symbol.Symbol.TheVariants.{Nonterminal}
 use Rattle.wb_grammar_theory.specs.declared.item.Item.{Item}
@@ -14,6 +12,7 @@ use Rattle.wb_grammar_theory.proofs.FlowLemmas.{same_back, same_then}
 use Rattle.wb_items.specs.declared.item_lookahead.ItemLookahead.{ItemLookahead}
 use Rattle.wb_items.specs.Kernels.{KernelsView, AreKernels, LeadsTo, closure_of, count_of, prefix_of}
 use Rattle.wb_items.specs.Lookaheads.{AreLookaheadsOf, items_in, row_of}
+use Rattle.wb_items.proofs.CallerLemmas.{row_items}
 
 -- a symbol leads to one kernel alone
 pub step_once : {kernels : KernelsView} → AreKernels kernels → (s : ℕ) (x : Symbol) (a b : ℕ) → LeadsTo kernels s x a →
@@ -33,30 +32,6 @@ pub initial_has : {kernels : KernelsView} → AreKernels kernels → (s b : ℕ)
     IsProduction kernels.grammar q b right → HasItem kernels.grammar (prefix_of kernels s) (initial_item q)
 initial_has {kernels} h s b item rest q right (t, v) is rule =
     let (u, f) = h.live item (Nonterminal b) rest is t in (u, valid.close item t b rest q u right v is rule f)
-
-pub rows_within : {kernels : KernelsView} → AreKernels kernels → (lookaheads : List (List ItemLookahead)) →
-    AreLookaheadsOf kernels lookaheads → length lookaheads ≡ count_of kernels
-rows_within h lookaheads shape = sym (length-map lookaheads items_in) ∙ ap length shape.items ∙ h.closures_len
-
-pub row_items : {kernels : KernelsView} → AreKernels kernels → (lookaheads : List (List ItemLookahead)) →
-    AreLookaheadsOf kernels lookaheads → (s : ℕ) → s < count_of kernels → items_in (row_of lookaheads s) ≡ closure_of kernels s
-row_items h lookaheads shape s lt = sym (get_or-map items_in lookaheads s [] [] (omega (arith, rows_within h lookaheads shape)))
-    ∙ ap (λ z. get_or z s []) shape.items
-
--- the row of a kernel has its items
-pub row_has : {kernels : KernelsView} → AreKernels kernels → (lookaheads : List (List ItemLookahead)) → AreLookaheadsOf kernels lookaheads →
-    (s : ℕ) (item : Item) → s < count_of kernels → HasItem kernels.grammar (prefix_of kernels s) item →
-    Contains (items_in (row_of lookaheads s)) item
-row_has h lookaheads shape s item lt has = subst (λ z. Contains z item) (sym (row_items h lookaheads shape s lt))
-    ((h.closures s lt item).1 has)
-
--- the sets of a row have room for every terminal and the end
-pub row_wide : {kernels : KernelsView} → AreKernels kernels → (lookaheads : List (List ItemLookahead)) →
-    AreLookaheadsOf kernels lookaheads → (s : ℕ) → s < count_of kernels →
-    All (λ (looks : ItemLookahead). length looks.set ≡ kernels.grammar.terminals + 1) (row_of lookaheads s)
-row_wide {kernels} h lookaheads shape s lt = All-get_or
-    (All (λ (looks : ItemLookahead). length looks.set ≡ kernels.grammar.terminals + 1)) lookaheads s []
-    (omega (arith, rows_within h lookaheads shape)) shape.widths
 
 -- a place of a row is that of the closure
 pub closure_at : {kernels : KernelsView} → AreKernels kernels → (lookaheads : List (List ItemLookahead)) →

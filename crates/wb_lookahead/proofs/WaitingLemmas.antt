@@ -12,14 +12,15 @@ use Rattle.wb_grammar_theory.specs.Lookaheads.{IsLookahead}
 use Rattle.wb_grammar_theory.proofs.FlowLemmas.{flows_exact, flows_has}
 use Rattle.wb_items.specs.declared.item_lookahead.ItemLookahead.{ItemLookahead}
 use Rattle.wb_items.specs.Kernels.{KernelsView, AreKernels, LeadsTo, closure_of, count_of, prefix_of}
-use Rattle.wb_items.specs.Lookaheads.{AreEmpty, IsSetOf}
+use Rattle.wb_items.specs.Lookaheads.{AreEmpty, IsSetOf, Lists}
 use Rattle.wb_items.specs.LookaheadSets.{AreLookaheads}
 use Rattle.std.proofs.lemmas.Option.{slice_get_within}
 use Rattle.wb_lookahead.specs.declared.worklist.Place.{Place}
-use Rattle.wb_lookahead.specs.Inner.Spreading.{AreSound, AreWaiting, ArePropagated, FlowsTo, IsFilled, IsPassedOn, IsPlace, Lists, ListsFor}
+use Rattle.wb_lookahead.specs.Inner.Spreading.{AreSound, AreWaiting, ArePropagated, FlowsTo, IsFilled, IsPassedOn, IsPlace, ListsFor}
 use Rattle.wb_lookahead.specs.Inner.Spreading.{Spreads, itself, initial, Waits}
-use Rattle.wb_lookahead.proofs.PassLemmas.{empty_lists, passed_kept, set_once}
+use Rattle.wb_lookahead.proofs.PassLemmas.{passed_kept}
 use Rattle.wb_lookahead.proofs.StandInLemmas.{first_is, moved_sole, past_sole, stands_has}
+use Rattle.wb_items.proofs.CallerLemmas.{empty_lists, set_once}
 
 -- after the first spread from empty sets, what is listed waits
 pub begun_waiting : {kernels : KernelsView} (old : List (List ItemLookahead)) {new : List (List ItemLookahead)}

@@ -3,5 +3,4 @@ pub mod Parts
 pub mod Rests
 pub mod Rows
 pub mod Spreading
-pub mod Unions
 pub mod Waiting

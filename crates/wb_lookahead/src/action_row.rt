@@ -20,10 +20,10 @@ pub(crate) fn put_all(
     ensures ok { OnOk result (Puts row.old (IsMember set.now) action row.new) }
     ensures refused { IfErr result (IsClash state row.old (IsMember set.now) action) }
 {
-    'terminals: for terminal in 0..set.count() {
-        if set.contains(terminal) {
-            put(state, terminal, action, row)?;
-        }
+    let mut from = 0;
+    'members: while let Some(terminal) = set.next_member(from) {
+        put(state, terminal, action, row)?;
+        from = terminal + 1;
     }
     Ok(())
 }

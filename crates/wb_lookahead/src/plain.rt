@@ -10,19 +10,19 @@ ghost use Rattle.wb_grammar_theory.specs.Productions.{IsProduction};
 ghost use Rattle.wb_grammar_theory.specs.Items.{HasItem, initial_item};
 ghost use Rattle.wb_grammar.specs.Facts.{AreFacts};
 ghost use Rattle.wb_items.specs.Kernels.{closure_of, count_of, prefix_of};
-ghost use Rattle.wb_items.specs.Lookaheads.{AreEmpty, AreLookaheadsOf};
+ghost use Rattle.wb_items.specs.Lookaheads.{AreEmpty, AreLookaheadsOf, Lists};
 ghost use Rattle.wb_items.specs.LookaheadSets.{AreLookaheads};
 ghost use Rattle.wb_items.specs.Table.{AreProductions};
-ghost use Rattle.wb_lookahead.specs.Inner.Spreading.{ArePropagated, AreSound, AreWaiting, FlowsTo, IsContext, IsFilled, IsFilledFrom, IsFirstOf, IsPlace, Keeps, Lists, StandsFor};
+ghost use Rattle.wb_lookahead.specs.Inner.Spreading.{ArePropagated, AreSound, AreWaiting, FlowsTo, IsContext, IsFilled, IsFilledFrom, IsFirstOf, IsPlace, Keeps, StandsFor};
 
 use crate::first_of::rests_of;
 use crate::propagate::{Context, first_production, pass_on};
-use crate::spread::{spread, unite};
+use crate::spread::{put, spread};
 use crate::worklist::{Place, Worklist};
 use std::alloc::{AllocError, Global};
 use wb_base::Grammar;
 use wb_grammar::Facts;
-use wb_items::{Item, Kernels, Lookaheads, Numbers, production_numbers};
+use wb_items::{Item, Kernels, Lookaheads, Numbers, SharedSet, production_numbers};
 use wb_termset::TermSet;
 
 /// The lookaheads of every item of every kernel's closure.
@@ -164,8 +164,8 @@ fn fill_from(context: &Context, place: Place, lookaheads: &mut Lookaheads) -> Re
     let Some(nonterminal) = opened_by(context, place.item) else {
         return Ok(());
     };
-    let set = lookaheads.at(place.state, place.at).copy()?;
-    fill_all(context, place.state, nonterminal, &set, lookaheads);
+    let set = lookaheads.shared_at(place.state, place.at).copy()?;
+    fill_all(context, place.state, nonterminal, &set, lookaheads)?;
     Ok(())
 }
 
@@ -186,14 +186,14 @@ fn opened_by(context: &Context, item: Item) -> Option<usize>
     }
 }
 
-// Gives the terminals to the initial items of all productions of a nonterminal.
+// Gives the set to the initial items of all productions of a nonterminal.
 fn fill_all(
     context: &Context,
     state: usize,
     nonterminal: usize,
-    set: &TermSet,
+    set: &SharedSet,
     lookaheads: &mut Lookaheads,
-)
+) -> Result<(), AllocError>
     requires context { IsContext context.now.kernels.now context.now.grammar.now context.now.productions.now context.now.rests.now }
     requires nonterminal { nonterminal < context.now.grammar.now.nonterminals }
     requires state { state < count_of context.now.kernels.now }
@@ -201,16 +201,17 @@ fn fill_all(
     requires len { length set.now ≡ context.now.kernels.now.grammar.terminals + 1 }
     requires exact { (q t : ℕ) (right : List Symbol) → IsProduction context.now.kernels.now.grammar q nonterminal right → IsMember set.now t ↔ FlowsTo context.now.kernels.now state (initial_item q) t }
     requires propagated { ArePropagated context.now.kernels.now lookaheads.old }
-    ensures propagated { ArePropagated context.now.kernels.now lookaheads.new }
-    ensures keeps { Keeps lookaheads.old lookaheads.new }
-    ensures filled { (q t : ℕ) (right : List Symbol) → IsProduction context.now.kernels.now.grammar q nonterminal right → FlowsTo context.now.kernels.now state (initial_item q) t → Lists lookaheads.new state (initial_item q) t }
+    ensures propagated { OnOk result (ArePropagated context.now.kernels.now lookaheads.new) }
+    ensures keeps { OnOk result (Keeps lookaheads.old lookaheads.new) }
+    ensures filled { OnOk result ((q t : ℕ) (right : List Symbol) → IsProduction context.now.kernels.now.grammar q nonterminal right → FlowsTo context.now.kernels.now state (initial_item q) t → Lists lookaheads.new state (initial_item q) t) }
 {
     let numbers = context.productions[nonterminal].as_slice();
     let mut near = 0;
     'productions: for &production in numbers {
         let item = Item { production, dot: 0 };
         let at = lookaheads.place_near(state, item, near);
-        unite(Place { state, item, at }, set, lookaheads);
+        put(Place { state, item, at }, set, lookaheads)?;
         near = at.saturating_add(1);
     }
+    Ok(())
 }

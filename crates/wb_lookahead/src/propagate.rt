@@ -11,7 +11,8 @@ ghost use Rattle.wb_grammar_theory.specs.Productions.{IsProduction};
 ghost use Rattle.wb_grammar_theory.specs.Derives.{IsFirst};
 ghost use Rattle.wb_grammar_theory.specs.Items.{after_dot, advance, initial_item, HasItem};
 ghost use Rattle.wb_items.specs.Kernels.{AreKernels, LeadsTo, count_of, prefix_of};
-ghost use Rattle.wb_lookahead.specs.Inner.Spreading.{AreSound, FlowsTo, IsContext, IsFirstOf, IsItemPassed, IsPassedOn, IsPlace, Lists, Spreads};
+ghost use Rattle.wb_lookahead.specs.Inner.Spreading.{AreSound, FlowsTo, IsContext, IsFirstOf, IsItemPassed, IsPassedOn, IsPlace, Spreads};
+ghost use Rattle.wb_items.specs.Lookaheads.{Lists};
 
 use crate::first_of::Rest;
 use crate::spread::spread;

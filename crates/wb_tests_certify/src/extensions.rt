@@ -1,11 +1,13 @@
 //! Does each rule refuse an extension that breaks it, with a true example?
 //!
-//! Each row has an extension and its expected answer, which follows from the rules. What true examples may differ in is left empty.
+//! Each row has an extension and its expected answer, which follows from the rules. What true examples may differ in is left empty. Of
+//! each host and extension that is certified the lookaheads are compared (`lookaheads`).
 
 ghost use Rattle.std.specs.Prelude.{◌≡◌};
 
 use crate::answers::{Answer, Row, shows, shows_name, spec_of};
 use crate::files::{STATEMENTS, SUMS};
+use crate::lookaheads::agree;
 use std::alloc::Global;
 use std::process::Abort;
 use wb_certify::certify_extension;
@@ -48,7 +50,8 @@ fn all_over(
 fn all_of(alloc: Global, operations: &OperationTable<Standard>, spec: &Spec, rows: &[Row]) -> bool {
     match certify_host(alloc, spec, operations) {
         Ok(host) => {
-            let are = all_get(alloc, &host, operations, rows);
+            let are = agree(alloc, &host.parts().grammar)
+                && all_get(alloc, &host, operations, rows);
             host.release();
             are
         }
@@ -109,8 +112,9 @@ fn spec_gets(
     match certify_extension(alloc, host, file.1, operations) {
         // The code `ok` is that of a certified extension.
         Ok(extension) => {
+            let is = answer.0 == "ok" && agree(alloc, &extension.parts().grammar);
             extension.release();
-            answer.0 == "ok"
+            is
         }
         Err(refusal) => {
             let is = is_answer(alloc, host, file, &refusal, answer);

@@ -16,6 +16,8 @@ mod forwarding;
 #[cfg(test)]
 mod hosts;
 #[cfg(test)]
+mod lookaheads;
+#[cfg(test)]
 mod parts;
 #[cfg(test)]
 mod shown;

@@ -7,13 +7,21 @@ use crate::small::{A, Small, T0, grammar_of, kernels_of};
 use std::alloc::{AllocError, Global};
 use std::test::Fail;
 use wb_base::Grammar;
-use wb_items::{Item, ItemLookahead, Kernels, Lookaheads};
+use wb_items::{Item, Kernels, Lookaheads};
+use wb_termset::TermSet;
 
-// Whether the terminal is in the set at the item and in no other of the row.
-fn is_only_at(row: &[ItemLookahead], item: Item, terminal: usize) -> bool {
-    for looks in row {
-        let has = terminal < looks.set.count() && looks.set.contains(terminal);
-        if has != (looks.item == item) {
+// Whether the set has the terminal.
+fn has(set: &TermSet, terminal: usize) -> bool {
+    terminal < set.count() && set.contains(terminal)
+}
+
+// Whether the terminal is in the set at the item and in no other of the kernel.
+fn is_only_at(lookaheads: &Lookaheads, state: usize, item: Item, terminal: usize) -> bool
+    requires { state < length lookaheads.now }
+{
+    for place in 0..lookaheads.len(state) {
+        let is_there = lookaheads.item_at(state, place) == item;
+        if has(lookaheads.at(state, place), terminal) != is_there {
             return false;
         }
     }
@@ -21,12 +29,18 @@ fn is_only_at(row: &[ItemLookahead], item: Item, terminal: usize) -> bool {
 }
 
 // Whether the terminal was new in the set at the item, and is then there and nowhere else.
-fn takes(lookaheads: &mut Lookaheads, state: usize, item: Item, terminal: usize) -> bool
+fn takes(
+    lookaheads: &mut Lookaheads,
+    state: usize,
+    item: Item,
+    terminal: usize,
+) -> Result<bool, AllocError>
     requires state { state < length lookaheads.old }
     requires item { Contains (items_in (row_of lookaheads.old state)) item }
     requires wide { All (λ looks. terminal < length looks.set) (row_of lookaheads.old state) }
 {
-    lookaheads.insert(state, item, terminal) && is_only_at(lookaheads.row(state), item, terminal)
+    let new = lookaheads.insert(state, item, terminal)?;
+    Ok(new && is_only_at(lookaheads, state, item, terminal))
 }
 
 // Whether the set at the first item of the first kernel takes the end of a text.
@@ -40,7 +54,7 @@ fn takes_the_end(alloc: Global, grammar: &Grammar, kernels: &Kernels) -> Result<
         return Ok(false);
     };
     let mut lookaheads = Lookaheads::new(alloc, grammar, kernels)?;
-    Ok(takes(&mut lookaheads, 0, item, grammar.terminals()))
+    takes(&mut lookaheads, 0, item, grammar.terminals())
 }
 
 // A -> , A -> A t0

@@ -16,6 +16,8 @@ mod lookahead;
 #[cfg(test)]
 mod lookahead_canonical;
 #[cfg(test)]
+mod lookahead_random;
+#[cfg(test)]
 mod lookahead_relations;
 #[cfg(test)]
 mod lookahead_tables;

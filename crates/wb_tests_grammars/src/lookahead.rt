@@ -1,5 +1,6 @@
 //! Lookaheads of small grammars. Expected sets are those of canonical LR(1) item sets, found by another program and merged by kernel.
 
+ghost use Rattle.std.specs.Prelude.{◌<◌, length};
 ghost use Rattle.wb_items.specs.Lookaheads.{AreLookaheadsOf};
 
 use crate::small::{
@@ -8,7 +9,7 @@ use crate::small::{
 use std::alloc::{AllocError, Global};
 use std::test::Fail;
 use wb_base::{Grammar, Symbol};
-use wb_items::{ItemLookahead, Kernels, Lookaheads};
+use wb_items::{Kernels, Lookaheads};
 use wb_termset::TermSet;
 
 // The symbols that lead to a kernel, and for each item of its closure a mask of its lookaheads.
@@ -27,13 +28,15 @@ pub(crate) fn is_mask(set: &TermSet, mask: u64) -> bool {
     true
 }
 
-// Whether the sets of a row are these, in order.
-fn are_masks(row: &[ItemLookahead], masks: &[u64]) -> bool {
-    if row.len() != masks.len() {
+// Whether the sets of a kernel are these, in order.
+fn are_masks(lookaheads: &Lookaheads, state: usize, masks: &[u64]) -> bool
+    requires { state < length lookaheads.now }
+{
+    if lookaheads.len(state) != masks.len() {
         return false;
     }
-    for (place, looks) in row.iter().enumerate() {
-        if !is_mask(&looks.set, masks[place]) {
+    for place in 0..lookaheads.len(state) {
+        if !is_mask(lookaheads.at(state, place), masks[place]) {
             return false;
         }
     }
@@ -45,7 +48,7 @@ fn looks(kernels: &Kernels, lookaheads: &Lookaheads, row: &Expected) -> bool
     requires { AreLookaheadsOf kernels.now lookaheads.now }
 {
     match after(kernels, row.prefix) {
-        Some(state) => state < kernels.count() && are_masks(lookaheads.row(state), row.masks),
+        Some(state) => state < kernels.count() && are_masks(lookaheads, state, row.masks),
         None => false,
     }
 }

@@ -324,9 +324,11 @@ fn agrees(kernels: &Kernels, lookaheads: &Lookaheads, sets: &[Set], kernel: usiz
     if kernel >= kernels.count() {
         return false;
     }
-    for looks in lookaheads.row(kernel) {
-        for terminal in 0..looks.set.count() {
-            if looks.set.contains(terminal) != has(sets, kernel, looks.item, terminal) {
+    for place in 0..lookaheads.len(kernel) {
+        let item = lookaheads.item_at(kernel, place);
+        let set = lookaheads.at(kernel, place);
+        for terminal in 0..set.count() {
+            if set.contains(terminal) != has(sets, kernel, item, terminal) {
                 return false;
             }
         }

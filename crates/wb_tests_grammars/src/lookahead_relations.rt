@@ -1,6 +1,6 @@
 //! Are the lookaheads by relations those by propagation? Both calls are compared, set by set.
 
-ghost use Rattle.std.specs.Prelude.{◌≡◌, IfOk};
+ghost use Rattle.std.specs.Prelude.{◌≡◌, ◌<◌, IfOk, length};
 ghost use Rattle.wb_items.specs.Lookaheads.{AreLookaheadsOf};
 ghost use Rattle.wb_items.specs.LookaheadSets.{AreLookaheads};
 
@@ -12,7 +12,7 @@ use std::alloc::{AllocError, Global};
 use std::test::Fail;
 use wb_base::Grammar;
 use wb_digraph::digraph_lookaheads;
-use wb_items::{ItemLookahead, Kernels, Lookaheads};
+use wb_items::{Kernels, Lookaheads};
 use wb_termset::TermSet;
 
 // Moves that read others in a row, moves that include each other, and one with an empty rest behind it.
@@ -67,13 +67,17 @@ fn are_same(one: &TermSet, other: &TermSet) -> bool {
     one.count() == other.count() && one.equals(other)
 }
 
-// Whether the rows have the same items, with the same sets.
-fn are_same_rows(row: &[ItemLookahead], other: &[ItemLookahead]) -> bool {
-    if row.len() != other.len() {
+// Whether a kernel has the same items in both, with the same sets.
+fn are_same_at(one: &Lookaheads, other: &Lookaheads, state: usize) -> bool
+    requires one { state < length one.now }
+    requires other { state < length other.now }
+{
+    if one.len(state) != other.len(state) {
         return false;
     }
-    for (place, looks) in row.iter().enumerate() {
-        if looks.item != other[place].item || !are_same(&looks.set, &other[place].set) {
+    for place in 0..one.len(state) {
+        let same = one.item_at(state, place) == other.item_at(state, place);
+        if !same || !are_same(one.at(state, place), other.at(state, place)) {
             return false;
         }
     }
@@ -86,7 +90,7 @@ fn all_same(kernels: &Kernels, one: &Lookaheads, other: &Lookaheads) -> bool
     requires other { AreLookaheadsOf kernels.now other.now }
 {
     for state in 0..kernels.count() {
-        if !are_same_rows(one.row(state), other.row(state)) {
+        if !are_same_at(one, other, state) {
             return false;
         }
     }
@@ -120,7 +124,7 @@ fn are_by_relations(
     Ok(all_same(kernels, lookaheads, &relations))
 }
 
-fn agree(alloc: Global, grammar: &Grammar) -> Result<bool, AllocError> {
+pub(crate) fn agree(alloc: Global, grammar: &Grammar) -> Result<bool, AllocError> {
     let kernels = kernels_of(alloc, grammar)?;
     let lookaheads = lookaheads_of(alloc, grammar, &kernels)?;
     are_by_relations(alloc, grammar, &kernels, &lookaheads)

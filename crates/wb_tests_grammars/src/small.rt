@@ -46,7 +46,11 @@ fn are_below(symbols: &[Symbol], terminals: usize, nonterminals: usize) -> bool
 }
 
 // Adds a production if its numbers are in range, and returns whether they are.
-fn add_checked(grammar: &mut Grammar, left: usize, right: &[Symbol]) -> Result<bool, AllocError> {
+pub(crate) fn add_checked(
+    grammar: &mut Grammar,
+    left: usize,
+    right: &[Symbol],
+) -> Result<bool, AllocError> {
     if left >= grammar.nonterminals() {
         return Ok(false);
     }

@@ -2,7 +2,7 @@
 use Rattle.std.specs.Prelude.{◌≡◌, map}
 use Rattle.wb_syntax_resolved.specs.declared.resolved.ResolvedParts.{ResolvedParts}
 use Rattle.wb_syntax_resolved.specs.declared.terminal.Terminal.{Terminal}
-use Rattle.wb_determinism_host.specs.declared.host.Lists.{Lists}
+use Rattle.wb_determinism_host.specs.declared.judge.Lists.{Lists}
 use Rattle.wb_determinism_host.specs.Lexicons.{is_layout, preference_pairs}
 
 -- the lists are the expressions of the terminals, the set of layout and the preferences

@@ -7,13 +7,9 @@ use Rattle.wb_grammar_theory.specs.Items.{HasItem}
 use Rattle.wb_grammar_theory.specs.Productions.{top_of, end_of}
 use Rattle.wb_items.specs.declared.item_lookahead.ItemLookahead.{ItemLookahead}
 use Rattle.wb_items.specs.Kernels.{KernelsView, count_of, prefix_of}
-use Rattle.wb_items.specs.Lookaheads.{AreLookaheadsOf, IsSetOf}
+use Rattle.wb_items.specs.Lookaheads.{AreLookaheadsOf, Lists}
 use Rattle.wb_digraph.specs.declared.moves.NonterminalMove.{NonterminalMove}
 use Rattle.wb_digraph.specs.Inner.Kernels.{IsByRelations, IsFollowIn, LooksBackIn}
-
--- the terminal is in the set at the item of the kernel
-abbrev pub Lists : List (List ItemLookahead) → ℕ → Item → ℕ → Type 0
-Lists lookaheads s item t = (set : List Bool) × IsSetOf lookaheads s item set × IsMember set t
 
 -- the sets are those of the kernels' items, and what they list is a lookahead by the relations
 pub record AreSound (kernels : KernelsView) (lookaheads : List (List ItemLookahead)) : Type 0 where

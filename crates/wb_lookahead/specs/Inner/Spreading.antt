@@ -1,10 +1,10 @@
 -- Lookaheads on their way from item to item.
-use Rattle.std.specs.Prelude.{◌≡◌, ◌≢◌, ◌⊎◌, ◌≤◌, ◌<◌, ◌+◌, ◌*◌, ◌-◌, ℕ, Bool, List, [], ◌∷◌, ◌++◌, All, Contains, Some, length, slice_get}
+use Rattle.std.specs.Prelude.{◌≡◌, ◌≢◌, ◌⊎◌, ◌≤◌, ◌<◌, ◌+◌, ◌*◌, ◌-◌, ℕ, List, [], ◌∷◌, ◌++◌, All, Contains, Some, length, slice_get}
 use Rattle.std.specs.List.{sum_by}
 use Rattle.wb_base.specs.declared.symbol.Symbol.{Symbol}
 use Rattle.wb_base.specs.declared.symbol.Symbol.TheVariants.{Terminal, Nonterminal}
 use Rattle.wb_base.specs.Grammar.{GrammarView}
-use Rattle.wb_termset.specs.Sets.{IsMember, members}
+use Rattle.wb_termset.specs.Sets.{members}
 use Rattle.wb_grammar_theory.specs.declared.item.Item.{Item}
 use Rattle.wb_grammar_theory.specs.Productions.{IsProduction, end_of}
 use Rattle.wb_grammar_theory.specs.Derives.{IsFirst}
@@ -12,7 +12,7 @@ use Rattle.wb_grammar_theory.specs.Items.{after_dot, advance, initial_item, star
 use Rattle.wb_grammar_theory.specs.States.{Flows}
 use Rattle.wb_items.specs.declared.item_lookahead.ItemLookahead.{ItemLookahead}
 use Rattle.wb_items.specs.Kernels.{KernelsView, AreKernels, LeadsTo, closure_of, count_of}
-use Rattle.wb_items.specs.Lookaheads.{AreLookaheadsOf, IsSetOf}
+use Rattle.wb_items.specs.Lookaheads.{AreLookaheadsOf, Lists}
 use Rattle.wb_items.specs.Table.{AreProductions}
 use Rattle.wb_lookahead.specs.declared.first_of.Rest.{Rest}
 use Rattle.wb_lookahead.specs.declared.worklist.Place.{Place}
@@ -25,10 +25,6 @@ pub record IsContext (kernels : KernelsView) (g : GrammarView) (productions : Li
   pub of_grammar : kernels.grammar ≡ g
   pub are_productions : AreProductions g productions
   pub are_rests : AreRests g rests
-
--- the terminal is in the set at the item of the kernel
-abbrev pub Lists : List (List ItemLookahead) → ℕ → Item → ℕ → Type 0
-Lists lookaheads s item t = (set : List Bool) × IsSetOf lookaheads s item set × IsMember set t
 
 -- the production is the nonterminal's first
 pub record IsFirstOf (g : GrammarView) (b p : ℕ) : Type 0 where

@@ -1,6 +1,6 @@
 use Rattle.std.proofs.Common.{◌∙◌, sym}
 use Rattle.wb_lookahead.proofs.PlaceLemmas.{held_len}
-use Rattle.wb_lookahead.proofs.StepLemmas.{row_has}
+use Rattle.wb_items.proofs.CallerLemmas.{row_has}
 use Rattle.wb_determinism.proofs.EnvelopeLemmas.{union_members}
 use Rattle.wb_determinism.proofs.envelope.add_lookaheads.Goals as goal
 

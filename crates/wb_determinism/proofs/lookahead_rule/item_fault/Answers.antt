@@ -1,7 +1,7 @@
 use Rattle.std.proofs.Common.{subst}
 use Rattle.wb_grammar_theory.specs.Items.{IsKernelItem}
 use Rattle.wb_items.specs.Kernels.{prefix_of}
-use Rattle.wb_lookahead.proofs.StepLemmas.{row_has}
+use Rattle.wb_items.proofs.CallerLemmas.{row_has}
 use Rattle.wb_determinism.specs.Inner.Contexts.{both_of}
 use Rattle.wb_determinism.proofs.KeepLemmas.{item_answer}
 use Rattle.wb_determinism.proofs.lookahead_rule.item_fault.Goals as goal

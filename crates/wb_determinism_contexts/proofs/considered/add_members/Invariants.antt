@@ -1,10 +1,13 @@
-use Rattle.std.proofs.Common.{◌≡◌, ◌<◌, ℕ, length}
-use Rattle.std.specs.Prelude.{◌↔◌, ◌⊎◌}
-use Rattle.wb_termset.specs.Sets.{IsMember}
+use Rattle.std.proofs.Common.{◌≡◌, ◌≤◌, ◌-◌, length}
+use Rattle.wb_determinism_contexts.proofs.SetLemmas.{HasAdded}
 use Rattle.wb_determinism_contexts.proofs.considered.add_members.Given as goal
 
-abbrev pub invariant-numbers : goal.invariant-numbers
-invariant-numbers l = record {
+abbrev pub invariant-members : goal.invariant-members
+invariant-members l = record {
+  low : l.from ≤ l.below;
   len : length l.set ≡ length l.initial.set;
-  each : (t : ℕ) → IsMember l.set t ↔ (((t < l.number) × IsMember l.other t) ⊎ IsMember l.initial.set t);
+  added : HasAdded l.initial.set l.other l.from l.set;
 }
+
+abbrev pub decreases-members : goal.decreases-members
+decreases-members l = length l.other - l.from

@@ -1,16 +1,9 @@
-use Rattle.std.proofs.Common.{ap, subst, sym, ℕ, List, All, ◌∙◌}
-use Rattle.std.specs.Prelude.{length}
-use Rattle.wb_determinism_contexts.specs.Considered.{LexiconView}
-use Rattle.wb_graph.specs.Graphs.{IsEdgeBelow}
+use Rattle.std.proofs.Common.{ap, map, ◌∙◌}
 use Rattle.wb_syntax_resolved.specs.declared.resolved.ResolvedParts.{ResolvedParts}
-use Rattle.wb_determinism_host.proofs.HostLemmas.{edges_below}
+use Rattle.wb_syntax_resolved.specs.declared.terminal.Preference.{Preference}
 use Rattle.wb_determinism_host.proofs.host.test_preferences.Goals as goal
 
-pub preference_cycle-requires : goal.preference_cycle-requires
-preference_cycle-requires c =
-    let r = c.args.host.now.resolved.now in
-    let same = ap (λ (x : LexiconView). x.preferences) c.requires in
-    subst (λ (n : ℕ). All (IsEdgeBelow n) c.args.lexicon.now.preferences.now)
-    (sym (c.len-count.ensures ∙ ap (λ (p : ResolvedParts). length p.terminals) c.parts.ensures.parts))
-    (subst (λ (edges : List (ℕ × ℕ)). All (IsEdgeBelow (length r.terminals)) edges) (sym same)
-    (edges_below r c.parts.ensures.whole.preferences))
+pub test_pairs-tested-requires : goal.test_pairs-tested-requires
+test_pairs-tested-requires c =
+    c.deref.ensures.value ∙ c.in_ok-pairs.ensures ∙ ap (map (λ (p : Preference). (p.first, p.second)))
+    (c.as_slice.ensures ∙ ap (λ (p : ResolvedParts). p.preferences) c.parts.ensures.parts)

@@ -7,7 +7,7 @@ use Rattle.wb_digraph.proofs.digraph.with_productions.Goals as goal
 
 pub with_moves-requires : goal.with_moves-requires
 with_moves-requires c = record {
-  are_kernels = c.count-states.ensures.exact;
+  are_kernels = c.count.ensures.exact;
   of_grammar = c.requires.kernels;
   in_range = subst IsGrammar (sym c.requires.kernels) c.productions-productions.ensures.in_range;
   are_facts = subst (λ (g : GrammarView). AreFacts g c.args.facts.now) (sym c.requires.kernels) c.requires.facts;

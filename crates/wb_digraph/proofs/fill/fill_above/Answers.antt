@@ -34,7 +34,7 @@ fill_along-requires-clause-production c =
 
 pub productions-preserved : goal.productions-preserved
 productions-preserved c = record {
-  fills = fills_then c.requires.context.are_kernels c.productions.invariant.fills c.fill_along.ensures
+  fills = fills_then c.requires.context.are_kernels c.productions.invariant.fills c.in_ok-fill_along.ensures
       (λ item from s at l first. contains_cases c.as_slice-numbers.result.now c.productions.production-index item.production 0
       c.productions-test.true first);
 }

@@ -53,7 +53,7 @@ places-preserved c = record {
   item = c.step-visit.ensures.item ∙ ap advance c.places.invariant.item;
   fills = fills_then c.requires.context.are_kernels c.places.invariant.fills
       (subst (λ n. FillsAbove c.args.context.now.kernels.now c.args.context.now.moves.now n c.args.set.now
-      (λ item. item ≡ c.places.visit.item) c.places.lookaheads c.fill_at.new.lookaheads) c.places.invariant.number c.fill_at.ensures)
+      (λ item. item ≡ c.places.visit.item) c.places.lookaheads c.fill_at.new.lookaheads) c.places.invariant.number c.in_ok-fill_at.ensures)
       (λ item from s at l of. item_cases c.args.production c.places.dot item c.places.visit.item c.places.invariant.item of);
 }
 
@@ -70,7 +70,7 @@ returns c =
     omega (arith, past, within)) in
     fills_then c.requires.context.are_kernels c.places.invariant.fills
     (subst (λ n. FillsAbove c.args.context.now.kernels.now c.args.context.now.moves.now n c.args.set.now
-    (λ item. item ≡ c.places.visit.item) c.places.lookaheads c.fill_at-2.new.lookaheads) c.places.invariant.number c.fill_at-2.ensures)
+    (λ item. item ≡ c.places.visit.item) c.places.lookaheads c.fill_at-2.new.lookaheads) c.places.invariant.number c.in_ok-fill_at-2.ensures)
     (λ item other s at' l same. last_cases c.args.production c.places.dot (length c.right-right.result.now) item c.places.visit.item
     c.places.invariant.item end same
     (back_dot c.requires.context.are_kernels s item other.state other.nonterminal c.right-right.result.now l

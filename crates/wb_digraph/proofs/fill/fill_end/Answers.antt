@@ -3,7 +3,7 @@ use Rattle.wb_base.specs.declared.symbol.Symbol.TheVariants.{Nonterminal}
 use Rattle.wb_base.specs.Grammar.{GrammarView}
 use Rattle.wb_grammar_theory.specs.Items.{start_item}
 use Rattle.wb_grammar_theory.specs.Productions.{top_of}
-use Rattle.wb_digraph.proofs.Borrowed.{row_has}
+use Rattle.wb_items.proofs.CallerLemmas.{row_has}
 use Rattle.wb_digraph.proofs.EndLemmas.{both_listed, first_within, one_has, one_sound, start_after, start_has, two_has, two_sound}
 use Rattle.wb_digraph.proofs.FillLemmas.{row_fits}
 use Rattle.wb_digraph.proofs.fill.fill_end.Goals as goal
@@ -41,7 +41,7 @@ unite-requires-2-clause-item c =
     row_has c.requires.context.are_kernels c.unite.new.lookaheads
     (one_sound c.requires.context.are_kernels c.productions-production.result c.start.result c.next_of-next.result top start_is
     c.next_of-next.ensures
-    c.args.end.now c.requires.end c.args.lookaheads.now c.unite.new.lookaheads c.unite.ensures c.requires.sound).shape
+    c.args.end.now c.requires.end c.args.lookaheads.now c.unite.new.lookaheads c.in_ok-unite.ensures c.requires.sound).shape
     c.next_of-next.result _ c.next_of-next.ensures.1
     (two_has c.requires.context.are_kernels c.productions-production.result c.start.result c.next_of-next.result top start_is
     c.next_of-next.ensures
@@ -56,7 +56,7 @@ unite-requires-2-clause-len c =
     row_fits c.requires.context.are_kernels c.unite.new.lookaheads
     (one_sound c.requires.context.are_kernels c.productions-production.result c.start.result c.next_of-next.result top start_is
     c.next_of-next.ensures
-    c.args.end.now c.requires.end c.args.lookaheads.now c.unite.new.lookaheads c.unite.ensures c.requires.sound).shape
+    c.args.end.now c.requires.end c.args.lookaheads.now c.unite.new.lookaheads c.in_ok-unite.ensures c.requires.sound).shape
     c.next_of-next.result c.args.end.now c.next_of-next.ensures.1 c.requires.end.len
 
 pub returns-clause-sound : goal.returns-clause-sound
@@ -67,10 +67,10 @@ returns-clause-sound c =
     ap (λ (g : GrammarView). g.start) (sym c.requires.context.of_grammar) in
     two_sound c.requires.context.are_kernels c.productions-production.result c.start.result c.next_of-next.result top start_is
     c.next_of-next.ensures
-    c.args.end.now c.requires.end c.unite.new.lookaheads c.unite-2.new.lookaheads c.unite-2.ensures
+    c.args.end.now c.requires.end c.unite.new.lookaheads c.unite-2.new.lookaheads c.in_ok-unite-2.ensures
     (one_sound c.requires.context.are_kernels c.productions-production.result c.start.result c.next_of-next.result top start_is
     c.next_of-next.ensures
-    c.args.end.now c.requires.end c.args.lookaheads.now c.unite.new.lookaheads c.unite.ensures c.requires.sound)
+    c.args.end.now c.requires.end c.args.lookaheads.now c.unite.new.lookaheads c.in_ok-unite.ensures c.requires.sound)
 
 pub returns-clause-end : goal.returns-clause-end
 returns-clause-end c =
@@ -80,5 +80,5 @@ returns-clause-end c =
     ap (λ (g : GrammarView). g.start) (sym c.requires.context.of_grammar) in
     both_listed c.requires.context.are_kernels c.productions-production.result c.start.result c.next_of-next.result top start_is
     c.next_of-next.ensures
-    c.args.end.now c.requires.end c.args.lookaheads.now c.unite.new.lookaheads c.unite-2.new.lookaheads c.unite.ensures c.unite-2.ensures
+    c.args.end.now c.requires.end c.args.lookaheads.now c.unite.new.lookaheads c.unite-2.new.lookaheads c.in_ok-unite.ensures c.in_ok-unite-2.ensures
     c.requires.sound

@@ -14,25 +14,25 @@ moves-init c = record {
 pub fill_above-requires-clause-set : goal.fill_above-requires-clause-set
 fill_above-requires-clause-set c =
     subst (IsFollowSet c.args.context.now.kernels.now c.args.context.now.moves.now c.moves.number)
-    (set_is c.args.sets.now.sets.items c.of.result c.index-set.result.now (c.requires.sets.within c.moves.number c.of.result c.of.ensures)
-    c.index-set.ensures)
-    (follow_set c.requires.context.are_kernels c.args.context.now.moves.now c.args.sets.now.components c.args.sets.now.sets.items
+    (set_is c.args.sets.now.sets c.of.result c.get-set.result.now (c.requires.sets.within c.moves.number c.of.result c.of.ensures)
+    c.get-set.ensures)
+    (follow_set c.requires.context.are_kernels c.args.context.now.moves.now c.args.sets.now.components c.args.sets.now.sets
     c.moves.number
     c.of.result c.requires.sets c.of.ensures)
 
 pub moves-preserved : goal.moves-preserved
 moves-preserved c = record {
-  sound = c.fill_above.ensures.sound;
-  end = end_kept c.requires.context.are_kernels c.moves.lookaheads c.fill_above.new.lookaheads c.fill_above.ensures.keeps
+  sound = c.in_ok-fill_above.ensures.sound;
+  end = end_kept c.requires.context.are_kernels c.moves.lookaheads c.fill_above.new.lookaheads c.in_ok-fill_above.ensures.keeps
       c.moves.invariant.end;
-  followed = followed_more c.requires.context.are_kernels c.args.context.now.moves.now c.moves.number c.index-set.result.now
+  followed = followed_more c.requires.context.are_kernels c.args.context.now.moves.now c.moves.number c.get-set.result.now
       c.moves.lookaheads
       c.fill_above.new.lookaheads
       (subst (IsFollowSet c.args.context.now.kernels.now c.args.context.now.moves.now c.moves.number)
-      (set_is c.args.sets.now.sets.items c.of.result c.index-set.result.now (c.requires.sets.within c.moves.number c.of.result c.of.ensures)
-      c.index-set.ensures)
-      (follow_set c.requires.context.are_kernels c.args.context.now.moves.now c.args.sets.now.components c.args.sets.now.sets.items
-      c.moves.number c.of.result c.requires.sets c.of.ensures)) c.fill_above.ensures c.moves.invariant.followed;
+      (set_is c.args.sets.now.sets c.of.result c.get-set.result.now (c.requires.sets.within c.moves.number c.of.result c.of.ensures)
+      c.get-set.ensures)
+      (follow_set c.requires.context.are_kernels c.args.context.now.moves.now c.args.sets.now.components c.args.sets.now.sets
+      c.moves.number c.of.result c.requires.sets c.of.ensures)) c.in_ok-fill_above.ensures c.moves.invariant.followed;
 }
 
 pub returns : goal.returns

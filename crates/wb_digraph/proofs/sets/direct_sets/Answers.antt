@@ -6,33 +6,33 @@ use Rattle.wb_digraph.proofs.sets.direct_sets.Goals as goal
 
 pub moves-init : goal.moves-init
 moves-init c =
-    let width : c.in_ok-lookahead_count.field-0 ≡ c.args.context.now.kernels.now.grammar.terminals + 1 =
-    c.in_ok-lookahead_count.ensures.count ∙ ap (λ (g : GrammarView). g.terminals + 1) (sym c.requires.context.of_grammar) in
+    let width : c.in_ok-width.width ≡ c.args.context.now.kernels.now.grammar.terminals + 1 =
+    c.in_ok-width.ensures.count ∙ ap (λ (g : GrammarView). g.terminals + 1) (sym c.requires.context.of_grammar) in
     record {
-      len = len_first c.in_ok-sets.sets.items c.len.result c.in_ok-lookahead_count.field-0 c.in_ok-sets.ensures ∙ c.len.ensures;
-      widths = widths_first c.in_ok-sets.sets.items c.len.result c.in_ok-lookahead_count.field-0
+      len = len_first c.in_ok-sets.sets c.len.result c.in_ok-width.width c.in_ok-sets.ensures ∙ c.len.ensures;
+      widths = widths_first c.in_ok-sets.sets c.len.result c.in_ok-width.width
           (c.args.context.now.kernels.now.grammar.terminals + 1) c.in_ok-sets.ensures width;
       gathers = gathers_first (DirectlyReadsAt c.args.context.now.kernels.now c.args.context.now.moves.now) c.args.components.now.numbers
-          c.in_ok-sets.sets.items
-          c.len.result c.in_ok-lookahead_count.field-0 c.in_ok-sets.ensures;
+          c.in_ok-sets.sets
+          c.len.result c.in_ok-width.width c.in_ok-sets.ensures;
     }
 
-pub add_direct-requires-clause-group : goal.add_direct-requires-clause-group
-add_direct-requires-clause-group c =
+pub add_reads-requires-clause-group : goal.add_reads-requires-clause-group
+add_reads-requires-clause-group c =
     let lt = c.requires.within c.moves.number c.of.result c.of.ensures in
     let e = c.moves.invariant.len in
     omega (arith, lt, e)
 
 pub moves-preserved : goal.moves-preserved
 moves-preserved c = record {
-  len = c.add_direct.ensures.len ∙ c.moves.invariant.len;
-  widths = c.add_direct.ensures.widths (c.args.context.now.kernels.now.grammar.terminals + 1) c.moves.invariant.widths;
-  gathers = gathers_more _ c.args.components.now.numbers c.moves.number c.of.result c.moves.sets.items c.add_direct.new.sets.items
+  len = c.in_ok-add_reads.ensures.len ∙ c.moves.invariant.len;
+  widths = c.in_ok-add_reads.ensures.widths (c.args.context.now.kernels.now.grammar.terminals + 1) c.moves.invariant.widths;
+  gathers = gathers_more _ c.args.components.now.numbers c.moves.number c.of.result c.moves.sets c.add_reads.new.sets
       c.of.ensures
-      c.add_direct.ensures c.moves.invariant.gathers;
+      c.in_ok-add_reads.ensures c.moves.invariant.gathers;
 }
 
 pub returns-clause-gathers : goal.returns-clause-gathers
 returns-clause-gathers c =
-    gathers_all _ c.args.components.now.numbers c.moves.number (length c.args.context.now.moves.now) c.moves.sets.items
+    gathers_all _ c.args.components.now.numbers c.moves.number (length c.args.context.now.moves.now) c.moves.sets
     c.requires.len c.moves-test.false c.moves.invariant.gathers

@@ -20,11 +20,11 @@ spread-requires-clause-widths c = (c.args.context.now.kernels.now.grammar.termin
 
 pub returns : goal.returns
 returns c =
-    hold_spread (HasAt c.args.reads.now.components c.args.reads.now.sets.items) (IsFollowIn c.args.context.now.kernels.now)
+    hold_spread (HasAt c.args.reads.now.components c.args.reads.now.sets) (IsFollowIn c.args.context.now.kernels.now)
     (c.args.context.now.kernels.now.grammar.terminals + 1) c.args.context.now.moves.now c.args.edges.now c.args.components.now
-    c.in_ok-sets.sets.items c.spread.new.sets.items (edges_below _ c.args.context.now.moves.now c.args.edges.now c.requires.edges)
+    c.in_ok-sets.sets c.spread.new.sets (edges_below _ c.args.context.now.moves.now c.args.edges.now c.requires.edges)
     c.requires.components c.in_ok-sets.ensures.len c.in_ok-sets.ensures.widths c.in_ok-sets.ensures.gathers c.in_ok-spread.ensures
     (λ n t m at. follow_spreads c.args.context.now.kernels.now c.args.context.now.moves.now c.args.edges.now
-    (HasAt c.args.reads.now.components c.args.reads.now.sets.items)
+    (HasAt c.args.reads.now.components c.args.reads.now.sets)
     (has_held (IsReadIn c.args.context.now.kernels.now) (c.args.context.now.kernels.now.grammar.terminals + 1) c.args.context.now.moves.now
-    c.args.reads.now.components c.args.reads.now.sets.items c.requires.reads) c.requires.edges n t m at)
+    c.args.reads.now.components c.args.reads.now.sets c.requires.reads) c.requires.edges n t m at)

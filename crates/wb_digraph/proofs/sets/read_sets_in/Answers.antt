@@ -22,6 +22,6 @@ pub returns : goal.returns
 returns c =
     hold_spread (DirectlyReadsAt c.args.context.now.kernels.now c.args.context.now.moves.now) (IsReadIn c.args.context.now.kernels.now)
     (c.args.context.now.kernels.now.grammar.terminals + 1) c.args.context.now.moves.now c.args.edges.now c.args.components.now
-    c.in_ok-sets.sets.items c.spread.new.sets.items (edges_below _ c.args.context.now.moves.now c.args.edges.now c.requires.edges)
+    c.in_ok-sets.sets c.spread.new.sets (edges_below _ c.args.context.now.moves.now c.args.edges.now c.requires.edges)
     c.requires.components c.in_ok-sets.ensures.len c.in_ok-sets.ensures.widths c.in_ok-sets.ensures.gathers c.in_ok-spread.ensures
     (λ n t m at. read_spreads c.args.context.now.kernels.now c.args.context.now.moves.now c.args.edges.now c.requires.edges n t m at)

@@ -4,7 +4,7 @@ use Rattle.wb_digraph.proofs.sets.united_sets.Given as goal
 
 abbrev pub invariant-moves : goal.invariant-moves
 invariant-moves l = record {
-  len : length l.sets.items ≡ length l.components.roots;
-  widths : HaveWidth (l.context.kernels.now.grammar.terminals + 1) l.sets.items;
-  gathers : Gathers (HasAt l.reads.components l.reads.sets.items) l.components.numbers l.number l.sets.items;
+  len : length l.sets ≡ length l.components.roots;
+  widths : HaveWidth (l.context.kernels.now.grammar.terminals + 1) l.sets;
+  gathers : Gathers (HasAt l.reads.components l.reads.sets) l.components.numbers l.number l.sets;
 }

@@ -14,6 +14,6 @@ unite_along-requires-clause-fall c =
 
 pub returns : goal.returns
 returns c =
-    united_spread c.args.components.now.numbers c.args.edges.now c.deref.result.now c.args.sets.now.items c.unite_along.new.sets.items
+    united_spread c.args.components.now.numbers c.args.edges.now c.deref.result.now c.args.sets.now c.unite_along.new.sets
     (subst (AreLinks c.args.components.now.numbers c.args.edges.now) (sym c.deref.ensures.value) c.in_ok-links.ensures.links)
-    c.unite_along.ensures
+    c.in_ok-unite_along.ensures

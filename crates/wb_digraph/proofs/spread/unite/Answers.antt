@@ -1,10 +1,23 @@
-use Rattle.std.proofs.Common.{sym, ◌∙◌}
-use Rattle.wb_digraph.proofs.SetLemmas.{adds_split}
+use Rattle.std.proofs.Common.{◌<◌, ◌∙◌, List, Bool, length, ap, subst, sym, arith}
+use Rattle.std.proofs.lemmas.List.Elements.{All-get_or}
+use Rattle.std.specs.Prelude.{◌≡◌, []}
+use Rattle.wb_termset.specs.Sets.{IsMember}
+use Rattle.wb_grammar.specs.Facts.{set_of}
+use Rattle.wb_digraph.specs.Inner.Sets.{Adds, HaveWidth}
+use Rattle.wb_digraph.proofs.SetLemmas.{set_is}
 use Rattle.wb_digraph.proofs.spread.unite.Goals as goal
+
+pub unite-requires-clause-widths : goal.unite-requires-clause-widths
+unite-requires-clause-widths c =
+    let (w, wide) = c.requires.widths in
+    let lt : c.args.to < length c.args.sets.now = omega (arith, c.requires.falls, c.requires.from) in
+    let is = set_is c.args.sets.now c.args.to c.get.result.now lt c.get.ensures in
+    let own : length (set_of c.args.sets.now c.args.to) ≡ w = All-get_or (λ (s : List Bool). length s ≡ w) c.args.sets.now c.args.to [] lt wide in
+    subst (λ n. HaveWidth n c.args.sets.now) (sym (ap length (c.as_set.ensures ∙ c.in_ok-other.ensures ∙ sym is) ∙ own)) wide
 
 pub returns : goal.returns
 returns c =
-    adds_split c.args.sets.now.items c.split_at_mut-before.result.0.now c.split_at_mut-before.result.1.now c.args.from c.args.to
-    c.args.sets.now.len c.index-after-0.result c.index-before-to.result c.union_with.new.self c.args.sets.now.ok.0
-    (sym c.deref_mut.ensures.value ∙ c.split_at_mut-before.ensures.value) c.split_at_mut-before.ensures.front_len c.requires.from
-    c.requires.falls c.union_with.ensures.after
+    let lt : c.args.to < length c.args.sets.now = omega (arith, c.requires.falls, c.requires.from) in
+    let is = set_is c.args.sets.now c.args.to c.get.result.now lt c.get.ensures in
+    subst (λ (z : List Bool). Adds c.args.from (λ t. IsMember z t) c.args.sets.now c.unite.new.self)
+    (c.as_set.ensures ∙ c.in_ok-other.ensures ∙ sym is) c.in_ok-unite.ensures

@@ -9,15 +9,15 @@ abbrev no_link : Link
 no_link = record { from = 0; to = 0 }
 
 pub links-init : goal.links-init
-links-init c = record { united = united_start c.args.links.now c.args.sets.now.items }
+links-init c = record { united = united_start c.args.links.now c.args.sets.now }
 
 pub unite-requires-clause-falls : goal.unite-requires-clause-falls
 unite-requires-clause-falls c =
-    (link_falls c.args.links.now c.links.number no_link (length c.args.sets.now.items) c.links-test.true c.requires.fall).0
+    (link_falls c.args.links.now c.links.number no_link (length c.args.sets.now) c.links-test.true c.requires.fall).0
 
 pub unite-requires-clause-from : goal.unite-requires-clause-from
 unite-requires-clause-from c =
-    let lt = (link_falls c.args.links.now c.links.number no_link (length c.args.sets.now.items) c.links-test.true c.requires.fall).1 in
+    let lt = (link_falls c.args.links.now c.links.number no_link (length c.args.sets.now) c.links-test.true c.requires.fall).1 in
     let e = c.links.invariant.united.len in
     omega (arith, lt, e)
 
@@ -26,10 +26,10 @@ unite-requires-clause-widths c = let (w, wide) = c.requires.widths in (w, c.link
 
 pub links-preserved : goal.links-preserved
 links-preserved c = record {
-  united = united_more c.args.links.now c.links.number c.args.sets.now.items c.links.sets.items c.unite.new.sets.items _
+  united = united_more c.args.links.now c.links.number c.args.sets.now c.links.sets c.unite.new.sets _
       (slice_get-get_or c.args.links.now c.links.number _ c.links-test.true) c.requires.in_order
-      (all_fall c.args.links.now _ c.requires.fall) c.unite.ensures c.links.invariant.united;
+      (all_fall c.args.links.now _ c.requires.fall) c.in_ok-unite.ensures c.links.invariant.united;
 }
 
 pub returns : goal.returns
-returns c = united_all c.args.links.now c.links.number c.args.sets.now.items c.links.sets.items c.links-test.false c.links.invariant.united
+returns c = united_all c.args.links.now c.links.number c.args.sets.now c.links.sets c.links-test.false c.links.invariant.united

@@ -1,6 +1,8 @@
-use Rattle.std.proofs.Common.{sym, ◌∙◌, subst}
-use Rattle.std.specs.Prelude.{Contains}
+use Rattle.std.proofs.Common.{List, sym, subst}
+use Rattle.std.specs.Prelude.{◌↔◌, Contains}
 use Rattle.std.proofs.lemmas.List.Sorted.{Contains-permutation, IsPermutation-sym}
+use Rattle.wb_grammar_theory.specs.declared.item.Item.{Item}
+use Rattle.wb_grammar_theory.specs.Closure.{InClosure}
 use Rattle.wb_items.specs.Inner.Passes.{AreRising}
 use Rattle.wb_items.proofs.OrderLemmas.{sorted_rises}
 use Rattle.wb_items.proofs.closure.close.Goals as goal
@@ -9,13 +11,14 @@ pub deduplicated-requires : goal.deduplicated-requires
 deduplicated-requires c = subst AreRising (sym c.deref.ensures.value) (sorted_rises c.sort.new.self.items c.in_ok-sort.ensures.sorted)
 
 pub returns-clause-exact : goal.returns-clause-exact
-returns-clause-exact c item =
+returns-clause-exact c =
     let before = c.in_ok-closure.closure.items in
     let after = c.sort.new.self.items in
     let moved = c.in_ok-sort.ensures.permutation in
-    let whole = c.in_ok-closure.ensures item in (
+    subst (λ (list : List Item). (item : Item) → Contains list item ↔ InClosure c.args.grammar.now (Contains c.args.kernel.now) item)
+    (sym c.in_ok-made.ensures) (λ item. (let whole = c.in_ok-closure.ensures item in (
       (λ has. whole.0 (Contains-permutation after before item (IsPermutation-sym before after moved)
           (subst (λ xs. Contains xs item) c.deref.ensures.value ((c.in_ok-list.ensures.same item).0 has)))),
       (λ within. (c.in_ok-list.ensures.same item).1
           (subst (λ xs. Contains xs item) (sym c.deref.ensures.value) (Contains-permutation before after item moved (whole.1 within)))),
-    )
+    )))

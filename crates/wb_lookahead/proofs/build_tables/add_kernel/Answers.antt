@@ -1,5 +1,4 @@
-use Rattle.std.proofs.Common.{◌≡◌, map, sym, ◌∙◌, ap, subst}
-use Rattle.wb_lookahead.specs.Codes.{action_at}
+use Rattle.std.proofs.Common.{sym, ◌∙◌, subst}
 use Rattle.wb_lookahead.specs.Inner.Rows.{IsRowOf}
 use Rattle.wb_lookahead.proofs.PartLemmas.{parts_more}
 use Rattle.wb_lookahead.proofs.RowLemmas.{row_valid}

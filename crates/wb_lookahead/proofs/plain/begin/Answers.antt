@@ -7,7 +7,8 @@ use Rattle.wb_grammar_theory.specs.Items.{HasItem, initial_item}
 use Rattle.wb_grammar_theory.specs.Productions.{end_of}
 use Rattle.wb_grammar_theory.specs.States.{start}
 use Rattle.wb_items.specs.Kernels.{prefix_of}
-use Rattle.wb_lookahead.specs.Inner.Spreading.{FlowsTo, Lists}
+use Rattle.wb_lookahead.specs.Inner.Spreading.{FlowsTo}
+use Rattle.wb_items.specs.Lookaheads.{Lists}
 use Rattle.wb_lookahead.proofs.PassLemmas.{first_within, one_member, start_has}
 use Rattle.wb_lookahead.proofs.WaitingLemmas.{begun_waiting}
 use Rattle.wb_lookahead.proofs.plain.begin.Goals as goal

@@ -1,7 +1,8 @@
 use Rattle.std.proofs.Common.{ℕ, take}
 use Rattle.std.specs.Prelude.{Contains}
 use Rattle.wb_grammar_theory.specs.Items.{initial_item}
-use Rattle.wb_lookahead.specs.Inner.Spreading.{ArePropagated, FlowsTo, Keeps, Lists}
+use Rattle.wb_lookahead.specs.Inner.Spreading.{ArePropagated, FlowsTo, Keeps}
+use Rattle.wb_items.specs.Lookaheads.{Lists}
 use Rattle.wb_lookahead.proofs.plain.fill_all.Given as goal
 
 abbrev pub invariant-productions : goal.invariant-productions

@@ -25,7 +25,7 @@ fill_all-requires-clause-len c =
     let h = c.requires.context.are_kernels in
     let place = c.args.place in
     held_len h c.args.lookaheads.now c.requires.propagated.shape place.state c.requires.place.state place.item c.in_ok-set.set
-    (held h c.args.lookaheads.now c.requires.propagated.shape place c.requires.place c.at.result.now c.in_ok-set.set c.at.ensures
+    (held h c.args.lookaheads.now c.requires.propagated.shape place c.requires.place c.shared_at.result.now c.in_ok-set.set c.shared_at.ensures
     c.in_ok-set.ensures)
 
 pub fill_all-requires-clause-exact : goal.fill_all-requires-clause-exact
@@ -36,7 +36,7 @@ fill_all-requires-clause-exact c =
     let first : IsFirstOf K.grammar c.in-Some.nonterminal place.item.production = subst
     (λ z. IsFirstOf z c.in-Some.nonterminal place.item.production) (sym c.requires.context.of_grammar) c.in-Some.ensures.is.0 in
     let set_is : IsSetOf c.args.lookaheads.now place.state place.item c.in_ok-set.set =
-    held h c.args.lookaheads.now c.requires.propagated.shape place c.requires.place c.at.result.now c.in_ok-set.set c.at.ensures
+    held h c.args.lookaheads.now c.requires.propagated.shape place c.requires.place c.shared_at.result.now c.in_ok-set.set c.shared_at.ensures
     c.in_ok-set.ensures in
     λ q t right rule.
     let both = initial_exact place.state place.item c.in-Some.nonterminal q t right c.requires.propagated first c.in-Some.ensures.is.1
@@ -58,4 +58,4 @@ returns-clause-filled c =
     let first : IsFirstOf K.grammar c.in-Some.nonterminal place.item.production = subst
     (λ z. IsFirstOf z c.in-Some.nonterminal place.item.production) (sym c.requires.context.of_grammar) c.in-Some.ensures.is.0 in
     filled_all K c.fill_all.new.lookaheads place.state place.item c.in-Some.nonterminal first c.in-Some.ensures.is.1
-    c.fill_all.ensures.filled
+    c.in_ok-fill_all.ensures.filled

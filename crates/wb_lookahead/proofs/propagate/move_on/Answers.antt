@@ -1,7 +1,7 @@
 use Rattle.std.proofs.Common.{◌+◌, refl, subst}
 use Rattle.std.proofs.lemmas.Result.{on_ok_weaker}
 use Rattle.wb_grammar_theory.specs.States.{move}
-use Rattle.wb_lookahead.specs.Inner.Spreading.{Lists}
+use Rattle.wb_items.specs.Lookaheads.{Lists}
 use Rattle.wb_lookahead.proofs.StepLemmas.{step_has, step_once}
 use Rattle.wb_lookahead.proofs.propagate.move_on.Goals as goal
 

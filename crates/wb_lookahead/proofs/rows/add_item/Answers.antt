@@ -11,7 +11,7 @@ use Rattle.wb_lookahead.specs.Tables.{IsTableRefusal, Stands}
 use Rattle.wb_lookahead.specs.Inner.Rows.{IsClash, IsReduction}
 use Rattle.wb_lookahead.proofs.RowLemmas.{adds_none, clash_refused, complete_asks, complete_stands, nothing_asked, puts_adds, shift_asks}
 use Rattle.wb_grammar_theory.proofs.ShiftLemmas.{valid_production}
-use Rattle.wb_lookahead.proofs.StepLemmas.{row_has}
+use Rattle.wb_items.proofs.CallerLemmas.{row_has}
 use Rattle.wb_lookahead.proofs.rows.add_item.Goals as goal
 
 pub reduction-action-requires : goal.reduction-action-requires

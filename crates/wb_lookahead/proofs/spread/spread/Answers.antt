@@ -1,6 +1,5 @@
 use Rattle.wb_lookahead.proofs.SpreadLemmas.{adds_to, is_place, place_of, spread_sound, spread_spreads, state_within}
-use Rattle.wb_lookahead.proofs.StepLemmas.{row_has}
-use Rattle.wb_lookahead.proofs.UnionLemmas.{lists_added}
+use Rattle.wb_items.proofs.CallerLemmas.{lists_added, row_has}
 use Rattle.wb_lookahead.proofs.spread.spread.Goals as goal
 
 pub place_near-at-requires-clause-item : goal.place_near-at-requires-clause-item
@@ -12,13 +11,13 @@ returns-in_ok-add-clause-sound c =
     spread_sound (place_of c.args.state c.args.item c.place_near-at.result) c.requires.kernels
     (is_place c.requires.kernels c.args.lookaheads.now c.requires.sound.shape c.args.state c.requires.state c.args.item
     c.place_near-at.result c.place_near-at.ensures)
-    c.unite.ensures c.requires.sound c.requires.flows (adds_to c.note.ensures c.in_ok-add.ensures)
+    c.in_ok-grew.ensures.united c.requires.sound c.requires.flows (adds_to c.note.ensures c.in_ok-add.ensures)
 
 pub returns-in_ok-add-clause-spreads : goal.returns-in_ok-add-clause-spreads
 returns-in_ok-add-clause-spreads c =
     let place = place_of c.args.state c.args.item c.place_near-at.result in
     spread_spreads place
-    (state_within c.requires.kernels place c.requires.state c.args.lookaheads.now c.requires.sound.shape) c.unite.ensures c.if-unite.true
+    (state_within c.requires.kernels place c.requires.state c.args.lookaheads.now c.requires.sound.shape) c.in_ok-grew.ensures c.if-grew.true
     c.requires.sound.places
     (is_place c.requires.kernels c.args.lookaheads.now c.requires.sound.shape c.args.state c.requires.state c.args.item
     c.place_near-at.result c.place_near-at.ensures)
@@ -26,12 +25,12 @@ returns-in_ok-add-clause-spreads c =
 
 pub returns-in_ok-add-clause-lists : goal.returns-in_ok-add-clause-lists
 returns-in_ok-add-clause-lists c =
-    lists_added c.unite.ensures
+    lists_added c.in_ok-grew.ensures.united
     (state_within c.requires.kernels
     (place_of c.args.state c.args.item c.place_near-at.result) c.requires.state c.args.lookaheads.now c.requires.sound.shape)
 
-pub returns-else-unite-clause-lists : goal.returns-else-unite-clause-lists
-returns-else-unite-clause-lists c =
-    lists_added c.unite.ensures
+pub returns-else-grew-clause-lists : goal.returns-else-grew-clause-lists
+returns-else-grew-clause-lists c =
+    lists_added c.in_ok-grew.ensures.united
     (state_within c.requires.kernels
     (place_of c.args.state c.args.item c.place_near-at.result) c.requires.state c.args.lookaheads.now c.requires.sound.shape)

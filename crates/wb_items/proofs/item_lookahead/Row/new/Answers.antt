@@ -1,6 +1,11 @@
-use Rattle.wb_items.proofs.ItemLookaheadLemmas.{looks_more}
+use Rattle.std.proofs.Common.{List, length, replicate, ◌∙◌, ap}
+use Rattle.wb_grammar_theory.specs.declared.item.Item.{Item}
+use Rattle.wb_items.specs.Rows.{with_sets}
+use Rattle.wb_items.proofs.RowLemmas.{one_set}
 use Rattle.wb_items.proofs.item_lookahead.Row.new.Goals as goal
 
-pub items-preserved : goal.items-preserved
-items-preserved c = looks_more c.items.looks.items c.push.new.list.items c.args.items.now c.items.item-index c.args.count _ c.in_ok-set.set
-    c.items-test.true c.in_ok-set.ensures c.in_ok-push.ensures.ok c.items.invariant
+pub returns : goal.returns
+returns c =
+    ap (with_sets c.args.items)
+    (c.in_ok-sets.ensures ∙ ap (λ (z : List Item). replicate (length z) c.args.set.now) c.as_slice.ensures) ∙
+    one_set c.args.items c.args.set.now

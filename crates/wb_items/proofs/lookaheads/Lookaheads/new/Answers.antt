@@ -1,10 +1,15 @@
-use Rattle.std.proofs.Common.{◌<◌, length, arith, ◌∙◌}
-use Rattle.wb_items.proofs.ItemLookaheadLemmas.{looks_row}
+use Rattle.std.proofs.Common.{◌+◌, ◌∙◌, ap, sym}
+use Rattle.wb_base.specs.Grammar.{GrammarView}
+use Rattle.wb_items.proofs.RowLemmas.{first_empty, first_shape}
 use Rattle.wb_items.proofs.lookaheads.Lookaheads.new.Goals as goal
 
-pub states-preserved : goal.states-preserved
-states-preserved c =
-    let within : c.states.state < length c.args.kernels.now.closures = omega arith in
-    looks_row c.args.kernels.now.closures _ c.states.rows.items c.push.new.list.items c.states.state c.in_ok-new.field-0 within
-    (c.in_ok-new.ensures.items ∙
-    c.closure.ensures.is) c.in_ok-new.ensures.widths c.in_ok-new.ensures.empty c.in_ok-push.ensures.ok c.states.invariant
+pub returns-clause-items : goal.returns-clause-items
+returns-clause-items c =
+    first_shape c.args.kernels.now c.in_ok-lookahead_count.field-0 c.in_ok-empty.empty c.in_ok-rows.rows.items
+    (c.in_ok-empty.ensures ∙ c.in_ok-new.ensures)
+    (c.in_ok-lookahead_count.ensures.count ∙ ap (λ (g : GrammarView). g.terminals + 1) (sym c.requires)) c.in_ok-rows.ensures
+
+pub returns-clause-empty : goal.returns-clause-empty
+returns-clause-empty c =
+    first_empty c.args.kernels.now.closures c.in_ok-lookahead_count.field-0 c.in_ok-empty.empty c.in_ok-rows.rows.items
+    (c.in_ok-empty.ensures ∙ c.in_ok-new.ensures) c.in_ok-rows.ensures
