@@ -6,9 +6,15 @@ use Rattle.wb_certify_host.specs.declared.refusal.CertifyRefusal.TheVariants as 
 use Rattle.wb_names.specs.Resolving.{ResolvesExtension}
 use Rattle.wb_operations.specs.Operations.{OperationSignature}
 use Rattle.wb_syntax_resolved.specs.declared.resolved.ResolvedParts.{ResolvedParts}
-use Rattle.wb_syntax.specs.SpecText.{SpecView}
+use Rattle.wb_syntax.specs.SpecText.{HasText, SpecView}
 use Rattle.wb_certify.specs.Extensions.{IsCertifiedBeside, IsCertifiedExtension}
+use Rattle.wb_certify.specs.Kept.{Extends}
 use Rattle.wb_certify.specs.Refusals.{IsBesideRefusal, IsExtensionCertifyRefusal}
+
+-- it is the value of a text
+pub of_written : (host : ResolvedParts) (spec : SpecView) (r : ResolvedParts) → ResolvesExtension host spec r → HasText spec
+    → Extends host r
+of_written host spec r names (bytes, below, text) = record { spec = spec; written = (bytes, text); names = names }
 
 module _ (host : ResolvedParts) (spec : SpecView) (r : ResolvedParts) (operations : List OperationSignature)
     (names : ResolvesExtension host spec r) where

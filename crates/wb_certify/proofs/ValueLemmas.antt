@@ -53,13 +53,13 @@ module _ (host : CertifiedView) (r : ResolvedParts) (parts : HostParts) (extends
 
   -- there is a start
   pub start_is : IsSome r.grammar
-  start_is = has_start host.resolved r extends.0 extends.1 host_grammar is_host.certified.start
+  start_is = has_start host.resolved r extends.spec extends.names host_grammar is_host.certified.start
 
   -- the host's parts are those beside which the extension is tested
   pub parts_beside : IfSome r.grammar (λ g. IsHostBeside r g parts)
   parts_beside =
       for_some r.grammar (λ g. IsHostBeside r g parts) (λ g start.
-      host_beside host.resolved r extends.0 extends.1 host_grammar is_host.certified.start is_host.whole g start parts own)
+      host_beside host.resolved r extends.spec extends.names host_grammar is_host.certified.start is_host.whole g start parts own)
 
   -- where it is deterministic beside these parts, it is beside the host
   found : (made : ExtensionParts) → ArePartsFound r parts made → IsFound host.resolved r
@@ -104,8 +104,8 @@ module _ (host : CertifiedView) (r : ResolvedParts) (parts : HostParts) (extends
 pub certified : (host r : ResolvedParts) (operations : List OperationSignature) → Extends host r → KindsOk r.attributes operations
     → IsFound host r → AttributesOk r.attributes (start_of r) → IsCertifiedBeside host r operations
 certified host r operations extends kinds is ok = record {
-  name = extends.0.name;
-  one = extends.1.value.extensions;
+  name = extends.spec.name;
+  one = extends.names.value.extensions;
   kinds = kinds;
   host_grammar = is.host_grammar;
   host_start = is.host_start;

@@ -1,7 +1,7 @@
 -- What is kept of a certified extension.
 use Rattle.std.specs.Prelude.{◌≡◌, List, Some}
 use Rattle.wb_base.specs.Grammar.{GrammarView}
-use Rattle.wb_certify_host.specs.Hosts.{IsCertifiedValue}
+use Rattle.wb_certify_host.specs.Hosts.{IsCertifiedValue, IsWritten}
 use Rattle.wb_determinism_host.specs.Hosts.{AreHostParts}
 use Rattle.wb_determinism_host.specs.declared.parts.HostParts.{HostParts}
 use Rattle.wb_determinism.specs.Extensions.{AreExtensionParts}
@@ -21,9 +21,11 @@ pub record ExtensionView : Type 0 where
   pub parts : ExtensionParts
   pub operations : List OperationSignature
 
--- the specification is that of the host with some extension whose names are right
-abbrev pub Extends : ResolvedParts → ResolvedParts → Type 0
-Extends host r = (spec : SpecView) × ResolvesExtension host spec r
+-- the value is that of the host with some extension, whose specification some text is and whose names are right
+pub record Extends (host r : ResolvedParts) : Type 0 where
+  pub spec : SpecView
+  pub written : IsWritten spec
+  pub names : ResolvesExtension host spec r
 
 -- the parts are those of the extended grammar, beside these of the host
 abbrev pub ArePartsBeside : ResolvedParts → HostParts → ExtensionParts → Type 0

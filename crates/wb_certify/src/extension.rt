@@ -38,6 +38,8 @@ pub fn certify_extension<M: Meaning>(
 {
     match resolve_extension(alloc, host.resolved(), spec) {
         Ok(resolved) => {
+            // Some text is the specification.
+            spec.items();
             let answer = certify_beside(alloc, host, &resolved, operations);
             resolved.release();
             answer

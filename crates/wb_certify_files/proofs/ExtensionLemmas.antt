@@ -1,5 +1,6 @@
 -- What is said of a value, and of a file's first line, is said of the contents.
 use Rattle.std.proofs.Common.{◌≡◌, inl, inr, List, ℕ, Some, ap, refl, sym, subst}
+use Rattle.wb_certify.specs.Kept.{Extends}
 use Rattle.wb_certify.specs.Refusals.{IsBesideRefusal}
 use Rattle.wb_certify_host.specs.declared.refusal.CertifyRefusal.{CertifyRefusal}
 use Rattle.wb_certify_host.specs.declared.refusal.CertifyRefusal.TheVariants as c
@@ -9,7 +10,7 @@ use Rattle.wb_reader.specs.Refusals.{IsAcceptedText}
 use Rattle.wb_report.specs.declared.refusal.Refusal.{Refusal}
 use Rattle.wb_syntax_resolved.specs.declared.resolved.ResolvedParts.{ResolvedParts}
 use Rattle.wb_certify_shown.specs.Extensions.{extension_refusal_shown}
-use Rattle.wb_syntax.specs.SpecText.{SpecView}
+use Rattle.wb_syntax.specs.SpecText.{HasText, SpecView}
 use Rattle.wb_certify_files.specs.ExtensionContents.{StandsFor, IsOfKinds, IsRefusedValue, IsExtensionRefusal}
 use Rattle.wb_certify_files.specs.Specifications.{IsHeaderRefusal}
 use Rattle.wb_certify_files.specs.Inner.Numbered.{IsNumbered}
@@ -46,6 +47,10 @@ module _ (host : ResolvedParts) (operations : List OperationSignature) (contents
 pub stands_for : (host : ResolvedParts) (spec : SpecView) (r : ResolvedParts) → IsNumbered host spec r → (contents : List ℕ)
     → IsAcceptedText contents spec → StandsFor host contents r
 stands_for host spec r is contents accepted = record { spec = spec; accepted = accepted; names = is.names; resolved = is.resolved }
+
+-- it is the value of a text
+pub extends_by : (host : ResolvedParts) (spec : SpecView) (r : ResolvedParts) → IsNumbered host spec r → HasText spec → Extends host r
+extends_by host spec r is (bytes, below, text) = record { spec = spec; written = (bytes, text); names = is.names }
 
 -- what is shown for a first line is shown of the contents
 pub header_refused : (host : ResolvedParts) (operations : List OperationSignature) (contents : List ℕ) (refusal : FileRefusal)

@@ -1,5 +1,6 @@
 -- A refusal of a value is one of the contents that stand for it.
 use Rattle.std.proofs.Common.{◌≡◌, inr, List, ℕ, Some, sym, subst}
+use Rattle.wb_certify_host.specs.Hosts.{IsOfText}
 use Rattle.wb_certify_host.specs.Refusals.{IsValueRefusal}
 use Rattle.wb_certify_host.specs.WellDefined.{IsWellDefinedRefusal}
 use Rattle.wb_certify_host.specs.declared.refusal.CertifyRefusal.{CertifyRefusal}
@@ -13,6 +14,10 @@ use Rattle.wb_certify_files.specs.WellDefined.{IsWellDefinedTextRefusal}
 use Rattle.wb_certify_files.specs.declared.host_refusal.HostRefusal.{HostRefusal}
 use Rattle.wb_certify_files.specs.declared.host_refusal.HostRefusal.TheVariants as h
 use Rattle.wb_certify_files.specs.Inner.RefusedHosts.{IsShownAs, IsSort}
+
+-- a value that contents stand for is that of a text
+pub of_text : (contents : List ℕ) (r : ResolvedParts) → StandsFor contents r → IsOfText r
+of_text contents r stands = record { spec = stands.spec; written = (contents, stands.accepted.1); names = stands.names }
 
 module _ (operations : List OperationSignature) (contents : List ℕ) (r : ResolvedParts) (stands : StandsFor contents r) (shown : Refusal)
   where

@@ -70,6 +70,8 @@ pub fn extension_of_spec<M: Meaning>(
     ensures refused { IfErr result (IsSpecRefusal host.now.resolved host.now.operations spec.now) }
 {
     let resolved = value_of(alloc, host, spec)?;
+    // Some text is the specification.
+    spec.items();
     let answer = certified(alloc, host, &resolved, operations);
     resolved.release();
     answer

@@ -2,7 +2,8 @@
 //!
 //! They are read, names get their numbers, and the value that they stand for is certified; each refusal is handed on as a report shows it.
 
-ghost use Rattle.std.specs.Prelude.{◌≡◌, ◌≢◌, [], IfErr, IfOk, List, None, ℕ};
+ghost use Rattle.std.specs.Prelude.{◌≡◌, ◌≢◌, IfErr, IfOk, List, None, ℕ};
+ghost use Rattle.wb_certify_host.specs.Hosts.{IsOfText};
 ghost use Rattle.wb_certify_host.specs.Refusals.{IsNameMemory};
 ghost use Rattle.wb_names.specs.Resolving.{IsHostNameRefusal};
 ghost use Rattle.wb_reader.specs.OneAnswer.{IsNoMemory};
@@ -48,7 +49,7 @@ fn certified<M: Meaning>(
     resolved: &Resolved,
     operations: &OperationTable<M>,
 ) -> Result<CertifiedHost, HostRefusal>
-    requires { resolved.now.attributes.extensions ≡ [] }
+    requires { IsOfText resolved.now }
     ensures host { (contents : List ℕ) → StandsFor contents resolved.now → IfOk result (λ host. IsHostText operations.now.signatures contents host.resolved) }
     ensures operations { IfOk result (λ host. host.operations ≡ operations.now.signatures) }
     ensures refused { (contents : List ℕ) → StandsFor contents resolved.now → IfErr result (IsHostRefusal operations.now.signatures contents) }

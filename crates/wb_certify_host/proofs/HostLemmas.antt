@@ -3,11 +3,15 @@ use Rattle.std.proofs.Common.{Result, Ok, Err, IfOk, IfErr, List}
 use Rattle.wb_names.specs.Resolving.{ResolvesHost}
 use Rattle.wb_operations.specs.Operations.{OperationSignature}
 use Rattle.wb_syntax_resolved.specs.declared.resolved.ResolvedParts.{ResolvedParts}
-use Rattle.wb_syntax.specs.SpecText.{SpecView}
-use Rattle.wb_certify_host.specs.Hosts.{IsCertifiedHost, IsCertifiedValue}
+use Rattle.wb_syntax.specs.SpecText.{HasText, SpecView}
+use Rattle.wb_certify_host.specs.Hosts.{IsCertifiedHost, IsCertifiedValue, IsOfText}
 use Rattle.wb_certify_host.specs.Refusals.{IsHostCertifyRefusal, IsValueRefusal}
 use Rattle.wb_certify_host.specs.declared.refusal.CertifyRefusal.{CertifyRefusal}
 use Rattle.wb_certify_host.specs.declared.refusal.CertifyRefusal.TheVariants as c
+
+-- it is the value of a text
+pub of_written : (spec : SpecView) (r : ResolvedParts) → ResolvesHost spec r → HasText spec → IsOfText r
+of_written spec r names (bytes, below, text) = record { spec = spec; written = (bytes, text); names = names }
 
 module _ (spec : SpecView) (r : ResolvedParts) (operations : List OperationSignature) (names : ResolvesHost spec r) where
   -- it is certified where its value is

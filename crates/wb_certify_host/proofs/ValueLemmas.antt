@@ -15,7 +15,7 @@ use Rattle.wb_syntax_resolved.specs.declared.terminal.Preference.{Preference}
 use Rattle.wb_syntax_resolved.specs.Resolved.{IsResolved}
 use Rattle.wb_types.specs.Rules.{KindsOk}
 use Rattle.wb_determinism_host.specs.declared.parts.HostParts.{HostParts}
-use Rattle.wb_certify_host.specs.Hosts.{IsCertified, IsCertifiedValue}
+use Rattle.wb_certify_host.specs.Hosts.{IsCertified, IsCertifiedValue, IsOfText}
 use Rattle.wb_certify_host.specs.Refusals.{IsAttributeRefusal, IsDeterministic, start_of}
 use Rattle.wb_certify_host.specs.WellDefined.{HasWellDefinedAttributes}
 use Rattle.wb_certify_host.specs.Inner.Tests.{AreComplete}
@@ -79,16 +79,17 @@ well_defined r operations alone kinds complete flows = record {
 }
 
 -- all tests together
-pub certified : (r : ResolvedParts) (operations : List OperationSignature) → r.attributes.extensions ≡ []
+pub certified : (r : ResolvedParts) (operations : List OperationSignature) → IsOfText r
     → KindsOk r.attributes operations → IsDeterministic r → AreComplete r → FlowsOk r.attributes → IsCertifiedValue r operations
-certified r operations alone kinds is complete flows = record {
-  alone = alone;
+certified r operations of_text kinds is complete flows = record {
+  of_text = of_text;
+  alone = of_text.names.value.extensions;
   kinds = kinds;
   grammar = is.grammar;
   start = is.start;
   deterministic = is.deterministic;
   attributes = subst (λ (o : Option GrammarView). AreWellDefinedAttributes r.attributes (option_map (λ (g : GrammarView). g.start) o) None)
-      is.start (well_defined r operations alone kinds complete flows).attributes;
+      is.start (well_defined r operations of_text.names.value.extensions kinds complete flows).attributes;
 }
 
 -- what is kept of it, with copies

@@ -1,5 +1,5 @@
 -- When a resolved host is certified.
-use Rattle.std.specs.Prelude.{◌≡◌, Some, None, List, []}
+use Rattle.std.specs.Prelude.{◌≡◌, ℕ, Some, None, List, []}
 use Rattle.wb_flow_theory.specs.Modular.{AreWellDefinedAttributes}
 use Rattle.wb_base.specs.Grammar.{GrammarView}
 use Rattle.wb_determinism_host.specs.Hosts.{IsDeterministicHost, AreHostParts}
@@ -8,12 +8,23 @@ use Rattle.wb_names.specs.Resolving.{ResolvesHost}
 use Rattle.wb_operations.specs.Operations.{OperationSignature}
 use Rattle.wb_syntax_resolved.specs.Resolved.{IsResolved}
 use Rattle.wb_syntax_resolved.specs.declared.resolved.ResolvedParts.{ResolvedParts}
-use Rattle.wb_syntax.specs.SpecText.{SpecView}
+use Rattle.wb_syntax.specs.SpecText.{IsSpecText, SpecView}
 use Rattle.wb_types.specs.Rules.{KindsOk}
 
--- over operations of these signatures a resolved host is certified: it is a host alone, each expression is of its kind, there is a start,
--- and so this grammar, the host is deterministic, and its attributes are well defined
+-- some text is the specification
+abbrev pub IsWritten : SpecView → Type 0
+IsWritten spec = (bytes : List ℕ) × IsSpecText bytes spec
+
+-- the value is that of a specification which some text is: a host's, whose names are right
+pub record IsOfText (r : ResolvedParts) : Type 0 where
+  pub spec : SpecView
+  pub written : IsWritten spec
+  pub names : ResolvesHost spec r
+
+-- over operations of these signatures a resolved host is certified: it is the value of some text, a host alone, each expression is of its
+-- kind, there is a start, and so this grammar, the host is deterministic, and its attributes are well defined
 pub record IsCertifiedValue (r : ResolvedParts) (operations : List OperationSignature) : Type 0 where
+  pub of_text : IsOfText r
   pub alone : r.attributes.extensions ≡ []
   pub kinds : KindsOk r.attributes operations
   pub grammar : GrammarView

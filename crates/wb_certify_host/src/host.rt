@@ -31,6 +31,8 @@ pub fn certify_host<M: Meaning>(
 {
     match resolve_host(alloc, spec) {
         Ok(resolved) => {
+            // Some text is the specification.
+            spec.items();
             let answer = certify_resolved(alloc, &resolved, operations);
             resolved.release();
             answer

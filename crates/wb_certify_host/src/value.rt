@@ -1,9 +1,9 @@
 //! Is a resolved host certified? Each test after names, in the order in which refusals are reported.
 
-ghost use Rattle.std.specs.Prelude.{◌≡◌, [], IfErr, IfOk, None};
+ghost use Rattle.std.specs.Prelude.{◌≡◌, IfErr, IfOk, None};
 ghost use Rattle.wb_flow.specs.Refusals.{FlowsOk};
 ghost use Rattle.wb_types.specs.Rules.{KindsOk};
-ghost use Rattle.wb_certify_host.specs.Hosts.{IsCertified, IsCertifiedValue};
+ghost use Rattle.wb_certify_host.specs.Hosts.{IsCertified, IsCertifiedValue, IsOfText};
 ghost use Rattle.wb_certify_host.specs.Refusals.{IsAttributeRefusal, IsValueRefusal, start_of};
 ghost use Rattle.wb_certify_host.specs.Inner.Tests.{AreComplete, IsAttributesRefusal, IsFound, IsGrammarRefusal, IsKindRefusal};
 
@@ -20,15 +20,15 @@ use wb_types::{TypeRefusal, check_types};
 
 /// A resolved host as a certified one over a table of operations, or the first rule that fails.
 ///
-/// It has no extension: an extension is certified with its host by other rules. Rules of names don't come, since they hold. Others go by
-/// rule, each on the whole host: kinds, then preferences, a start, the grammar and the scanner, and attributes at last. No clause bounds
-/// the time.
+/// It is the value of a text, and has no extension: an extension is certified with its host by other rules. Rules of names don't come,
+/// since they hold. Others go by rule, each on the whole host: kinds, then preferences, a start, the grammar and the scanner, and
+/// attributes at last. No clause bounds the time.
 pub fn certify_resolved<M: Meaning>(
     alloc: Global,
     resolved: &Resolved,
     operations: &OperationTable<M>,
 ) -> Result<CertifiedHost, CertifyRefusal>
-    requires { resolved.now.attributes.extensions ≡ [] }
+    requires { IsOfText resolved.now }
     ensures resolved { IfOk result (λ host. host.resolved ≡ resolved.now) }
     ensures operations { IfOk result (λ host. host.operations ≡ operations.now.signatures) }
     ensures certified { IfOk result (λ host. IsCertifiedValue resolved.now operations.now.signatures) }
@@ -62,7 +62,7 @@ fn certified_parts<M: Meaning>(
     resolved: &Resolved,
     operations: &OperationTable<M>,
 ) -> Result<HostParts, CertifyRefusal>
-    requires { resolved.now.attributes.extensions ≡ [] }
+    requires { IsOfText resolved.now }
     ensures certified { IfOk result (λ parts. IsCertified (record { resolved = resolved.now; parts = parts; operations = operations.now.signatures })) }
     ensures refused { IfErr result (IsValueRefusal resolved.now operations.now.signatures) }
 {

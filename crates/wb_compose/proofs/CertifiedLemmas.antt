@@ -1,15 +1,11 @@
 -- A certified extension is certified as a piece of a union, and all together are what unions ask for.
-use Rattle.std.proofs.Common.{◌≡◌, ◌<◌, ◌∷◌, inl, inr, [], ℕ, zero, suc, Bool, true, false, cond, List, Option, Some, None, Contains}
-use Rattle.std.proofs.Common.{slice_get, ap, refl, sym, subst, ◌∙◌}
-use Rattle.std.specs.Prelude.{All, IsTrue}
-use Rattle.std.proofs.lemmas.Bool.{eq-eqb}
+use Rattle.std.proofs.Common.{◌≡◌, ◌<◌, ◌∷◌, inl, inr, [], List}
+use Rattle.std.proofs.Common.{sym, subst, ◌∙◌}
+use Rattle.std.specs.Prelude.{All}
 use Rattle.std.proofs.lemmas.List.Elements.{All-nil, All-cons, All-head, All-tail}
 use Rattle.std.proofs.lemmas.Option.{same_Some}
 use Rattle.wb_lemmas.proofs.Elements.{all_from_contained}
-use Rattle.wb_lemmas.proofs.Places.{nothing_at}
-use Rattle.wb_base.specs.declared.symbol.Symbol.{Symbol}
-use Rattle.wb_base.specs.declared.symbol.Symbol.TheVariants.{Terminal}
-use Rattle.wb_base.specs.Grammar.{GrammarView, Production}
+use Rattle.wb_base.specs.Grammar.{GrammarView}
 use Rattle.wb_determinism_host.specs.Hosts.{IsDeterministicHost}
 use Rattle.wb_determinism.specs.Extensions.{IsDeterministicExtension, both_numbers}
 use Rattle.wb_determinism.specs.Images.{stands_for}
@@ -20,8 +16,6 @@ use Rattle.wb_operations.specs.Operations.{OperationSignature}
 use Rattle.wb_syntax_resolved.specs.declared.resolved.ResolvedParts.{ResolvedParts}
 use Rattle.wb_compose_theory.specs.Numbered.{IsFit, KeepsKernelLookaheads, StaysInEnvelope}
 use Rattle.wb_compose_theory.specs.Renamings.{Renaming}
-use Rattle.wb_compose_theory.specs.Worlds.{on}
-use Rattle.wb_compose_theory_grammar.specs.Bridges.{begins, bridge_in_list, mark_by}
 use Rattle.wb_compose_theory_grammar.specs.Certificates.{AreCertified, IsCertifiedBy, IsCertifiedPiece}
 use Rattle.wb_compose_theory_grammar.specs.Laws.{HasTogether, IsUnited, KeepsHost}
 use Rattle.wb_compose_theory_grammar.specs.Pieces.{IsPiece, Piece}
@@ -29,45 +23,15 @@ use Rattle.wb_compose_theory_grammar.proofs.TogetherLemmas.{has_together}
 use Rattle.wb_compose_theory_grammar.proofs.CertificateLemmas.{certified_by}
 use Rattle.wb_compose_theory_grammar.proofs.UnitedLemmas.{is_united, keeps_host}
 use Rattle.wb_certify.specs.Kept.{AreCertifiedBoth}
-use Rattle.wb_compose.specs.Joined.{AreCertifiedApart, Extended, is_marker_in, piece_in, pieces_in}
+use Rattle.wb_compose.specs.Joined.{AreCertifiedApart, Extended, piece_in, pieces_in}
+use Rattle.wb_compose.proofs.BridgedLemmas.{certified_is_bridged}
+use Rattle.wb_compose.proofs.ImageLemmas.{bridge_listed}
 use Rattle.wb_compose.proofs.InRange.{grammar_of, in_range}
-use Rattle.wb_compose.proofs.JoinedLemmas.{deterministic, extensible_is, host_deterministic, is_piece, markers_are, pieces_are}
+use Rattle.wb_compose.proofs.JoinedLemmas.{deterministic, extensible_is, host_deterministic, is_piece, pieces_are}
 use Rattle.wb_compose.proofs.NumberLemmas.{images_agree, productions_agree, terminals_agree}
-
--- where the terminal begins a production there is a first one
-bridge_there : (p t : ℕ) (rules : List Production) (k a : ℕ) (rest : List Symbol) → slice_get rules k ≡ Some (a, Terminal t ∷ rest)
-    → bridge_in_list p t rules ≡ None → ⊥
-bridge_there p t [] k a rest at e = nothing_at (a, Terminal t ∷ rest) k at
-bridge_there p t (rule ∷ rules) k a rest at e =
-    by (begins t rule.1) refl k at (λ j there more. bridge_there (suc p) t rules j a rest there more) where
-      by : (b : Bool) → begins t rule.1 ≡ b → (k : ℕ) → slice_get (rule ∷ rules) k ≡ Some (a, Terminal t ∷ rest)
-          → ((j : ℕ) → slice_get rules j ≡ Some (a, Terminal t ∷ rest) → bridge_in_list (suc p) t rules ≡ None → ⊥) → ⊥
-      by true is k at later =
-          let found : Option (ℕ × ℕ) = Some (p, rule.0) in
-          let bad : found ≡ None =
-          sym (ap (λ b. cond b (Some (p, rule.0)) (bridge_in_list (suc p) t rules)) is) ∙ e in cc
-      by false is zero at later =
-          let first : rule ≡ (a, Terminal t ∷ rest) = same_Some rule (a, Terminal t ∷ rest) at in
-          let bad : true ≡ false = sym (ap (λ (z : Production). begins t z.1) first ∙ eq-eqb t t refl) ∙ is in cc
-      by false is (suc j) at later =
-          later j at (sym (ap (λ b. cond b (Some (p, rule.0)) (bridge_in_list (suc p) t rules)) is) ∙ e)
 
 module _ (host r : ResolvedParts) (h g : GrammarView) (operations : List OperationSignature)
     (both : AreCertifiedBoth host r h g operations) where
-  -- the first production that a marker begins is on an extensible nonterminal
-  bridge_listed : (t : ℕ) → IsTrue (is_marker_in r t) → (p a : ℕ) × (bridge_in_list 0 t g.productions ≡ Some (p, a))
-      × Contains host.extensible a
-  bridge_listed t is_one = by (bridge_in_list 0 t g.productions) refl where
-    by : (o : Option (ℕ × ℕ)) → bridge_in_list 0 t g.productions ≡ o
-        → (p a : ℕ) × (bridge_in_list 0 t g.productions ≡ Some (p, a)) × Contains host.extensible a
-    by None e =
-        let b = (markers_are host r h g operations both).bridge t is_one in
-        absurd (bridge_there 0 t g.productions b.number b.left b.rest b.rule e)
-    by (Some (p, a)) e =
-        let mark : (piece_in r g).mark t ≡ on a =
-        ap (λ z. mark_by z (bridge_in_list 0 t g.productions)) is_one ∙ ap (mark_by true) e in
-        (p, a, e, ((is_piece host r h g operations both).markers t a mark).extensible_left)
-
   extension : IsDeterministicExtension r g (with_holes_of h host.extensible)
   extension = (deterministic host r h g operations both).deterministic
 
@@ -82,7 +46,7 @@ module _ (host r : ResolvedParts) (h g : GrammarView) (operations : List Operati
   certified_in_words = record {
     terminal_is = terminals_agree host r h g same;
     production_is = productions_agree host r h g same;
-    phi_is = images_agree host r h g same bridge_listed;
+    phi_is = images_agree host r h g same (bridge_listed host r h g operations (certified_is_bridged host r h g operations both));
     fit = subst (λ xs. IsFit g (with_holes_of g xs)) same fit_there;
     no_conflict = subst (λ xs. HasNoConflict (with_holes_of g xs)) same extension.both.no_conflict;
     lookaheads = subst (λ xs. KeepsKernelLookaheads (with_holes_of h host.extensible) (with_holes_of g xs) up (stands_for r g)) same

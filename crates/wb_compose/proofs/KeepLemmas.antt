@@ -48,10 +48,10 @@ same_entry xs k x y at at' = same_Some x y (sym at ∙ at')
 module _ (host r : ResolvedParts) (h g : GrammarView) (operations : List OperationSignature)
     (both : AreCertifiedBoth host r h g operations) where
   abbrev pub spec : SpecView
-  spec = both.extends.0
+  spec = both.extends.spec
 
   abbrev pub names : ResolvesExtension host spec r
-  names = both.extends.1
+  names = both.extends.names
 
   numbers : KeepsNumbers host r h g
   numbers = numbers_kept host r h g operations both

@@ -4,8 +4,11 @@ pub mod KeptLemmas
 pub mod GrammarKept
 pub mod MarkerLemmas
 pub mod OwnLemmas
+pub mod BridgedLemmas
 pub mod JoinedLemmas
 pub mod NumberLemmas
+pub mod ImageLemmas
+mod RuleLemmas
 pub mod CertifiedLemmas
 pub mod GroupLemmas
 pub mod WrittenRows
@@ -13,6 +16,8 @@ pub mod WrittenPreferences
 pub mod WrittenLemmas
 pub mod ApartLemmas
 pub mod WrittenApart
+pub mod SpelledLemmas
+pub mod ExistenceLemmas
 pub mod KeepLemmas
 pub mod CutLemmas
 pub mod AdditionLemmas

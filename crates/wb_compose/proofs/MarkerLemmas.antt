@@ -42,13 +42,13 @@ marking_is Plain e = absurd (cc e)
 marking_is Ignore e = absurd (cc e)
 marking_is Marking e = refl
 
-row_marker : (r : ResolvedParts) (t : ℕ) → IsTrue (is_marker_in r t) → IsMarker r t
+pub row_marker : (r : ResolvedParts) (t : ℕ) → IsTrue (is_marker_in r t) → IsMarker r t
 row_marker r t e = go (slice_get r.terminals t) refl e where
   go : (o : Option Terminal) → slice_get r.terminals t ≡ o → is_marker_row o ≡ true → IsMarker r t
   go None is e = absurd (cc e)
   go (Some row) is e = record { terminal = row; is = is; marking = marking_is row.kind e }
 
-marker_row : (r : ResolvedParts) (t : ℕ) → IsMarker r t → IsTrue (is_marker_in r t)
+pub marker_row : (r : ResolvedParts) (t : ℕ) → IsMarker r t → IsTrue (is_marker_in r t)
 marker_row r t m = ap is_marker_row m.is ∙ ap is_marking m.marking
 
 -- a marker isn't layout

@@ -1,8 +1,8 @@
 -- Where numbers go with an extension is the same in both words for it, and so is what markers stand for.
-use Rattle.std.proofs.Common.{◌≡◌, ◌+◌, ◌-◌, ◌∷◌, [], ℕ, zero, suc, Bool, true, false, cond, eqb, List, Option, Some}
+use Rattle.std.proofs.Common.{◌≡◌, ◌<◌, ◌≤◌, ◌+◌, ◌-◌, ◌∷◌, [], ℕ, zero, suc, Bool, true, false, cond, eqb, ltb, List, Option, Some}
 use Rattle.std.proofs.Common.{None, Contains, length, slice_get, ap, refl, sym, ◌∙◌, arith}
 use Rattle.std.specs.Prelude.{IsTrue, option_and_then, unwrap_or}
-use Rattle.std.proofs.lemmas.Bool.{eqb-false}
+use Rattle.std.proofs.lemmas.Bool.{eqb-false, lt-ltb, ltb-true}
 use Rattle.std.proofs.lemmas.List.{length-append}
 use Rattle.std.proofs.lemmas.Option.{same_Some}
 use Rattle.wb_lemmas.proofs.Members.{place_of}
@@ -21,6 +21,7 @@ use Rattle.wb_compose_theory_grammar.specs.Bridges.{begins, bridge_in_list, mark
 use Rattle.wb_compose_theory_grammar.specs.Numberings.{image_of, phi_of, up_of}
 use Rattle.wb_compose_theory_grammar.specs.UnitedWorlds.{index_of}
 use Rattle.wb_compose.specs.Joined.{is_marker_in, piece_in}
+use Rattle.wb_compose.specs.Numbers.{HasTestedNumbers, KeepsNumbers, KeepsPlaces}
 
 -- each nonterminal has one hole
 length-hole_productions : (next : ℕ) (xs : List ℕ) → length (hole_productions next xs) ≡ length xs
@@ -38,7 +39,7 @@ abbrev pub left_of : Option (ℕ × ℕ) → Option ℕ
 left_of None = None
 left_of (Some (p, a)) = Some a
 
-bridged_same : (t p : ℕ) (rules : List Production) → bridged t rules ≡ left_of (bridge_in_list p t rules)
+pub bridged_same : (t p : ℕ) (rules : List Production) → bridged t rules ≡ left_of (bridge_in_list p t rules)
 bridged_same t p [] = refl
 bridged_same t p (rule ∷ rules) =
     ap (λ b. cond b (Some rule.0) (bridged t rules)) (begins_same t rule.1) ∙ by (begins t rule.1) (bridged_same t (suc p) rules) where
@@ -58,6 +59,16 @@ hole_is first a (x ∷ xs) j at = by (eqb x a) refl j at (λ i there. hole_is (s
   by false differ zero at rest = absurd (eqb-false x a differ (same_Some x a at))
   by false differ (suc j) at rest =
       rest j at ∙ ap Some (let e : suc first + index_of xs a ≡ first + suc (index_of xs a) = omega arith in e)
+
+-- what is below stays, and what isn't moves up
+lift_below : (own size t : ℕ) → t < own → lift own size t ≡ t
+lift_below own size t below = ap (λ b. cond b t (t + size)) (lt-ltb t own below)
+
+lift_past : (own size t : ℕ) → own ≤ t → lift own size t ≡ t + size
+lift_past own size t past = by (ltb t own) refl where
+  by : (b : Bool) → ltb t own ≡ b → cond b t (t + size) ≡ t + size
+  by true e = let less = ltb-true t own e in omega (arith, less, past)
+  by false e = refl
 
 module _ (host r : ResolvedParts) (h g : GrammarView) (same : r.extensible ≡ host.extensible) where
   abbrev pub host_holes : GrammarView
@@ -90,6 +101,20 @@ module _ (host r : ResolvedParts) (h g : GrammarView) (same : r.extensible ≡ h
       ≡ length g.productions - length h.productions = omega (arith, counted, host_rules, host_more, both_rules, both_more) in
       ap (λ z. lift z (length (with_holes_of g r.extensible).productions - length host_holes.productions) p) own
       ∙ ap (λ z. lift (length h.productions) z p) more
+
+  -- so the host's numbers stay, and those of holes and of what comes last go where they are with the extension
+  pub tested_numbers : KeepsNumbers host r h g → HasTestedNumbers host r h g
+  tested_numbers kept = record {
+    terminals = places terminals_agree kept.terminals.no_fewer;
+    productions = places productions_agree kept.productions.no_fewer;
+  }
+    where
+      places : {up : ℕ → ℕ} {own both : ℕ} → ((n : ℕ) → up n ≡ lift own (both - own) n) → own ≤ both → KeepsPlaces up own both
+      places {up} {own} {both} agree fewer = record {
+        stays = λ n below. agree n ∙ lift_below own (both - own) n below;
+        moves = λ j. (let past : (own + j) + (both - own) ≡ both + j = omega (arith, fewer) in
+            agree (own + j) ∙ (lift_past own (both - own) (own + j) (omega arith) ∙ past));
+      }
 
   -- what a terminal stands for
   pub images_agree : ((t : ℕ) → IsTrue (is_marker_in r t) → (p a : ℕ) × (bridge_in_list 0 t g.productions ≡ Some (p, a))

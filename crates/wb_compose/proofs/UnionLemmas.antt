@@ -89,7 +89,7 @@ module _ (host : ResolvedParts) (h : GrammarView) (operations : List OperationSi
     start_there : (host_numbers rows (addition_of host h e ∷ [])).nonterminal h.start ≡ e.grammar.start
     start_there =
         start_stays (addition_of host h e ∷ [])
-        ∙ sym (start_same host e.resolved both.extends.0 both.extends.1 both.host_resolved both.resolved h e.grammar both.host_start
+        ∙ sym (start_same host e.resolved both.extends.spec both.extends.names both.host_resolved both.resolved h e.grammar both.host_start
         both.start)
 
   extensions_are : (es : List Extended) → All IsEach es → each_alone rows h.start (additions_of host h es) ≡ map with_host es

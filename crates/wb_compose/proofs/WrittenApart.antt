@@ -32,7 +32,7 @@ module _ (host r : ResolvedParts) (h g : GrammarView) (operations : List Operati
       let same = extensible_is host r h g operations both in
       let counted = ap (λ (xs : List ℕ). length xs) same in
       let scanned : (h.terminals + length host.extensible) - length r.extensible ≡ h.terminals = omega (arith, counted) in
-      piece_apart host r both.extends.0 both.extends.1 both.host_resolved both.resolved h g both.host_start both.start
+      piece_apart host r both.extends.spec both.extends.names both.host_resolved both.resolved h g both.host_start both.start
       both.host_certified.alone (both_numbers r g (with_holes_of h host.extensible)) same (productions_agree host r h g same)
       d.deterministic.both.fit.sound.acyclic d.deterministic.both.no_clash
       (subst (λ n. HasNoEnvelopeClash (with_holes_of h host.extensible) (with_holes_of g r.extensible)

@@ -1,7 +1,13 @@
 -- a certified host and certified extensions, as what unions are made of
 pub mod Joined
+-- extensions that keep the rules on bridges, certified or not
+pub mod Bridged
 -- what keeps its numbers with an extension
 pub mod Numbers
+-- what terminals stand for, beside the host alone
+pub mod Images
+-- the lookahead rule at kernels and at prefixes
+pub mod Rules
 -- how they are written
 pub mod Written
 -- the attributes of a host with extensions
@@ -16,5 +22,7 @@ pub mod United
 pub mod Composed
 -- the language of a host by itself, which is composed of no extensions
 pub mod HostLanguage
+-- that there is a language, and in it an answer to each text
+pub mod Existence
 -- words of the private functions
 pub mod Inner

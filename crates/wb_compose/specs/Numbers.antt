@@ -1,6 +1,9 @@
 -- What is of a host's grammar keeps its numbers with an extension, and what is added is the extension's own.
-use Rattle.std.specs.Prelude.{◌≡◌, ◌<◌, ◌≤◌, ℕ, List, Some, length, slice_get}
+use Rattle.std.specs.Prelude.{◌≡◌, ◌<◌, ◌≤◌, ◌+◌, ℕ, List, Some, length, slice_get}
 use Rattle.wb_base.specs.Grammar.{GrammarView}
+use Rattle.wb_determinism.specs.Extensions.{both_numbers}
+use Rattle.wb_determinism.specs.Numbers.{production_up, terminal_up}
+use Rattle.wb_marking_holes.specs.Holes.{with_holes_of}
 use Rattle.wb_names_numbers_theory.specs.Numbering.{numbering_of}
 use Rattle.wb_syntax_resolved.specs.declared.resolved.ResolvedParts.{ResolvedParts}
 use Rattle.wb_syntax_resolved.specs.Once.{Entry}
@@ -30,3 +33,16 @@ pub record KeepsNumbers (host r : ResolvedParts) (host_grammar grammar : Grammar
       grammar.nonterminals
   pub productions : StaysFirst (numbering_of host).productions (numbering_of r).productions (length host_grammar.productions)
       (length grammar.productions)
+
+-- each of the first `own` numbers stays, and those that come after them go, in order, to those that come after the first `both`
+pub record KeepsPlaces (up : ℕ → ℕ) (own both : ℕ) : Type 0 where
+  pub stays : (number : ℕ) → number < own → up number ≡ number
+  pub moves : (place : ℕ) → up (own + place) ≡ both + place
+
+-- in the numbers by which lookaheads and envelopes are tested, terminals and productions of the host keep theirs; its holes and the end of
+-- a text, their productions and `S' -> S` have those that they have with the extension
+pub record HasTestedNumbers (host r : ResolvedParts) (host_grammar grammar : GrammarView) : Type 0 where
+  pub terminals : KeepsPlaces (terminal_up (both_numbers r grammar (with_holes_of host_grammar host.extensible)))
+      host_grammar.terminals grammar.terminals
+  pub productions : KeepsPlaces (production_up (both_numbers r grammar (with_holes_of host_grammar host.extensible)))
+      (length host_grammar.productions) (length grammar.productions)

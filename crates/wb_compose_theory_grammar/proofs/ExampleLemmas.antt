@@ -40,7 +40,7 @@ abbrev up : Renaming
 up = up_of example_host (single_grammar 2)
 
 -- numbers that move up stay apart
-lift_once : (own more p q : ℕ) → lift own more p ≡ lift own more q → p ≡ q
+pub lift_once : (own more p q : ℕ) → lift own more p ≡ lift own more q → p ≡ q
 lift_once own more p q e = elim (cases_lt p own) [ inl low ↦ from_low low | inr high ↦ from_high high ]
   where
     from_low : p < own → p ≡ q
@@ -118,7 +118,7 @@ no_new prefix new i k = go (where_is 2 ((k.0).1))
             (lift_once 1 1 j.production i.production (p ∙ sym c)) dot
 
 -- a closure with an item has a member
-member : {g : GrammarView} {P : Item → Type 0} {item : Item} → InClosure g P item → (i : Item) × P i
+pub member : {g : GrammarView} {P : Item → Type 0} {item : Item} → InClosure g P item → (i : Item) × P i
 member (kernel {item} y) = (item, y)
 member (opened item b rest q right c is rule) = member c
 

@@ -17,3 +17,9 @@ pub mod SingleLemmas
 pub mod ExampleLemmas
 pub mod CertificateLemmas
 pub mod PieceLemmas
+mod ChainLemmas
+mod ChainConflicts
+mod ChainHosts
+mod ChainKernels
+mod ChainRules
+mod ChainExampleLemmas

@@ -18,5 +18,7 @@ pub mod Certificates
 pub mod Laws
 -- a small host and a small extension
 pub mod Example
+-- a larger one, in which an extension has a new kernel and a marker as a lookahead
+pub mod ChainExample
 -- extensions given by their grammar and their markers
 pub mod Bridges

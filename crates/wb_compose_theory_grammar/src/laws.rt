@@ -8,6 +8,7 @@ ghost use Rattle.wb_compose_theory.specs.Marks.{IsMarked};
 ghost use Rattle.wb_compose_theory.specs.Renamings.{Renaming};
 ghost use Rattle.wb_compose_theory_grammar.specs.Bridges.{AreMarkers, piece_of};
 ghost use Rattle.wb_compose_theory_grammar.specs.Certificates.{AreCertified, IsCertifiedBy, IsCertifiedPiece};
+ghost use Rattle.wb_compose_theory_grammar.specs.ChainExample.{HasMarkerAhead, HasNewKernel, chain_host, chain_piece};
 ghost use Rattle.wb_compose_theory_grammar.specs.Example.{example_host, example_piece};
 ghost use Rattle.wb_compose_theory_grammar.specs.Laws.{HasSameKernels, HasTogether, IsUnited, KeepsHost};
 ghost use Rattle.wb_compose_theory_grammar.specs.Numberings.{composition_of};
@@ -58,4 +59,12 @@ pub fn certificate_law()
 /// The premises can be met: a small host and two small extensions meet them.
 pub fn example_law()
     ensures { AreCertified example_host (0 ∷ []) (example_piece ∷ example_piece ∷ []) }
+{}
+
+/// They are met by a host and extensions with all that the lookahead rule and the envelope rule speak of: a kernel of the host's items that
+/// is none of the host's, and a marker as a lookahead at a kernel of the host.
+pub fn chain_example_law()
+    ensures certified { AreCertified chain_host (0 ∷ []) (chain_piece ∷ chain_piece ∷ []) }
+    ensures new_kernel { HasNewKernel }
+    ensures marker { HasMarkerAhead }
 {}

@@ -2,8 +2,8 @@
 //!
 //! The report is made before anything is written, so that a fault leaves a prefix of it. Each command has a file for its answer.
 
-ghost use Rattle.std.specs.Prelude.{◌≡◌, ◌⊎◌, IfOk, IfErr};
-ghost use Rattle.wb_world.specs.Cause.{Rose};
+ghost use Rattle.std.specs.Prelude.{◌≡◌, ◌⊎◌, ◌≤◌, IfOk, IfErr};
+ghost use Rattle.wb_world.specs.Cause.{NeverFalls, Rose};
 ghost use Rattle.wb_operations.specs.Kept.{IsKept};
 ghost use Rattle.wb_report.specs.Lines.{report_of};
 ghost use Rattle.wb_program_words.specs.Commands.{asked_by};
@@ -58,6 +58,11 @@ pub fn workbench<S: Shelf, K: Sink, M: Meaning>(
     ensures absent { result ≡ Status.Absent → AbsentCause operations.now.signatures (texts words.now) (S.files shelf.old) (S.absences shelf.old) (S.absences shelf.new) }
     ensures read_fault { result ≡ Status.ReadFault → FaultCause operations.now.signatures (texts words.now) (S.files shelf.old) (S.faults shelf.old) (S.faults shelf.new) }
     ensures write_fault { result ≡ Status.WriteFault → Rose (K.faults sink.old) (K.faults sink.new) }
+
+    // No count falls.
+    ensures absences { NeverFalls (S.absences shelf.old) (S.absences shelf.new) }
+    ensures read_faults { NeverFalls (S.faults shelf.old) (S.faults shelf.new) }
+    ensures write_faults { K.faults sink.old ≤ K.faults sink.new }
 
     // The bytes written are the report that the words and the files have with this status.
     ensures written { Wrote (IsReport (record { signatures = operations.now.signatures; meaning = M.meaning }) (texts words.now) (S.files shelf.old)) (K.written sink.old) (K.written sink.new) result }

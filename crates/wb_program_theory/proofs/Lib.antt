@@ -8,6 +8,7 @@ mod ReportLemmas
 mod RunLemmas
 mod SeveralLemmas
 mod CertifiedLemmas
+mod ExistenceLemmas
 mod CompletenessLemmas
 mod WordLemmas
 mod ChainLemmas

@@ -6,6 +6,8 @@ pub mod Laws
 pub mod RunLaws
 -- reports of files that hold a certified host and certified extensions
 pub mod Certified
+-- that a text has an answer
+pub mod Existence
 -- what a run writes that has a report, and `run` where the attribute has a value
 pub mod Completeness
 -- words that ask for a command with extensions in two orders

@@ -4,6 +4,7 @@ ghost use Rattle.std.specs.Prelude.{ℕ, List};
 ghost use Rattle.wb_operations.specs.Operations.{OperationSignature, Operations};
 ghost use Rattle.wb_program_theory.specs.Certified.{AreCertified, HaveNoRefusal, HaveOneValue};
 ghost use Rattle.wb_program_theory.specs.Completeness.{HaveEnoughSteps, RunComesToValue, WriteAsReported};
+ghost use Rattle.wb_program_theory.specs.Existence.{ComesToAnswer};
 ghost use Rattle.wb_syntax_resolved.specs.declared.resolved.ResolvedParts.{ResolvedParts};
 ghost use Rattle.wb_world.specs.Shelf.{Files};
 
@@ -20,6 +21,11 @@ pub fn no_refusal_law()
     one_extension_answer_law();
     header_law();
 }
+
+/// Such files have a language, in which each text has a tree or a stop: that there is none can't be.
+pub fn text_answer_law()
+    ensures { (operations : List OperationSignature) (files : Files) (host : List ℕ) (extensions : List (List ℕ)) (r : ResolvedParts) (values : List ResolvedParts) → AreCertified operations files host extensions r values → (text : List ℕ) → ¬ ¬ ComesToAnswer operations r values text }
+{}
 
 /// Where words and known files have a report that refuses no specification, a run writes it and ends with its status. Else a write fails,
 /// and a part of it is written, or nothing is, where the run ends at a file or out of memory.

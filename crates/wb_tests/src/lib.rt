@@ -20,6 +20,8 @@ mod long_texts;
 #[cfg(test)]
 mod long_values;
 #[cfg(test)]
+mod many_extensions;
+#[cfg(test)]
 mod odd;
 #[cfg(test)]
 mod open_hosts;

@@ -40,8 +40,8 @@ fn ends_over(alloc: Global, host: &str, row: &LongRow) -> Result<bool, AllocErro
     ends_so(alloc, row.0, &[host, text.as_str()], row.2, row.3)
 }
 
-// The text of the pieces.
-fn text_of(alloc: Global, pieces: &[Piece]) -> Result<String, AllocError> {
+/// The text of the pieces.
+pub fn text_of(alloc: Global, pieces: &[Piece]) -> Result<String, AllocError> {
     let mut text = String::new(alloc);
     for (piece, times) in pieces {
         repeat(&mut text, *piece, *times)?;

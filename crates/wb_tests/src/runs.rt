@@ -94,7 +94,7 @@ pub fn ends_so(
     status: Status,
     report: &str,
 ) -> Result<bool, AllocError> {
-    let mut sink = MemorySink::new(alloc, 1_000_000, 1_000)?;
+    let mut sink = MemorySink::new(alloc, 1_100_000, 1_000)?;
     let ended = status_of(alloc, line, files, &mut sink)?;
     Ok(ended == status && fits(report, sink.bytes()))
 }
@@ -168,8 +168,8 @@ pub fn status_by<M: Meaning>(
     Ok(workbench(alloc, &words, shelf, sink, operations))
 }
 
-// The words of a line after the name of the program, each after one space.
-fn words_of(alloc: Global, line: &str) -> Result<Vec<String>, AllocError> {
+/// The words of a line after the name of the program, each after one space.
+pub fn words_of(alloc: Global, line: &str) -> Result<Vec<String>, AllocError> {
     let mut words = Vec::new(alloc);
     for word in line.split(' ').skip(1) {
         words.push(String::from_str(alloc, word)?)?;

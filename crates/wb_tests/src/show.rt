@@ -3,7 +3,7 @@
 //! Files are in memory, and fail where a test sets them to.
 
 use crate::failing_runs::{Faults, ends_with_faults};
-use crate::long_runs::{LongRow, each_long_ends_so};
+use crate::long_runs::{LongRow, Piece, each_long_ends_so, text_of};
 use crate::prefixes::MINI_PREFIXES;
 use crate::runs::{Row, each_ends_so, ends_so, expect_none, status_of};
 use crate::specifications::{ALL, MINI};
@@ -206,4 +206,28 @@ static LONG: [LongRow; 1] = [(
 #[test]
 fn a_file_past_the_limit_is_too_long(rt: HostRuntime) {
     each_long_ends_so(&rt, &LONG);
+}
+
+// A canonical text whose expression has many parentheses.
+const DEEP: &[Piece] = &[
+    ("format 1;\nhost d;\nterminal T /", 1),
+    ("(", 500_000),
+    ("a", 1),
+    (")", 500_000),
+    ("/;\n", 1),
+];
+
+// Nothing where it is shown as itself.
+fn first_not_shown(alloc: Global) -> Result<Option<usize>, AllocError> {
+    let text = text_of(alloc, DEEP)?;
+    if ends_so(alloc, SHOW, &[text.as_str()], Status::Done, text.as_str())? {
+        Ok(None)
+    } else {
+        Ok(Some(0))
+    }
+}
+
+#[test]
+fn an_expression_may_have_many_parentheses(rt: HostRuntime) {
+    expect_none(&rt, first_not_shown(rt.alloc()));
 }

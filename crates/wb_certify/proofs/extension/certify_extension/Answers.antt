@@ -3,8 +3,13 @@ use Rattle.std.proofs.lemmas.Result.{IfOk-weaker}
 use Rattle.wb_names.specs.Resolving.{ResolvesExtension}
 use Rattle.wb_syntax_resolved.specs.declared.resolved.ResolvedParts.{ResolvedParts}
 use Rattle.wb_certify.specs.Kept.{ArePartsBeside, ExtensionView}
-use Rattle.wb_certify.proofs.ExtensionLemmas.{certified_extension, extension_refused, on_copy}
+use Rattle.wb_certify.proofs.ExtensionLemmas.{certified_extension, extension_refused, of_written, on_copy}
 use Rattle.wb_certify.proofs.extension.certify_extension.Goals as goal
+
+pub certify_beside-answer-requires-clause-extends : goal.certify_beside-answer-requires-clause-extends
+certify_beside-answer-requires-clause-extends g c =
+    of_written c.args.host.now.resolved c.args.spec.now c.in-Ok.resolved (rw c.resolved.ensures.resolved at c.in-Ok.ensures.ok)
+    c.items.ensures.text
 
 pub returns-in-Ok-clause-parts : goal.returns-in-Ok-clause-parts
 returns-in-Ok-clause-parts g c =

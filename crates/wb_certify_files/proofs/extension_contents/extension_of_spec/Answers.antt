@@ -3,7 +3,12 @@ use Rattle.wb_lemmas.proofs.Refusals.{handed_on}
 use Rattle.wb_operations.specs.Operations.{OperationSignature}
 use Rattle.wb_certify_files.specs.Specifications.{IsSpecRefusal}
 use Rattle.wb_certify_files.specs.declared.extension_refusal.FileRefusal.{FileRefusal}
+use Rattle.wb_certify_files.proofs.ExtensionLemmas.{extends_by}
 use Rattle.wb_certify_files.proofs.extension_contents.extension_of_spec.Goals as goal
+
+pub certified-answer-requires-clause-extends : goal.certified-answer-requires-clause-extends
+certified-answer-requires-clause-extends g c =
+    extends_by c.args.host.now.resolved c.args.spec.now c.in_ok-resolved.resolved c.in_ok-resolved.ensures.ok c.items.ensures.text
 
 pub returns-in_err-resolved-clause-refused : goal.returns-in_err-resolved-clause-refused
 returns-in_err-resolved-clause-refused g c =

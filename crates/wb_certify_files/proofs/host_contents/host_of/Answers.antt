@@ -2,7 +2,11 @@ use Rattle.wb_lemmas.proofs.Refusals.{handed_on}
 use Rattle.wb_certify_files.specs.HostContents.{IsHostRefusal}
 use Rattle.wb_certify_files.specs.Inner.Unresolved.{IsUnresolved}
 use Rattle.wb_certify_files.proofs.UnresolvedLemmas.{host_unresolved}
+use Rattle.wb_certify_files.proofs.HostLemmas.{of_text}
 use Rattle.wb_certify_files.proofs.host_contents.host_of.Goals as goal
+
+pub certified-answer-requires : goal.certified-answer-requires
+certified-answer-requires g c = of_text c.args.contents.now c.in_ok-resolved.resolved c.in_ok-resolved.ensures.ok
 
 pub returns-in_err-resolved-clause-refused : goal.returns-in_err-resolved-clause-refused
 returns-in_err-resolved-clause-refused g c =

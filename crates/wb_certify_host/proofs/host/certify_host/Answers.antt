@@ -1,5 +1,9 @@
-use Rattle.wb_certify_host.proofs.HostLemmas.{certified_host, host_refused}
+use Rattle.wb_certify_host.proofs.HostLemmas.{certified_host, host_refused, of_written}
 use Rattle.wb_certify_host.proofs.host.certify_host.Goals as goal
+
+pub certify_resolved-answer-requires : goal.certify_resolved-answer-requires
+certify_resolved-answer-requires g c =
+    of_written c.args.spec.now c.in-Ok.resolved c.in-Ok.ensures.ok c.items.ensures.text
 
 pub returns-in-Ok-clause-certified : goal.returns-in-Ok-clause-certified
 returns-in-Ok-clause-certified g c =

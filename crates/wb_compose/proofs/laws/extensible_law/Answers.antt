@@ -1,5 +1,5 @@
-use Rattle.wb_compose.proofs.JoinedLemmas.{extensible_is}
+use Rattle.wb_compose.proofs.BridgedLemmas.{same_extensible}
 use Rattle.wb_compose.proofs.laws.extensible_law.Goals as goal
 
 pub returns : goal.returns
-returns c = extensible_is
+returns c = same_extensible

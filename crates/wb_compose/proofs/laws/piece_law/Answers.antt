@@ -1,5 +1,5 @@
-use Rattle.wb_compose.proofs.JoinedLemmas.{pieces_are}
+use Rattle.wb_compose.proofs.BridgedLemmas.{bridged_pieces}
 use Rattle.wb_compose.proofs.laws.piece_law.Goals as goal
 
 pub returns : goal.returns
-returns c = pieces_are
+returns c = bridged_pieces
