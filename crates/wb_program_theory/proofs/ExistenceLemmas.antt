@@ -8,8 +8,13 @@ use Rattle.wb_certify_files.specs.ExtensionContents.{IsExtensionText}
 use Rattle.wb_certify_files.specs.HostContents.{IsHostText}
 use Rattle.wb_certify_host.specs.Hosts.{IsCertifiedValue}
 use Rattle.wb_compose.proofs.ExistenceLemmas.{some_answer}
+use Rattle.wb_compose.proofs.WrittenApart.{all_apart, all_certified}
 use Rattle.wb_compose.specs.Joined.{AreCertifiedApart, Extended}
-use Rattle.wb_compose.specs.Written.{name_in}
+use Rattle.wb_compose.specs.Written.{name_in, written_in}
+use Rattle.wb_compose_texts.specs.Names.{name_at, terminals_of}
+use Rattle.wb_compose_texts.specs.Withdrawn.{AreWithdrawnNames}
+use Rattle.wb_compose_theory_language.proofs.WithdrawnExist as withdrawn
+use Rattle.wb_determinism_host.specs.Lexicons.{lexicon_of}
 use Rattle.wb_lemmas.proofs.NotNot.{follows}
 use Rattle.wb_operations.specs.Operations.{OperationSignature}
 use Rattle.wb_syntax_resolved.specs.Resolved.{IsResolved}
@@ -22,7 +27,7 @@ use Rattle.wb_program_theory.specs.Existence.{ComesToAnswer}
 use Rattle.wb_program_theory.proofs.FileLemmas.{all_differ}
 
 -- what follows from the contents of a file follows from the file
-from_file : (file : Option (List ℕ)) (P : List ℕ → Type 0) (Q : Type 0) → ((contents : List ℕ) → P contents → Q) → FileIs file P → Q
+pub from_file : (file : Option (List ℕ)) (P : List ℕ → Type 0) (Q : Type 0) → ((contents : List ℕ) → P contents → Q) → FileIs file P → Q
 from_file None P Q gives is = absurd is
 from_file (Some contents) P Q gives is = gives contents is
 
@@ -92,6 +97,26 @@ module _ (operations : List OperationSignature) (files : Files) (r : ResolvedPar
       apart : AreCertifiedApart r certified.grammar operations is.extended
       apart = record { host_resolved = whole; host_start = certified.start; host_certified = certified; each = is.each }
 
+  -- and a list of markers without a bare form
+  with_withdrawn : (values : List ResolvedParts) → Differ (names_of values) → AreWith values →
+      ¬ ¬ ((names : List (List ℕ)) × AreWithdrawnNames r operations values names)
+  with_withdrawn values differ is =
+      follows (withdrawn.law certified.grammar r.extensible (lexicon_of r certified.grammar) (written_in is.extended)
+      (all_certified r certified.grammar operations is.extended apart)
+      (all_apart r certified.grammar operations is.extended apart
+      (subst Differ (ap names_of (sym is.are) ∙ map_names is.extended) differ))) (λ (numbers, are). (
+        map (name_at (terminals_of r values)) numbers,
+        record {
+          whole = record { grammar = certified.grammar; extended = is.extended; extensions_are = is.are; certified = apart };
+          numbers = numbers;
+          withdrawn = are;
+          is = refl;
+        },
+      ))
+    where
+      apart : AreCertifiedApart r certified.grammar operations is.extended
+      apart = record { host_resolved = whole; host_start = certified.start; host_certified = certified; each = is.each }
+
 -- of certified files every text has an answer
 pub comes_to_answer : (operations : List OperationSignature) (files : Files) (host : List ℕ) (extensions : List (List ℕ))
     (r : ResolvedParts) (values : List ResolvedParts) → AreCertified operations files host extensions r values → (text : List ℕ) →
@@ -101,3 +126,14 @@ comes_to_answer operations files host extensions r values are text =
     with_answer operations files r is.stands.resolved is.certified values (all_differ operations files r extensions values are.each)
     (all_with operations files r is.stands.resolved is.certified extensions [] values are.each
     (record { extended = []; are = refl; each = All-nil (IsOne operations files r is.stands.resolved is.certified) })) text) are.is_host
+
+-- and there is a list of markers without a bare form
+pub has_withdrawn : (operations : List OperationSignature) (files : Files) (host : List ℕ) (extensions : List (List ℕ))
+    (r : ResolvedParts) (values : List ResolvedParts) → AreCertified operations files host extensions r values →
+    ¬ ¬ ((names : List (List ℕ)) × AreWithdrawnNames r operations values names)
+has_withdrawn operations files host extensions r values are =
+    from_file (files host) (λ contents. IsHostText operations contents r)
+    (¬ ¬ ((names : List (List ℕ)) × AreWithdrawnNames r operations values names)) (λ contents is.
+    with_withdrawn operations files r is.stands.resolved is.certified values (all_differ operations files r extensions values are.each)
+    (all_with operations files r is.stands.resolved is.certified extensions [] values are.each
+    (record { extended = []; are = refl; each = All-nil (IsOne operations files r is.stands.resolved is.certified) }))) are.is_host

@@ -10,6 +10,9 @@ mod SeveralLemmas
 mod CertifiedLemmas
 mod ExistenceLemmas
 mod CompletenessLemmas
+mod TreeReports
+mod LineReports
+mod RunReports
 mod WordLemmas
 mod ChainLemmas
 mod AttributeCodes

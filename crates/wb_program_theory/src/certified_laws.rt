@@ -5,6 +5,7 @@ ghost use Rattle.wb_operations.specs.Operations.{OperationSignature, Operations}
 ghost use Rattle.wb_program_theory.specs.Certified.{AreCertified, HaveNoRefusal, HaveOneValue};
 ghost use Rattle.wb_program_theory.specs.Completeness.{HaveEnoughSteps, RunComesToValue, WriteAsReported};
 ghost use Rattle.wb_program_theory.specs.Existence.{ComesToAnswer};
+ghost use Rattle.wb_program_theory.specs.Reported.{HaveCertifyReport, HaveCheckReport, HaveComposeReport, HaveRunReport, HaveTreeReport};
 ghost use Rattle.wb_syntax_resolved.specs.declared.resolved.ResolvedParts.{ResolvedParts};
 ghost use Rattle.wb_world.specs.Shelf.{Files};
 
@@ -51,3 +52,33 @@ pub fn run_comes_law()
 pub fn enough_steps_law()
     ensures { HaveEnoughSteps }
 {}
+
+/// Where words ask for `tree` of such files, and the text's file is known and not too long, they have a report of the text's answer: its
+/// printed tree, its stop, or that the tree is too long to print. That they have none can't be.
+pub fn tree_report_law()
+    ensures { HaveTreeReport }
+{
+    one_extension_answer_law();
+    header_law();
+}
+
+/// Where words ask for `check` and the file holds a certified host, they have a report with status 0; and so have words that ask for
+/// `certify` or `compose` where files are certified. Of `compose` it is said that they have none can't be.
+pub fn line_report_law()
+    ensures check { HaveCheckReport }
+    ensures certify { HaveCertifyReport }
+    ensures compose { HaveComposeReport }
+{
+    one_extension_answer_law();
+    header_law();
+}
+
+/// Where words ask for `run` of such files, the text's file is there, and operations take and give plain values of their kinds, they have a
+/// report of what comes of the text and the attribute: that the attribute may not be asked, that the text is too long, the text's stop, the
+/// attribute's value, a value too long to print, a fault, or that more steps are needed. That they have none can't be.
+pub fn run_report_law()
+    ensures { HaveRunReport }
+{
+    one_extension_answer_law();
+    header_law();
+}

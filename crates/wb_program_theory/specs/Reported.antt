@@ -1,0 +1,72 @@
+-- That words have a report which ask for a command of certified files.
+use Rattle.std.specs.Prelude.{◌≡◌, ℕ, Some, List}
+use Rattle.wb_certify_files.specs.HostContents.{IsHostText}
+use Rattle.wb_eval_theory.specs.Evaluable.{AreOperations}
+use Rattle.wb_operations.specs.Operations.{Operations}
+use Rattle.wb_syntax_resolved.specs.declared.resolved.ResolvedParts.{ResolvedParts}
+use Rattle.wb_world.specs.Shelf.{Files}
+use Rattle.wb_program_words.specs.Asked.{Asked}
+use Rattle.wb_program_words.specs.Asked as a
+use Rattle.wb_program_words.specs.Words.{Asks}
+use Rattle.wb_program_inputs.specs.Checks.{Report}
+use Rattle.wb_program_inputs.specs.Files.{KnownFile}
+use Rattle.wb_program_inputs.specs.Texts.{IsText}
+use Rattle.wb_program_inputs.specs.declared.status.Status.{Status}
+use Rattle.wb_program_inputs.specs.declared.status.Status.TheVariants.{Done}
+use Rattle.wb_program.specs.Report.{IsReport}
+use Rattle.wb_program_theory.specs.Certified.{AreCertified, IsRefusalStatus}
+use Rattle.wb_program_theory.specs.Laws.{IsAnswerStatus}
+use Rattle.wb_program_theory.specs.RunLaws.{IsRunStatus}
+
+-- something is reported, with such a status
+pub record IsReported (report : Report) (IsSuch : Status → Type 0) : Type 0 where
+  pub status : Status
+  pub bytes : List ℕ
+  pub such : IsSuch status
+  pub is : report status bytes
+
+-- words and known files have a report, with such a status
+abbrev pub HaveReport : Operations → List (List ℕ) → Files → (Status → Type 0) → Type 0
+HaveReport operations words files IsSuch = IsReported (IsReport operations words (Some files)) IsSuch
+
+-- where the words ask for `tree`, files are certified, and the text's file is known and isn't too long, they have a report of the text's
+-- answer: that they have none can't be
+abbrev pub HaveTreeReport : Type 0
+HaveTreeReport = (operations : Operations) (words : List (List ℕ)) (files : Files) (text host : List ℕ) (extensions : List (List ℕ))
+    (r : ResolvedParts) (values : List ResolvedParts) (contents : List ℕ) → Asks words (a.tree text host extensions)
+    → AreCertified operations.signatures files host extensions r values → IsText (Some files) text contents
+    → ¬ ¬ HaveReport operations words files IsAnswerStatus
+
+-- the status is 0
+abbrev pub IsDone : Status → Type 0
+IsDone status = status ≡ Done
+
+-- where the words ask for `check` and the file holds a certified host, they have a report with status 0
+abbrev pub HaveCheckReport : Type 0
+HaveCheckReport = (operations : Operations) (words : List (List ℕ)) (files : Files) (host : List ℕ) (r : ResolvedParts)
+    → Asks words (a.check host) → KnownFile (Some files) host (λ contents. IsHostText operations.signatures contents r)
+    → HaveReport operations words files IsDone
+
+-- where they ask for `certify` and files are certified, they have one with status 0
+abbrev pub HaveCertifyReport : Type 0
+HaveCertifyReport = (operations : Operations) (words : List (List ℕ)) (files : Files) (host : List ℕ) (extensions : List (List ℕ))
+    (r : ResolvedParts) (values : List ResolvedParts) → Asks words (a.certify host extensions)
+    → AreCertified operations.signatures files host extensions r values → HaveReport operations words files IsDone
+
+-- where they ask for `compose` and files are certified, they have one with status 0: that they have none can't be
+abbrev pub HaveComposeReport : Type 0
+HaveComposeReport = (operations : Operations) (words : List (List ℕ)) (files : Files) (host : List ℕ) (extensions : List (List ℕ))
+    (r : ResolvedParts) (values : List ResolvedParts) → Asks words (a.compose host extensions)
+    → AreCertified operations.signatures files host extensions r values → ¬ ¬ HaveReport operations words files IsDone
+
+-- the file is there
+abbrev pub IsThere : Files → List ℕ → Type 0
+IsThere files file = (contents : List ℕ) × (files file ≡ Some contents)
+
+-- where the words ask for `run`, operations take and give plain values of their kinds, files are certified, and the text's file is there,
+-- they have a report of what comes of the text and the attribute: that they have none can't be
+abbrev pub HaveRunReport : Type 0
+HaveRunReport = (operations : Operations) (words : List (List ℕ)) (files : Files) (text name : List ℕ) (steps : ℕ) (host : List ℕ)
+    (extensions : List (List ℕ)) (r : ResolvedParts) (values : List ResolvedParts) → AreOperations operations
+    → Asks words (a.run text name steps host extensions) → AreCertified operations.signatures files host extensions r values
+    → IsThere files text → ¬ ¬ HaveReport operations words files IsRunStatus
