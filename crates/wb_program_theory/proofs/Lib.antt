@@ -13,6 +13,7 @@ mod CompletenessLemmas
 mod TreeReports
 mod LineReports
 mod RunReports
+mod ReportsExist
 mod WordLemmas
 mod ChainLemmas
 mod AttributeCodes

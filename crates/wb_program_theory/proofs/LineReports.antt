@@ -1,10 +1,9 @@
 -- Words that ask for `check`, `certify` or `compose` have a report, where files are certified.
-use Rattle.std.proofs.Common.{◌≡◌, ◌++◌, ◌∷◌, [], ℕ, List, Some, inl, inr, length, map, refl}
+use Rattle.std.proofs.Common.{◌++◌, ◌∷◌, [], ℕ, List, Some, inr, length, refl}
 use Rattle.wb_certify.specs.Extensions.{IsOneExtension}
 use Rattle.wb_certify_files.specs.ExtensionContents.{IsExtensionText}
-use Rattle.wb_compose_texts.specs.Withdrawn.{AreWithdrawnNames}
 use Rattle.wb_lemmas.proofs.NotNot.{follows}
-use Rattle.wb_operations.specs.Operations.{OperationSignature, Operations}
+use Rattle.wb_operations.specs.Operations.{OperationSignature}
 use Rattle.wb_report.specs.Lines.{report_of}
 use Rattle.wb_report.specs.declared.done.Done.TheVariants as done
 use Rattle.wb_report.specs.declared.outcome.Outcome.TheVariants as o
@@ -16,7 +15,7 @@ use Rattle.wb_program_inputs.specs.declared.status.Status.TheVariants.{Done}
 use Rattle.wb_program_words.specs.Asked as a
 use Rattle.wb_program.specs.CertifyReport.{ExtensionsReport}
 use Rattle.wb_program.specs.Report.{certify_report, check_report, compose_report}
-use Rattle.wb_program_theory.specs.Certified.{AreCertified, ComposeChecks}
+use Rattle.wb_program_theory.specs.Certified.{ComposeChecks}
 use Rattle.wb_program_theory.specs.Reported.{HaveCertifyReport, HaveCheckReport, HaveComposeReport, IsDone, IsReported}
 use Rattle.wb_program_theory.proofs.CertifiedLemmas.{reports}
 use Rattle.wb_program_theory.proofs.ExistenceLemmas.{from_file, has_withdrawn}

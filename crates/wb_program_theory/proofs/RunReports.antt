@@ -1,5 +1,5 @@
 -- Words that ask for `run` have a report, where files are certified and the text's file is there.
-use Rattle.std.proofs.Common.{◌≡◌, ◌<◌, ◌≤◌, ◌⊎◌, ◌∙◌, ℕ, List, Option, Some, inl, inr, length, map, slice_get, refl, sym, ap, subst}
+use Rattle.std.proofs.Common.{◌≡◌, ◌<◌, ◌≤◌, ◌⊎◌, ◌∙◌, ℕ, List, Some, inl, inr, length, map, slice_get, refl, sym, ap, subst}
 use Rattle.std.proofs.lemmas.Bool.{cases_lt}
 use Rattle.std.proofs.lemmas.Simd.{map-map}
 use Rattle.wb_base.specs.Different.{Differ}
@@ -10,7 +10,7 @@ use Rattle.wb_compose.specs.Joined.{Extended}
 use Rattle.wb_compose.specs.Written.{name_in}
 use Rattle.wb_compose_texts.specs.Names.{stop_shown, terminals_of}
 use Rattle.wb_compose_texts.specs.Roots.{IsAskedIn, attributes_in}
-use Rattle.wb_compose_texts.specs.Unions.{Union, united_of}
+use Rattle.wb_compose_texts.specs.Unions.{united_of}
 use Rattle.wb_compose_texts.specs.declared.value.TextValue.TheVariants as v
 use Rattle.wb_eval_root.specs.Values.{ComesTo, HasPrintedValue, operation_shown}
 use Rattle.wb_eval_root.specs.declared.value.TreeValue.TheVariants as t
@@ -47,7 +47,7 @@ use Rattle.wb_program_runs.specs.Values.{TextValueReport}
 use Rattle.wb_program_words.specs.Asked as a
 use Rattle.wb_program.specs.Report.{run_report}
 use Rattle.wb_program_theory.specs.Existence.{ComesToAnswer}
-use Rattle.wb_program_theory.specs.Reported.{HaveRunReport, IsReported, IsThere}
+use Rattle.wb_program_theory.specs.Reported.{HaveRunReport, IsReported}
 use Rattle.wb_program_theory.specs.RunLaws.{IsRunStatus}
 use Rattle.wb_program_theory.proofs.CertifiedLemmas.{reports}
 use Rattle.wb_program_theory.proofs.ExistenceLemmas.{comes_to_answer}
@@ -265,8 +265,8 @@ pub have_run_report : ExcludesExtensions → ExcludesHeaders → HaveRunReport
 have_run_report excludes headers operations words files file name steps host all r values ops asks are (text, there) =
     bind (comes_to_answer operations.signatures files host all r values are text) (λ x.
     bind (decide ((attribute : ℕ) × IsAskedIn r operations.signatures values x.whole name attribute)) (λ one.
-    follows (checked operations files file name steps r values (all_differ operations.signatures files r all values are.each) ops text there x
-    one) (λ rest. record {
+    follows (checked operations files file name steps r values (all_differ operations.signatures files r all values are.each) ops text
+    there x one) (λ rest. record {
       status = rest.status;
       bytes = rest.bytes;
       such = rest.such;

@@ -14,7 +14,7 @@ use Rattle.wb_report.specs.declared.done.Done.TheVariants as done
 use Rattle.wb_report.specs.declared.outcome.Outcome.TheVariants as o
 use Rattle.wb_scan_theory.specs.Readings.{a_stop, a_tree}
 use Rattle.wb_scan_theory.specs.Shown.{Shows, values_of}
-use Rattle.wb_scan_theory.specs.Texts.{HasAnswer, ParsesTo}
+use Rattle.wb_scan_theory.specs.Texts.{HasAnswer}
 use Rattle.wb_syntax_resolved.specs.declared.resolved.ResolvedParts.{ResolvedParts}
 use Rattle.wb_terms.specs.Printed.{printed_tree}
 use Rattle.wb_values.specs.Tree.{Tree}

@@ -14,7 +14,7 @@ use Rattle.wb_program_inputs.specs.Texts.{IsText}
 use Rattle.wb_program_inputs.specs.declared.status.Status.{Status}
 use Rattle.wb_program_inputs.specs.declared.status.Status.TheVariants.{Done}
 use Rattle.wb_program.specs.Report.{IsReport}
-use Rattle.wb_program_theory.specs.Certified.{AreCertified, IsRefusalStatus}
+use Rattle.wb_program_theory.specs.Certified.{AreCertified}
 use Rattle.wb_program_theory.specs.Laws.{IsAnswerStatus}
 use Rattle.wb_program_theory.specs.RunLaws.{IsRunStatus}
 
@@ -70,3 +70,24 @@ HaveRunReport = (operations : Operations) (words : List (List ℕ)) (files : Fil
     (extensions : List (List ℕ)) (r : ResolvedParts) (values : List ResolvedParts) → AreOperations operations
     → Asks words (a.run text name steps host extensions) → AreCertified operations.signatures files host extensions r values
     → IsThere files text → ¬ ¬ HaveReport operations words files IsRunStatus
+
+-- what is asked of these files: `check`, `certify`, `compose`, or `tree` or `run` where the text's file is there
+pub data IsAskedOf (files : Files) (host : List ℕ) (extensions : List (List ℕ)) : Asked → Type 0 where
+  of_check : IsAskedOf files host extensions (a.check host)
+  of_certify : IsAskedOf files host extensions (a.certify host extensions)
+  of_compose : IsAskedOf files host extensions (a.compose host extensions)
+  of_tree : {text : List ℕ} → IsThere files text → IsAskedOf files host extensions (a.tree text host extensions)
+  of_run : {text name : List ℕ} {steps : ℕ} → IsThere files text
+      → IsAskedOf files host extensions (a.run text name steps host extensions)
+
+-- any status
+abbrev pub IsAny : Status → Type 0
+IsAny status = Unit {0}
+
+-- where operations take and give plain values of their kinds, files are certified, and the words ask for one of these commands of them,
+-- they have a report: that they have none can't be
+abbrev pub HaveReports : Type 0
+HaveReports = (operations : Operations) (words : List (List ℕ)) (files : Files) (host : List ℕ) (extensions : List (List ℕ))
+    (r : ResolvedParts) (values : List ResolvedParts) (asked : Asked) → AreOperations operations
+    → AreCertified operations.signatures files host extensions r values → IsAskedOf files host extensions asked → Asks words asked
+    → ¬ ¬ HaveReport operations words files IsAny

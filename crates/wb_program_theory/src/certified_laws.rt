@@ -5,7 +5,8 @@ ghost use Rattle.wb_operations.specs.Operations.{OperationSignature, Operations}
 ghost use Rattle.wb_program_theory.specs.Certified.{AreCertified, HaveNoRefusal, HaveOneValue};
 ghost use Rattle.wb_program_theory.specs.Completeness.{HaveEnoughSteps, RunComesToValue, WriteAsReported};
 ghost use Rattle.wb_program_theory.specs.Existence.{ComesToAnswer};
-ghost use Rattle.wb_program_theory.specs.Reported.{HaveCertifyReport, HaveCheckReport, HaveComposeReport, HaveRunReport, HaveTreeReport};
+ghost use Rattle.wb_program_theory.specs.Reported.{HaveCertifyReport, HaveCheckReport, HaveComposeReport, HaveReports};
+ghost use Rattle.wb_program_theory.specs.Reported.{HaveRunReport, HaveTreeReport};
 ghost use Rattle.wb_syntax_resolved.specs.declared.resolved.ResolvedParts.{ResolvedParts};
 ghost use Rattle.wb_world.specs.Shelf.{Files};
 
@@ -78,6 +79,15 @@ pub fn line_report_law()
 /// attribute's value, a value too long to print, a fault, or that more steps are needed. That they have none can't be.
 pub fn run_report_law()
     ensures { HaveRunReport }
+{
+    one_extension_answer_law();
+    header_law();
+}
+
+/// So words that ask for `check`, `certify`, `compose`, `tree` or `run` of certified files have a report, where a text's file is there:
+/// that they have none can't be.
+pub fn report_law()
+    ensures { HaveReports }
 {
     one_extension_answer_law();
     header_law();
