@@ -19,7 +19,7 @@ use Rattle.wb_compose_theory.specs.Worlds.{World, both, plus}
 use Rattle.wb_determinism_theory.specs.Beside.{IsKeptBeside}
 use Rattle.wb_determinism_theory.specs.Known.{KeepsAt}
 use Rattle.wb_determinism_theory.specs.Laws.{IsPrepared}
-use Rattle.wb_determinism_theory.specs.Terminals.{AreTerminals}
+use Rattle.wb_determinism_theory.specs.Inner.Terminals.{AreTerminals}
 use Rattle.wb_determinism_theory.proofs.ActionLemmas.{no_conflict_known, valid_known}
 use Rattle.wb_determinism_theory.proofs.KnownLemmas.{known_exact}
 use Rattle.wb_determinism_theory.proofs.SeamLemmas.{beside, host_there, known_back, phi_back, phi_there}

@@ -29,7 +29,7 @@ use Rattle.wb_compose_theory.specs.Worlds.{IsProductionIn, Mark, World, bare, bo
 use Rattle.wb_determinism_theory.specs.Beside.{IsBeside, IsKnown, IsKnownItem, StandsAs, bridge}
 use Rattle.wb_determinism_theory.specs.Known.{IsKnownLookahead, IsSourced}
 use Rattle.wb_determinism_theory.specs.Laws.{IsPrepared}
-use Rattle.wb_determinism_theory.specs.Terminals.{AreTerminals}
+use Rattle.wb_determinism_theory.specs.Inner.Terminals.{AreTerminals}
 use Rattle.wb_determinism_theory.proofs.KnownLemmas.{item_known, known_closes, known_item_true, known_true, marked_rule, standing}
 
 module _ {g k : GrammarView} {up : Renaming} {phi_of : ℕ → ℕ} {w : World} {e : ℕ} {r s : Renaming}

@@ -32,7 +32,7 @@ use Rattle.wb_compose_theory_grammar.proofs.SymbolLemmas.{of_hole, of_piece, of_
 use Rattle.wb_compose_theory_grammar.proofs.SymbolLemmas.{piece_terminal, rest_facts, terminal_view}
 use Rattle.wb_determinism_theory.specs.Beside.{IsBeside, IsKeptBeside}
 use Rattle.wb_determinism_theory.specs.Laws.{IsPrepared}
-use Rattle.wb_determinism_theory.specs.Terminals.{AreTerminals}
+use Rattle.wb_determinism_theory.specs.Inner.Terminals.{AreTerminals}
 use Rattle.wb_determinism_theory.proofs.KeptLemmas.{kept_beside}
 use Rattle.wb_determinism_theory.proofs.SeamLemmas.{beside}
 

@@ -1,0 +1,2 @@
+-- terminals of a grammar that is a part of a world
+pub mod Terminals
