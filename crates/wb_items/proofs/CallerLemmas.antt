@@ -1,196 +1,186 @@
 -- What a union leaves in the sets at items, and how rows belong to kernels.
-use Rattle.std.proofs.Common.{◌≡◌, ℕ, ◌+◌, ◌<◌, ◌⊎◌, Bool, List, [], length, get_or, set, map, Some, refl, sym, ◌∙◌, ap, subst, inl, inr}
+use Rattle.std.proofs.Common.{◌≡◌, ℕ, ◌+◌, ◌<◌, ◌⊎◌, Bool, List, [], length, get_or, set, Some, refl, sym, ◌∙◌, ap, subst, inl, inr}
 use Rattle.std.proofs.Common.{arith}
 use Rattle.std.proofs.Common.{length-set, get_or-set_same, get_or-set_other}
-use Rattle.std.specs.Prelude.{All, Contains, slice_get, option_map}
+use Rattle.std.specs.Prelude.{All, Contains, IsTrue, false, slice_get, slice_set, option_map}
 use Rattle.std.proofs.lemmas.Bool.{cases_eq, cases_lt}
-use Rattle.std.proofs.lemmas.List.{get_or-map, get_or_past, length-map, map-set, set-get_or}
-use Rattle.std.proofs.lemmas.List.Elements.{All-set, All-get_or, All-contains}
-use Rattle.std.proofs.lemmas.Option.{slice_get-map, slice_get_read, slice_get_within, get_or_from_slice_get, same_Some}
+use Rattle.std.proofs.lemmas.List.{get_or_past}
+use Rattle.std.proofs.lemmas.List.Elements.{All-set, All-get_or}
+use Rattle.std.proofs.lemmas.Option.{slice_get-map}
 use Rattle.wb_lemmas.proofs.Places.{at_once}
 use Rattle.wb_lemmas.proofs.Members.{contains_at}
 use Rattle.wb_grammar_theory.specs.declared.item.Item.{Item}
 use Rattle.wb_grammar_theory.specs.Items.{HasItem}
-use Rattle.wb_termset.specs.Sets.{IsMember, IsEmpty}
+use Rattle.wb_base.specs.Grammar.{GrammarView}
+use Rattle.wb_termset.specs.Sets.{Grew, IsEmpty, IsMember, IsUnion}
 use Rattle.wb_items.specs.declared.item_lookahead.ItemLookahead.{ItemLookahead}
+use Rattle.wb_items.specs.Apart.{AreApart, BelongTogether}
 use Rattle.wb_items.specs.Kernels.{KernelsView, AreKernels, Precedes, closure_of, count_of, prefix_of}
-use Rattle.wb_items.specs.Lookaheads.{AreEmpty, AreLookaheadsOf, ChangesAt, IsSetOf, Lists, Unites, items_in, row_of}
+use Rattle.wb_items.specs.Lookaheads.{AnswersUnion, AreEmpty, AreLookaheadsOf, AreNumbered, HasNumber, IsSetOf, Lists, LookaheadsView}
+use Rattle.wb_items.specs.Lookaheads.{Unites, items_in, items_of, numbers_of, row_of, set_of}
+use Rattle.wb_items.proofs.RowLemmas.{listed_by, lists_by, numbered, place_number, row_items_are, set_number}
 
--- a terminal is in a set at the item of the row
-abbrev RowLists : List ItemLookahead → Item → ℕ → Type 0
-RowLists row item t = (s : List Bool) × Contains row (record { item = item; set = s }) × IsMember s t
+-- two items have one set
+abbrev pub ShareSet : LookaheadsView → ℕ → Item → ℕ → Item → Type 0
+ShareSet l s one k other = (n : ℕ) × HasNumber l s one n × HasNumber l k other n
 
-abbrev looks_of : Item → List Bool → ItemLookahead
-looks_of item s = record { item = item; set = s }
+-- the place of an item is one alone
+not_before : (item : Item) → Precedes item item → ⊥
+not_before item (inl less) = omega arith
+not_before item (inr less) = (let f = less.1 in omega (arith, f))
 
-module _ {old new : List (List ItemLookahead)} {s : ℕ} {item : Item} {added : List Bool} (u : Unites old s item added new) where
-  abbrev changed : ItemLookahead
-  changed = record { item = u.looks.item; set = u.union }
-
-  abbrev row : List ItemLookahead
-  row = row_of old s
-
-  abbrev new_row : List ItemLookahead
-  new_row = set row u.place changed
-
-  place_within : u.place < length row
-  place_within = slice_get_within row u.place u.looks u.at
-
-  looks_at : (d : ItemLookahead) → get_or row u.place d ≡ u.looks
-  looks_at d = get_or_from_slice_get row u.place u.looks d u.at
-
-  new_holds : Contains new_row changed
-  new_holds = (
-    u.place,
-    (let lt = place_within in omega (arith, length-set row u.place changed)),
-    get_or-set_same row u.place changed changed
-        place_within,
-  )
-
-  -- what the row lists it goes on to list
-  row_keeps : (i : Item) (t : ℕ) → RowLists row i t → RowLists new_row i t
-  row_keeps i t (a, (k, lt, e), has) = elim (cases_eq k u.place) [
-    | inl same ↦
-        let is : u.looks ≡ looks_of i a = sym (looks_at (looks_of i a)) ∙ ap (λ z. get_or row z (looks_of i a)) (sym same) ∙ e in
-        let set_is : u.looks.set ≡ a = ap (λ (z : ItemLookahead). z.set) is in
-        let item_is : u.looks.item ≡ i = ap (λ (z : ItemLookahead). z.item) is in (
-          u.union,
-          subst (λ z. Contains new_row (looks_of z u.union)) item_is new_holds,
-          (u.joined.each t).1 (inl (subst (λ z. IsMember z t) (sym set_is) has)),
-        )
-    | inr other ↦ (
-      a,
-      (k, (omega (arith, length-set row u.place changed, lt)), get_or-set_other row u.place k changed (looks_of i a) other ∙ e),
-      has,
-    )
+module _ {l : LookaheadsView} (h : AreNumbered l) where
+  pub place_once : (s : ℕ) (item : Item) (i j : ℕ) → slice_get (items_of l s) i ≡ Some item → slice_get (items_of l s) j ≡ Some item → i ≡ j
+  place_once s item i j at at' = elim (cases_eq i j) [
+    | inl same ↦ same
+    | inr other ↦ absurd (elim (cases_lt i j) [
+      | inl less ↦ not_before item (h.in_order s i j item item less at at')
+      | inr more ↦ not_before item (h.in_order s j i item item (omega (arith, more, other)) at' at)
+    ])
   ]
 
-  -- what the new row lists it listed, or it was added
-  row_new : (i : Item) (t : ℕ) → RowLists new_row i t → RowLists row i t ⊎ ((i ≡ u.looks.item) × IsMember added t)
-  row_new i t (a, (k, lt, e), has) = elim (cases_eq k u.place) [
-    | inl same ↦
-        let is : changed ≡ looks_of i a = sym (get_or-set_same row u.place changed (looks_of i a) place_within)
-        ∙ ap (λ z. get_or new_row z (looks_of i a)) (sym same) ∙ e in
-        let set_is : u.union ≡ a = ap (λ (z : ItemLookahead). z.set) is in
-        let item_is : u.looks.item ≡ i = ap (λ (z : ItemLookahead). z.item) is in
-        elim ((u.joined.each t).0 (subst (λ z. IsMember z t) (sym set_is) has)) [
-          | inl before ↦ inl (subst (λ z. RowLists row z t) item_is (u.looks.set, (u.place, place_within, looks_at u.looks), before))
-          | inr fresh ↦ inr (sym item_is, fresh)
-        ]
-    | inr other ↦ inl (
-      a,
-      (k, (omega (arith, length-set row u.place changed, lt)), sym (get_or-set_other row u.place k changed (looks_of i a) other) ∙ e),
-      has,
-    )
-  ]
+  -- and so is its number
+  pub number_once : (s : ℕ) (item : Item) (m n : ℕ) → HasNumber l s item m → HasNumber l s item n → m ≡ n
+  number_once s item m n (i, at, has) (j, at', has') =
+      at_once (numbers_of l s) j m n (subst (λ z. slice_get (numbers_of l s) z ≡ Some m) (place_once s item i j at at') has) has'
 
-  row_same : s < length old → row_of new s ≡ new_row
-  row_same lt = ap (λ z. row_of z s) u.is ∙ get_or-set_same old s new_row [] lt
+module _ {old new : LookaheadsView} {s : ℕ} {item : Item} {added : List Bool} (u : Unites old s item added new) where
+  new_sets : (n : ℕ) → set_of new n ≡ get_or (set old.sets u.number u.union) n []
+  new_sets n = ap (λ (z : LookaheadsView). set_of z n) u.is
 
-  row_other : (k : ℕ) → (k ≡ s → ⊥) → row_of new k ≡ row_of old k
-  row_other k ne = ap (λ z. row_of z k) u.is ∙ get_or-set_other old s k new_row [] ne
+  changed : set_of new u.number ≡ u.union
+  changed = new_sets u.number ∙ get_or-set_same old.sets u.number u.union [] u.below
+
+  pub stayed : (n : ℕ) → (n ≡ u.number → ⊥) → set_of new n ≡ set_of old n
+  stayed n other = new_sets n ∙ get_or-set_other old.sets u.number n u.union [] other
+
+  -- items keep their numbers
+  pub number_kept : (k : ℕ) (i : Item) (n : ℕ) → HasNumber old k i n → HasNumber new k i n
+  number_kept k i n = subst (λ (z : LookaheadsView). HasNumber old k i n → HasNumber z k i n) (sym u.is) (λ x. x)
+
+  pub number_back : (k : ℕ) (i : Item) (n : ℕ) → HasNumber new k i n → HasNumber old k i n
+  number_back k i n = subst (λ (z : LookaheadsView). HasNumber z k i n → HasNumber old k i n) (sym u.is) (λ x. x)
 
   -- what was listed stays
-  pub lists_kept : s < length old → (k : ℕ) (i : Item) (t : ℕ) → Lists old k i t → Lists new k i t
-  lists_kept lt k i t h = elim (cases_eq k s) [
-    | inl same ↦ subst (λ z. RowLists z i t) (sym (ap (row_of new) same ∙ row_same lt))
-        (row_keeps i t (subst (λ z. RowLists (row_of old z) i t) same h))
-    | inr other ↦ subst (λ z. RowLists z i t) (sym (row_other k other)) h
-  ]
+  pub lists_kept : (k : ℕ) (i : Item) (t : ℕ) → Lists old k i t → Lists new k i t
+  lists_kept k i t lists =
+      let (n, here, has) = listed_by old k i t lists in
+      lists_by new k i n t (number_kept k i n here) (elim (cases_eq n u.number) [
+        | inl same ↦ subst (λ z. IsMember (set_of new z) t) (sym same)
+            (subst (λ z. IsMember z t) (sym changed) ((u.joined.each t).1 (inl (subst (λ z. IsMember (set_of old z) t) same has))))
+        | inr other ↦ subst (λ z. IsMember z t) (sym (stayed n other)) has
+      ])
 
-  -- what is listed was listed, or was added
-  pub lists_new : s < length old → (k : ℕ) (i : Item) (t : ℕ) → Lists new k i t → Lists old k i t ⊎
-      ((k ≡ s) × (i ≡ item) × IsMember added t)
-  lists_new lt k i t h = elim (cases_eq k s) [
-    | inl same ↦ elim (row_new i t (subst (λ z. RowLists z i t) (ap (row_of new) same ∙ row_same lt) h)) [
-      | inl before ↦ inl (subst (λ z. RowLists (row_of old z) i t) (sym same) before)
-      | inr fresh ↦ inr (same, fresh.0 ∙ u.item_is, fresh.1)
-    ]
-    | inr other ↦ inl (subst (λ z. RowLists z i t) (row_other k other) h)
-  ]
+  -- what is listed was listed, or was added and the item shares the set
+  pub lists_new : (k : ℕ) (i : Item) (t : ℕ) → Lists new k i t → Lists old k i t ⊎ (ShareSet old s item k i × IsMember added t)
+  lists_new k i t lists =
+      let (n, there, has) = listed_by new k i t lists in
+      let here : HasNumber old k i n = number_back k i n there in
+      elim (cases_eq n u.number) [
+        | inl same ↦
+            let member : IsMember u.union t = subst (λ z. IsMember z t) (ap (set_of new) same ∙ changed) has in
+            elim ((u.joined.each t).0 member) [
+              | inl before ↦ inl (lists_by old k i n t here (subst (λ z. IsMember (set_of old z) t) (sym same) before))
+              | inr fresh ↦ inr ((u.number, u.has, subst (HasNumber old k i) same here), fresh)
+            ]
+        | inr other ↦ inl (lists_by old k i n t here (subst (λ z. IsMember z t) (stayed n other) has))
+      ]
 
   -- what was added is listed
-  pub lists_added : s < length old → (t : ℕ) → IsMember added t → Lists new s item t
-  lists_added lt t has = subst (λ z. RowLists z item t) (sym (row_same lt))
-      (subst (λ z. RowLists new_row z t) u.item_is (u.union, new_holds, (u.joined.each t).1 (inr has)))
-
-  items_kept : items_in new_row ≡ items_in row
-  items_kept =
-      map-set (λ (z : ItemLookahead). z.item) row u.place changed
-      ∙ ap (set (items_in row) u.place) (sym (get_or-map (λ (z : ItemLookahead). z.item) row u.place u.looks u.looks.item place_within
-      ∙ ap (λ (z : ItemLookahead). z.item) (looks_at u.looks)))
-      ∙ set-get_or (items_in row) u.place u.looks.item
+  pub lists_added : (t : ℕ) → IsMember added t → Lists new s item t
+  lists_added t has = lists_by new s item u.number t (number_kept s item u.number u.has)
+      (subst (λ z. IsMember z t) (sym changed) ((u.joined.each t).1 (inr has)))
 
   -- a set for each item stays a set for each item
-  pub shape_kept : {kernels : KernelsView} → s < length old → AreLookaheadsOf kernels old → AreLookaheadsOf kernels new
-  shape_kept {kernels} lt h =
-      let wide = λ (looks : ItemLookahead). length looks.set ≡ kernels.grammar.terminals + 1 in
-      let row_wide : All wide row = All-get_or (All wide) old s [] lt h.widths in
-      let looks_wide : length u.looks.set ≡ kernels.grammar.terminals + 1 =
-      subst wide (looks_at u.looks) (All-get_or wide row u.place u.looks place_within row_wide) in
+  pub numbered_kept : AreNumbered old → AreNumbered new
+  numbered_kept h = subst AreNumbered (sym u.is) (record {
+    rows = h.rows;
+    fit = h.fit;
+    below = λ k place n at. (let lt = h.below k place n at in let e = length-set old.sets u.number u.union in omega (arith, lt, e));
+    in_order = h.in_order;
+  })
+
+  pub shape_kept : {kernels : KernelsView} → AreLookaheadsOf kernels old → AreLookaheadsOf kernels new
+  shape_kept {kernels} h =
+      let wide = λ (z : List Bool). length z ≡ kernels.grammar.terminals + 1 in
       record {
-        items = ap (map items_in) u.is ∙ map-set items_in old s new_row
-            ∙ ap (set (map items_in old) s) (items_kept ∙ sym (get_or-map items_in old s [] [] lt))
-            ∙ set-get_or (map items_in old) s [] ∙ h.items;
-        widths = subst (All (All wide)) (sym u.is) (All-set (All wide) old s new_row
-            (All-set wide row u.place changed (u.joined.len ∙ looks_wide) row_wide) h.widths);
+        items = ap (λ (z : LookaheadsView). z.items) u.is ∙ h.items;
+        numbered = numbered_kept h.numbered;
+        widths = subst (λ (z : LookaheadsView). All wide z.sets) (sym u.is) (All-set wide old.sets u.number u.union
+            (u.joined.len ∙ All-get_or wide old.sets u.number [] u.below h.widths) h.widths);
       }
 
-module _ {kernels : KernelsView} (h : AreKernels kernels) (lookaheads : List (List ItemLookahead))
-    (shape : AreLookaheadsOf kernels lookaheads) where
-  pub rows_within : length lookaheads ≡ count_of kernels
-  rows_within = sym (length-map lookaheads items_in) ∙ ap length shape.items ∙ h.closures_len
+  -- items that are apart stay so
+  pub apart_kept : (g : GrammarView) → AreApart g old → AreApart g new
+  apart_kept g h k j one other m n p q = h k j one other m n (number_back k one m p) (number_back j other n q)
 
-  pub row_items : (s : ℕ) → s < count_of kernels → items_in (row_of lookaheads s) ≡ closure_of kernels s
-  row_items s lt = sym (get_or-map items_in lookaheads s [] [] (omega (arith, rows_within, lt))) ∙ ap (λ z. get_or z s []) shape.items
+module _ {kernels : KernelsView} (h : AreKernels kernels) (lookaheads : LookaheadsView) (shape : AreLookaheadsOf kernels lookaheads) where
+  pub rows_within : length lookaheads.items ≡ count_of kernels
+  rows_within = ap length shape.items ∙ h.closures_len
+
+  pub items_are : (s : ℕ) → items_of lookaheads s ≡ closure_of kernels s
+  items_are s = ap (λ z. get_or z s []) shape.items
+
+  pub row_items : (s : ℕ) → items_in (row_of lookaheads s) ≡ closure_of kernels s
+  row_items s = row_items_are shape.numbered s ∙ items_are s
 
   -- the row of a kernel has its items
   pub row_has : (s : ℕ) (item : Item) → s < count_of kernels → HasItem kernels.grammar (prefix_of kernels s) item →
       Contains (items_in (row_of lookaheads s)) item
-  row_has s item lt has = subst (λ z. Contains z item) (sym (row_items s lt)) ((h.closures s lt item).1 has)
+  row_has s item lt has = subst (λ z. Contains z item) (sym (row_items s)) ((h.closures s lt item).1 has)
 
-  -- the sets of a row have room for every terminal and the end
-  pub row_wide : (s : ℕ) → s < count_of kernels →
-      All (λ (looks : ItemLookahead). length looks.set ≡ kernels.grammar.terminals + 1) (row_of lookaheads s)
-  row_wide s lt = All-get_or (All (λ (looks : ItemLookahead). length looks.set ≡ kernels.grammar.terminals + 1)) lookaheads s []
-      (omega (arith, rows_within, lt)) shape.widths
+  -- each has a number
+  pub number_of : (s : ℕ) (item : Item) → s < count_of kernels → HasItem kernels.grammar (prefix_of kernels s) item →
+      (n : ℕ) × HasNumber lookaheads s item n
+  number_of s item lt has = numbered shape.numbered s item (subst (λ z. Contains z item) (sym (items_are s)) ((h.closures s lt item).1 has))
+
+  -- and an item with a number is one of the kernel
+  pub has_number : (s : ℕ) (item : Item) (n : ℕ) → s < count_of kernels → HasNumber lookaheads s item n →
+      HasItem kernels.grammar (prefix_of kernels s) item
+  has_number s item n lt (i, at, _) =
+      (h.closures s lt item).0 (subst (λ z. Contains z item) (items_are s) (contains_at (items_of lookaheads s) item i at))
+
+  -- the set at a number has room for every terminal and the end
+  pub set_wide : (s : ℕ) (item : Item) (a : List Bool) → IsSetOf lookaheads s item a → length a ≡ kernels.grammar.terminals + 1
+  set_wide s item a there =
+      let wide = λ (z : List Bool). length z ≡ kernels.grammar.terminals + 1 in
+      let (n, (place, at, has), is) = set_number lookaheads s item a there in
+      subst wide is (All-get_or wide lookaheads.sets n [] (shape.numbered.below s place n has) shape.widths)
+
+  -- and so has each set of a row
+  pub row_wide : (s i : ℕ) (looks : ItemLookahead) → slice_get (row_of lookaheads s) i ≡ Some looks →
+      length looks.set ≡ kernels.grammar.terminals + 1
+  row_wide s i looks at = set_wide s looks.item looks.set (contains_at (row_of lookaheads s) looks i at)
 
   -- the set at an item is one alone
-  pub set_once : (s : ℕ) → s < count_of kernels → (item : Item) (a b : List Bool) → IsSetOf lookaheads s item a →
-      IsSetOf lookaheads s item b → a ≡ b
-  set_once s lt item a b (i, i_lt, i_is) (j, j_lt, j_is) =
-      let row : List ItemLookahead = row_of lookaheads s in
-      let x : ItemLookahead = looks_of item a in
-      let y : ItemLookahead = looks_of item b in
-      let at_i : slice_get row i ≡ Some x = slice_get_read row (length row) i x refl i_lt (sym i_is) in
-      let at_j : slice_get row j ≡ Some y = slice_get_read row (length row) j y refl j_lt (sym j_is) in
-      elim (cases_eq i j) [
-        | inl same ↦ ap (λ (z : ItemLookahead). z.set) (same_Some x y (sym at_i ∙ ap (slice_get row) same ∙ at_j))
-        | inr other ↦
-            let items : items_in row ≡ closure_of kernels s = row_items s lt in
-            let in_i : slice_get (closure_of kernels s) i ≡ Some item = ap (λ z. slice_get z i) (sym items)
-            ∙ slice_get-map (λ (z : ItemLookahead). z.item) row i ∙ ap (option_map (λ (z : ItemLookahead). z.item)) at_i in
-            let in_j : slice_get (closure_of kernels s) j ≡ Some item = ap (λ z. slice_get z j) (sym items)
-            ∙ slice_get-map (λ (z : ItemLookahead). z.item) row j ∙ ap (option_map (λ (z : ItemLookahead). z.item)) at_j in
-            absurd (elim (cases_lt i j) [
-              | inl less ↦ not_before item (h.in_order s i j item item less in_i in_j)
-              | inr more ↦ not_before item (h.in_order s j i item item (omega (arith, more, other)) in_j in_i)
-            ])
-      ]
-    where
-      not_before : (item : Item) → Precedes item item → ⊥
-      not_before item (inl less) = omega arith
-      not_before item (inr less) = (let f = less.1 in omega (arith, f))
+  pub set_once : (s : ℕ) (item : Item) (a b : List Bool) → IsSetOf lookaheads s item a → IsSetOf lookaheads s item b → a ≡ b
+  set_once s item a b there other =
+      let (m, one, is) = set_number lookaheads s item a there in
+      let (n, two, is') = set_number lookaheads s item b other in
+      sym is ∙ ap (set_of lookaheads) (number_once shape.numbered s item m n one two) ∙ is'
 
--- empty sets list nothing
-pub empty_lists : (lookaheads : List (List ItemLookahead)) → AreEmpty lookaheads → (s : ℕ) (item : Item) (t : ℕ) →
-    Lists lookaheads s item t → ⊥
-empty_lists lookaheads empty s item t (a, there, has) = elim (cases_lt s (length lookaheads)) [
-  | inl lt ↦ All-contains (λ (looks : ItemLookahead). IsEmpty looks.set) (row_of lookaheads s) (looks_of item a)
-      (All-get_or (All (λ (looks : ItemLookahead). IsEmpty looks.set)) lookaheads s [] lt empty) there t has
-  | inr past ↦ (let none : Contains [] (looks_of item a) = subst (λ z. Contains z (looks_of item a))
-      (get_or_past lookaheads s [] past) there in absurd (omega (arith, none.1)))
+-- what is listed at an item is listed at those that belong with it
+pub lists_together : (g : GrammarView) (l : LookaheadsView) (one other : Item) → AreApart g l → BelongTogether g one other → (s n : ℕ) →
+    HasNumber l s other n → (t : ℕ) → Lists l s one t → Lists l s other t
+lists_together g l one other apart belong s n there t lists =
+    let (m, here, has) = listed_by l s one t lists in
+    let same : m ≡ n = (apart s s one other m n here there).1 (refl, belong) in
+    lists_by l s other n t there (subst (λ z. IsMember (set_of l z) t) same has)
+
+-- empty sets have nothing
+pub empty_sets : (lookaheads : LookaheadsView) → AreEmpty lookaheads → (n t : ℕ) → IsMember (set_of lookaheads n) t → ⊥
+empty_sets lookaheads empty n t has = elim (cases_lt n (length lookaheads.sets)) [
+  | inl lt ↦ All-get_or IsEmpty lookaheads.sets n [] lt empty t has
+  | inr past ↦ nothing (subst (λ z. IsMember z t) (get_or_past lookaheads.sets n [] past) has)
 ]
+  where
+    nothing : IsMember [] t → ⊥
+    nothing e = cc
+
+-- and list nothing
+pub empty_lists : (lookaheads : LookaheadsView) → AreEmpty lookaheads → (s : ℕ) (item : Item) (t : ℕ) → Lists lookaheads s item t → ⊥
+empty_lists lookaheads empty s item t lists =
+    let (n, _, has) = listed_by lookaheads s item t lists in empty_sets lookaheads empty n t has
 
 -- the item at a place is that of the entry there
 pub item_there : (row : List ItemLookahead) (n : ℕ) (looks : ItemLookahead) (item : Item) → slice_get row n ≡ Some looks →
@@ -199,31 +189,15 @@ item_there row n looks item at there =
     at_once (items_in row) n looks.item item (slice_get-map (λ (l : ItemLookahead). l.item) row n ∙
     ap (option_map (λ (l : ItemLookahead). l.item)) at) there
 
--- a set that has all that was listed at the item is put in the place of its own
-pub put_unites : {old new : List (List ItemLookahead)} (s place : ℕ) (item : Item) (a : List Bool) →
-    ChangesAt old s place (λ own. a) new → slice_get (items_in (row_of old s)) place ≡ Some item →
-    All (λ (looks : ItemLookahead). length looks.set ≡ length a) (row_of old s) → ((t : ℕ) → Lists old s item t → IsMember a t) →
-    Unites old s item a new
-put_unites {old} s place item a (looks, at, is) here wide within =
-    let row : List ItemLookahead = row_of old s in
-    let item_is : looks.item ≡ item = item_there row place looks item at here in
-    let there : Contains row looks = contains_at row looks place at in
-    let there' : Contains row (looks_of item looks.set) = subst (λ z. Contains row (looks_of z looks.set)) item_is there in
-    record {
-      place = place;
-      looks = looks;
-      union = a;
-      at = at;
-      item_is = item_is;
-      joined = record {
-        len = sym (All-contains (λ (l : ItemLookahead). length l.set ≡ length a) row looks wide there);
-        each = λ t. (
-          λ has. inr has,
-          λ either. elim either [
-            | inl before ↦ within t (looks.set, there', before)
-            | inr has ↦ has
-          ],
-        );
-      };
-      is = is;
-    }
+-- a union at a place is one at the item there
+pub union_answer : {old new : LookaheadsView} {added : List Bool} {answer : Bool} (s place : ℕ) (item : Item) →
+    slice_get (items_in (row_of old s)) place ≡ Some item →
+    (n : ℕ) × (union : List Bool) × (slice_get (numbers_of old s) place ≡ Some n) × (n < length old.sets) ×
+    IsUnion (set_of old n) added union × (IsTrue answer → Grew (set_of old n) union) ×
+    (new ≡ record old { sets = slice_set old.sets n union }) →
+    (answer ≡ false → new ≡ old) → AnswersUnion old s item added new answer
+union_answer {old} s place item here (n, union, there, below, joined, grew, is) stays = record {
+  united = record { number = n; union = union; has = place_number old s place n item here there; below = below; joined = joined; is = is };
+  grew = grew;
+  stayed = stays;
+}

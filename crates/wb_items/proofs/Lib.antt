@@ -6,10 +6,13 @@ pub mod HalvesLemmas
 pub mod InOrderLemmas
 pub mod IndexLemmas
 pub mod IndexedLemmas
+pub mod KernelNumbers
 pub mod KernelsLemmas
 pub mod MoveLemmas
+pub mod NumberingLemmas
 pub mod OrderLemmas
 pub mod ProductionRows
+pub mod PutLemmas
 pub mod RowLemmas
 pub mod SymbolLemmas
 pub mod SymbolOrder

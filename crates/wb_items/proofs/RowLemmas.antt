@@ -1,124 +1,145 @@
--- Items with sets as they are kept: what is at a place, and what a change of one set leaves.
-use Rattle.std.proofs.Common.{◌≡◌, ℕ, ◌+◌, ◌<◌, ◌≤◌, zero, suc, Bool, false, List, [], ◌∷◌, ◌++◌, All, length, map, replicate, set}
-use Rattle.std.proofs.Common.{take, Some, refl, sym, ◌∙◌, ap, subst, arith}
-use Rattle.std.specs.Prelude.{slice_get, slice_index_or}
-use Rattle.std.proofs.lemmas.List.{length-map, length-replicate, map-append, set-get_or, take_all, take_more}
-use Rattle.std.proofs.lemmas.List.Elements.{All-cons, All-nil}
-use Rattle.std.proofs.lemmas.Option.{slice_get-get_or}
-use Rattle.wb_termset.specs.Sets.{IsEmpty}
-use Rattle.wb_termset.proofs.CallerLemmas.{IsEmpty-replicate}
+-- Items with sets by numbers: what is at a place, and which places a terminal is listed at.
+use Rattle.std.proofs.Common.{◌≡◌, ℕ, ◌<◌, zero, suc, Bool, List, [], ◌∷◌, length, Some, refl, sym, ◌∙◌, ap, subst, arith}
+use Rattle.std.specs.Prelude.{Contains, option_map, slice_get, slice_index_or}
+use Rattle.std.proofs.lemmas.List.{length-map}
+use Rattle.std.proofs.lemmas.Option.{slice_get-get_or, slice_get-map, slice_get_within, same_Some}
+use Rattle.wb_lemmas.proofs.Places.{at_once, at_within, default_at}
+use Rattle.wb_lemmas.proofs.Members.{contains_at, place_of}
 use Rattle.wb_grammar_theory.specs.declared.item.Item.{Item}
+use Rattle.wb_termset.specs.Sets.{IsMember}
 use Rattle.wb_items.specs.declared.item_lookahead.ItemLookahead.{ItemLookahead}
-use Rattle.wb_items.specs.Kernels.{KernelsView}
-use Rattle.wb_items.specs.Lookaheads.{AreEmpty, AreLookaheadsOf, items_in}
-use Rattle.wb_items.specs.Rows.{AreRow, all_with, with_sets}
+use Rattle.wb_items.specs.Lookaheads.{AreNumbered, HasNumber, IsSetOf, Lists, LookaheadsView, items_in, items_of, numbers_of, row_of}
+use Rattle.wb_items.specs.Lookaheads.{set_of, with_sets}
 
-abbrev looks_of : Item → List Bool → ItemLookahead
+abbrev pub looks_of : Item → List Bool → ItemLookahead
 looks_of item s = record { item = item; set = s }
 
 -- the items are those that were put there
-items_with : (items : List Item) (sets : List (List Bool)) → length sets ≡ length items → items_in (with_sets items sets) ≡ items
-items_with [] sets len = refl
-items_with (item ∷ items) [] len = absurd (omega (arith, len))
-items_with (item ∷ items) (s ∷ sets) len = ap (λ l. item ∷ l) (items_with items sets (omega (arith, len)))
+items_with : (sets : List (List Bool)) (items : List Item) (numbers : List ℕ) → length numbers ≡ length items →
+    items_in (with_sets sets items numbers) ≡ items
+items_with sets [] numbers len = refl
+items_with sets (item ∷ items) [] len = absurd (omega (arith, len))
+items_with sets (item ∷ items) (n ∷ numbers) len = ap (λ l. item ∷ l) (items_with sets items numbers (omega (arith, len)))
 
--- the set at a place
-set_with : (items : List Item) (sets : List (List Bool)) → length sets ≡ length items → (n : ℕ) (s : List Bool) →
-    slice_get sets n ≡ Some s → (looks : ItemLookahead) × (slice_get (with_sets items sets) n ≡ Some looks) × (s ≡ looks.set)
-set_with [] [] len n s at = absurd (cc)
-set_with [] (first ∷ sets) len n s at = absurd (omega (arith, len))
-set_with (item ∷ items) [] len n s at = absurd (omega (arith, len))
-set_with (item ∷ items) (first ∷ sets) len zero s at = (looks_of item first, refl, cc)
-set_with (item ∷ items) (first ∷ sets) len (suc n) s at = set_with items sets (omega (arith, len)) n s at
+-- an item and a number at one place
+pub with_at : (sets : List (List Bool)) (items : List Item) (numbers : List ℕ) (i : ℕ) (item : Item) (n : ℕ) →
+    slice_get items i ≡ Some item → slice_get numbers i ≡ Some n →
+    slice_get (with_sets sets items numbers) i ≡ Some (looks_of item (slice_index_or sets n []))
+with_at sets [] numbers i item n at has = cc
+with_at sets (first ∷ items) [] i item n at has = cc
+with_at sets (first ∷ items) (m ∷ numbers) zero item n at has =
+    let item_is : first ≡ item = same_Some first item at in
+    let number_is : m ≡ n = same_Some m n has in
+    ap (λ i. Some (looks_of i (slice_index_or sets m []))) item_is ∙ ap (λ k. Some (looks_of item (slice_index_or sets k []))) number_is
+with_at sets (first ∷ items) (m ∷ numbers) (suc i) item n at has = with_at sets items numbers i item n at has
 
--- a set that is put at a place
-put_with : (items : List Item) (sets : List (List Bool)) → length sets ≡ length items → (n : ℕ) (s : List Bool) (looks : ItemLookahead) →
-    slice_get (with_sets items sets) n ≡ Some looks →
-    with_sets items (set sets n s) ≡ set (with_sets items sets) n (record looks { set = s })
-put_with [] sets len n s looks at = absurd (cc)
-put_with (item ∷ items) [] len n s looks at = absurd (omega (arith, len))
-put_with (item ∷ items) (first ∷ sets) len zero s looks at =
-    let is : looks_of item first ≡ looks = cc in
-    ap (λ (l : ItemLookahead). looks_of l.item s ∷ with_sets items sets) is
-put_with (item ∷ items) (first ∷ sets) len (suc n) s looks at =
-    ap (λ l. looks_of item first ∷ l) (put_with items sets (omega (arith, len)) n s looks at)
+-- what is at a place is an item with the set of a number there
+pub with_back : (sets : List (List Bool)) (items : List Item) (numbers : List ℕ) (i : ℕ) (looks : ItemLookahead) →
+    slice_get (with_sets sets items numbers) i ≡ Some looks →
+    (n : ℕ) × (slice_get items i ≡ Some looks.item) × (slice_get numbers i ≡ Some n) × (slice_index_or sets n [] ≡ looks.set)
+with_back sets [] numbers i looks at = cc
+with_back sets (first ∷ items) [] i looks at = cc
+with_back sets (first ∷ items) (m ∷ numbers) zero looks at =
+    let is : looks_of first (slice_index_or sets m []) ≡ looks = same_Some (looks_of first (slice_index_or sets m [])) looks at in
+    (m, ap (λ (l : ItemLookahead). Some l.item) is, refl, ap (λ (l : ItemLookahead). l.set) is)
+with_back sets (first ∷ items) (m ∷ numbers) (suc i) looks at = with_back sets items numbers i looks at
 
-module _ {items : List Item} {sets : List (List Bool)} {row : List ItemLookahead} (inside : AreRow items sets)
-    (view : with_sets items sets ≡ row) where
-  pub row_items : items_in row ≡ items
-  row_items = ap items_in (sym view) ∙ items_with items sets inside.len
+-- what is listed is in the set of a number
+pub listed_by : (l : LookaheadsView) (s : ℕ) (item : Item) (t : ℕ) → Lists l s item t →
+    (n : ℕ) × HasNumber l s item n × IsMember (set_of l n) t
+listed_by l s item t (a, there, has) =
+    let (i, at) = place_of (row_of l s) (looks_of item a) there in
+    let (n, item_at, number_at, is) = with_back l.sets (items_of l s) (numbers_of l s) i (looks_of item a) at in
+    (n, (i, item_at, number_at), subst (λ z. IsMember z t) (sym is) has)
 
-  pub row_len : length sets ≡ length row
-  row_len = inside.len ∙ ap length (sym row_items) ∙ length-map row (λ (looks : ItemLookahead). looks.item)
+-- the set of an item's number is its set
+pub number_set : (l : LookaheadsView) (s : ℕ) (item : Item) (n : ℕ) → HasNumber l s item n → IsSetOf l s item (set_of l n)
+number_set l s item n (i, item_at, number_at) =
+    contains_at (row_of l s) (looks_of item (set_of l n)) i (with_at l.sets (items_of l s) (numbers_of l s) i item n item_at number_at)
 
-  -- the set that was read at a place
-  pub row_set : (n : ℕ) (s : List Bool) → n < length row → s ≡ slice_index_or sets n s →
-      (looks : ItemLookahead) × (slice_get row n ≡ Some looks) × (s ≡ looks.set)
-  row_set n s lt is =
-      let there : slice_get sets n ≡ Some s = slice_get-get_or sets n s (let e = row_len in omega (arith, e, lt)) ∙ ap Some (sym is) in
-      subst (λ z. (looks : ItemLookahead) × (slice_get z n ≡ Some looks) × (s ≡ looks.set)) view (set_with items sets inside.len n s there)
+pub lists_by : (l : LookaheadsView) (s : ℕ) (item : Item) (n : ℕ) (t : ℕ) → HasNumber l s item n → IsMember (set_of l n) t →
+    Lists l s item t
+lists_by l s item n t here has = (set_of l n, number_set l s item n here, has)
 
-  -- a set that is put at a place
-  pub row_put : (n : ℕ) (s : List Bool) (looks : ItemLookahead) → slice_get row n ≡ Some looks →
-      with_sets items (set sets n s) ≡ set row n (record looks { set = s })
-  row_put n s looks at = put_with items sets inside.len n s looks (subst (λ z. slice_get z n ≡ Some looks) (sym view) at) ∙
-      ap (λ z. set z n (record looks { set = s })) view
+-- an item's set is that of a number of its
+pub set_number : (l : LookaheadsView) (s : ℕ) (item : Item) (a : List Bool) → IsSetOf l s item a →
+    (n : ℕ) × HasNumber l s item n × (set_of l n ≡ a)
+set_number l s item a there =
+    let (i, at) = place_of (row_of l s) (looks_of item a) there in
+    let (n, item_at, number_at, is) = with_back l.sets (items_of l s) (numbers_of l s) i (looks_of item a) at in
+    (n, (i, item_at, number_at), is)
 
-  -- the set that is there is put again
-  pub row_same : (n : ℕ) (s new : List Bool) → s ≡ slice_index_or sets n s → new ≡ s → with_sets items (set sets n new) ≡ row
-  row_same n s new is same = ap (with_sets items) (ap (set sets n) (same ∙ is) ∙ set-get_or sets n s) ∙ view
+module _ {l : LookaheadsView} (h : AreNumbered l) where
+  pub row_items_are : (s : ℕ) → items_in (row_of l s) ≡ items_of l s
+  row_items_are s = items_with l.sets (items_of l s) (numbers_of l s) (h.fit s)
 
--- one set for all items
-pub one_set : (items : List Item) (s : List Bool) → with_sets items (replicate (length items) s) ≡ all_with s items
-one_set [] s = refl
-one_set (item ∷ items) s = ap (λ l. looks_of item s ∷ l) (one_set items s)
+  pub row_len : (s : ℕ) → length (row_of l s) ≡ length (items_of l s)
+  row_len s = sym (length-map (row_of l s) (λ (z : ItemLookahead). z.item)) ∙ ap length (row_items_are s)
 
--- the row of one kernel more
-pub rows_more : (closures : List (List Item)) (s : List Bool) (rows more : List (List ItemLookahead)) (n : ℕ) (items : List Item)
-    (row : List ItemLookahead) → n < length closures → items ≡ slice_index_or closures n [] → row ≡ all_with s items →
-    more ≡ rows ++ row ∷ [] → rows ≡ map (all_with s) (take n closures) → more ≡ map (all_with s) (take (n + 1) closures)
-rows_more closures s rows more n items row lt is row_is e h =
-    e ∙ ap (λ r. r ++ row ∷ []) h ∙ ap (λ r. map (all_with s) (take n closures) ++ r ∷ []) (row_is ∙ ap (all_with s) is) ∙
-    sym (map-append (all_with s) (take n closures) (slice_index_or closures n [] ∷ [])) ∙
-    ap (map (all_with s)) (sym (take_more closures n [] lt))
+  pub row_numbers_len : (s : ℕ) → length (row_of l s) ≡ length (numbers_of l s)
+  row_numbers_len s = row_len s ∙ sym (h.fit s)
 
-pub rows_all : (closures : List (List Item)) (s : List Bool) (rows : List (List ItemLookahead)) (n : ℕ) → length closures ≤ n →
-    rows ≡ map (all_with s) (take n closures) → rows ≡ map (all_with s) closures
-rows_all closures s rows n past h = h ∙ ap (map (all_with s)) (take_all n closures past)
+  -- an item of the row has a number at its place
+  pub number_there : (s i : ℕ) (item : Item) → slice_get (items_of l s) i ≡ Some item →
+      (n : ℕ) × (slice_get (numbers_of l s) i ≡ Some n)
+  number_there s i item at =
+      at_within (numbers_of l s) i (let w = slice_get_within (items_of l s) i item at in let e = h.fit s in omega (arith, w, e))
 
-items_all : (s : List Bool) (items : List Item) → items_in (all_with s items) ≡ items
-items_all s [] = refl
-items_all s (item ∷ items) = ap (λ l. item ∷ l) (items_all s items)
+  -- an item that is there has a number
+  pub numbered : (s : ℕ) (item : Item) → Contains (items_of l s) item → (n : ℕ) × HasNumber l s item n
+  numbered s item has =
+      let (i, at) = place_of (items_of l s) item has in
+      let (n, there) = number_there s i item at in
+      (n, (i, at, there))
 
-rows_items : (s : List Bool) (closures : List (List Item)) → map items_in (map (all_with s) closures) ≡ closures
-rows_items s [] = refl
-rows_items s (items ∷ closures) =
-    ap (λ z. z ∷ map items_in (map (all_with s) closures)) (items_all s items) ∙ ap (λ z. items ∷ z) (rows_items s closures)
+  -- the entry at a place
+  pub entry_at : (s i n : ℕ) → slice_get (numbers_of l s) i ≡ Some n →
+      (item : Item) × (slice_get (items_of l s) i ≡ Some item) × (slice_get (row_of l s) i ≡ Some (looks_of item (set_of l n)))
+  entry_at s i n there =
+      let w = slice_get_within (numbers_of l s) i n there in
+      let (item, at) = at_within (items_of l s) i (let e = h.fit s in omega (arith, w, e)) in
+      (item, at, with_at l.sets (items_of l s) (numbers_of l s) i item n at there)
 
-all_row : (P : ItemLookahead → Type 0) (s : List Bool) → ((item : Item) → P (looks_of item s)) → (items : List Item) →
-    All P (all_with s items)
-all_row P s p [] = All-nil P
-all_row P s p (item ∷ items) = All-cons P (looks_of item s) (all_with s items) (p item) (all_row P s p items)
+-- the item at a place has the number there
+pub place_number : (l : LookaheadsView) (s i n : ℕ) (item : Item) → slice_get (items_in (row_of l s)) i ≡ Some item →
+    slice_get (numbers_of l s) i ≡ Some n → HasNumber l s item n
+place_number l s i n item at there =
+    let mapped = slice_get-map (λ (z : ItemLookahead). z.item) (row_of l s) i in
+    let w = slice_get_within (items_in (row_of l s)) i item at in
+    let len = length-map (row_of l s) (λ (z : ItemLookahead). z.item) in
+    let (looks, here) = at_within (row_of l s) i (omega (arith, w, len)) in
+    let (m, item_at, number_at, is) = with_back l.sets (items_of l s) (numbers_of l s) i looks here in
+    let same : looks.item ≡ item = same_Some looks.item item (sym (mapped ∙ ap (option_map (λ (z : ItemLookahead). z.item)) here) ∙ at) in
+    (i, subst (λ z. slice_get (items_of l s) i ≡ Some z) same item_at, there)
 
-all_rows : (P : ItemLookahead → Type 0) (s : List Bool) → ((item : Item) → P (looks_of item s)) → (closures : List (List Item)) →
-    All (All P) (map (all_with s) closures)
-all_rows P s p [] = All-nil (All P)
-all_rows P s p (items ∷ closures) =
-    All-cons (All P) (all_with s items) (map (all_with s) closures) (all_row P s p items) (all_rows P s p closures)
+-- what was read at a place within doesn't depend on the default
+any_default : {X : Type 0} (xs : List X) (i : ℕ) (d x : X) → i < length xs → x ≡ slice_index_or xs i x → x ≡ slice_index_or xs i d
+any_default xs i d x lt is = is ∙ sym (default_at xs i d (slice_index_or xs i x) (slice_get-get_or xs i x lt))
 
--- the sets are those of the kernels' items
-pub first_shape : (kernels : KernelsView) (count : ℕ) (s : List Bool) (rows : List (List ItemLookahead)) → s ≡ replicate count false →
-    count ≡ kernels.grammar.terminals + 1 → rows ≡ map (all_with s) kernels.closures → AreLookaheadsOf kernels rows
-first_shape kernels count s rows is count_is e = record {
-  items = ap (map items_in) e ∙ rows_items s kernels.closures;
-  widths = subst (All (All (λ (looks : ItemLookahead). length looks.set ≡ kernels.grammar.terminals + 1))) (sym e)
-      (all_rows (λ (looks : ItemLookahead). length looks.set ≡ kernels.grammar.terminals + 1) s
-      (λ item. ap length is ∙ length-replicate count false ∙ count_is) kernels.closures);
-}
+pub items_read : {l v : LookaheadsView} → l ≡ v → (s : ℕ) → s < length v.items → (r : List Item) → r ≡ slice_index_or l.items s r →
+    r ≡ items_of v s
+items_read {v = v} same s lt r is =
+    any_default v.items s [] r lt (is ∙ ap (λ (z : LookaheadsView). slice_index_or z.items s r) same)
 
--- and have no member
-pub first_empty : (closures : List (List Item)) (count : ℕ) (s : List Bool) (rows : List (List ItemLookahead)) → s ≡ replicate count false →
-    rows ≡ map (all_with s) closures → AreEmpty rows
-first_empty closures count s rows is e =
-    subst (All (All (λ (looks : ItemLookahead). IsEmpty looks.set))) (sym e)
-    (all_rows (λ (looks : ItemLookahead). IsEmpty looks.set) s (λ item. subst IsEmpty (sym is) (IsEmpty-replicate count)) closures)
+pub numbers_read : {l v : LookaheadsView} → l ≡ v → AreNumbered v → (s : ℕ) → s < length v.items → (r : List ℕ) →
+    r ≡ slice_index_or l.numbers s r → r ≡ numbers_of v s
+numbers_read {v = v} same h s lt r is = any_default v.numbers s [] r (let e = h.rows in omega (arith, e, lt))
+    (is ∙ ap (λ (z : LookaheadsView). slice_index_or z.numbers s r) same)
+
+pub set_read : {l v : LookaheadsView} → l ≡ v → (n : ℕ) → n < length v.sets → (r : List Bool) → r ≡ slice_index_or l.sets n r →
+    r ≡ set_of v n
+set_read {v = v} same n lt r is = any_default v.sets n [] r lt (is ∙ ap (λ (z : LookaheadsView). slice_index_or z.sets n r) same)
+
+-- the set of the number at a place is that of the entry there
+pub entry_set : (v : LookaheadsView) (s place n : ℕ) → place < length (row_of v s) → slice_get (numbers_of v s) place ≡ Some n →
+    (looks : ItemLookahead) × (slice_get (row_of v s) place ≡ Some looks) × (set_of v n ≡ looks.set)
+entry_set v s place n lt at =
+    let (looks, there) = at_within (row_of v s) place lt in
+    let (m, item_at, number_at, is) = with_back v.sets (items_of v s) (numbers_of v s) place looks there in
+    (looks, there, ap (set_of v) (at_once (numbers_of v s) place n m at number_at) ∙ is)
+
+pub set_there : (v : LookaheadsView) (s place n : ℕ) (a : List Bool) → place < length (row_of v s) →
+    slice_get (numbers_of v s) place ≡ Some n → slice_get v.sets n ≡ Some a →
+    (looks : ItemLookahead) × (slice_get (row_of v s) place ≡ Some looks) × (a ≡ looks.set)
+set_there v s place n a lt at set_at =
+    let (looks, there, is) = entry_set v s place n lt at in (looks, there, sym (default_at v.sets n [] a set_at) ∙ is)

@@ -2,6 +2,7 @@
 pub mod Advances
 pub mod Closing
 pub mod Growing
+pub mod Numbering
 pub mod Passes
 pub mod Searches
 pub mod Steps

@@ -6,10 +6,10 @@ pub mod Order
 pub mod Table
 -- prefixes as steps from earlier ones
 pub mod Index
--- sets of terminals for the items of each kernel
+-- sets of terminals for the items of each kernel, by numbers
 pub mod Lookaheads
--- one kernel's items and sets, as they are kept
-pub mod Rows
+-- which items have one set
+pub mod Apart
 -- the lookaheads of a grammar's items as such sets
 pub mod LookaheadSets
 -- what loops keep, and words of private functions

@@ -51,8 +51,7 @@ pub(crate) fn close(
     let mut closure = kernel_closure(alloc, grammar, rules, kernel)?;
     closure.sort()?;
     let list = deduplicated(alloc, &closure)?;
-    let made = ItemList::new(list)?;
-    Ok(made)
+    ItemList::new(list)
 }
 
 // The same items, each once.

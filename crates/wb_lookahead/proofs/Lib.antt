@@ -1,8 +1,8 @@
-pub mod FillLemmas
 pub mod GotoLemmas
-pub mod MatrixLemmas
 pub mod MarkLemmas
+pub mod MatrixLemmas
 pub mod MemberLemmas
+pub mod OpenedLemmas
 pub mod PartLemmas
 pub mod PassLemmas
 pub mod PlaceLemmas
@@ -12,8 +12,8 @@ pub mod RestRows
 pub mod RoomLemmas
 pub mod RowLemmas
 pub mod SpreadLemmas
-pub mod StandInLemmas
 pub mod StandLemmas
 pub mod StepLemmas
 pub mod TableLaws
+pub mod ValidLemmas
 pub mod WaitingLemmas

@@ -12,15 +12,13 @@ use Rattle.wb_grammar_theory.specs.Productions.{IsProduction}
 use Rattle.wb_grammar_theory.specs.Derives.{Derives, done, IsFirst}
 use Rattle.wb_grammar_theory.specs.Items.{after_dot, initial_item}
 use Rattle.wb_grammar_theory.proofs.DotLemmas.{after_advance, after_initial}
-use Rattle.wb_items.specs.declared.item_lookahead.ItemLookahead.{ItemLookahead}
 use Rattle.wb_items.specs.Table.{AreProductionsOf}
 use Rattle.wb_lookahead.specs.declared.first_of.Rest.{Rest}
 use Rattle.wb_lookahead.specs.Inner.Rests.{AreRests, IsOpening}
-use Rattle.wb_lookahead.specs.Inner.Spreading.{IsFirstOf}
-use Rattle.wb_items.specs.Lookaheads.{Lists}
+use Rattle.wb_lookahead.specs.Inner.Spreading.{IsProductionOf}
+use Rattle.wb_items.specs.Lookaheads.{Lists, LookaheadsView}
 use Rattle.wb_lookahead.proofs.PassLemmas.{first_then, rest_past}
 use Rattle.wb_lookahead.proofs.RestLemmas.{nothing_first}
-use Rattle.wb_lookahead.proofs.StandInLemmas.{first_once}
 
 -- the production of a number below the count
 pub production_there : (g : GrammarView) (p : ℕ) → p < length g.productions → (a : ℕ) × (right : List Symbol) × IsProduction g p a right
@@ -67,20 +65,20 @@ pub nothing_begins : (g : GrammarView) (item : Item) → length g.productions �
 nothing_begins g item le x rest is u f = nothing_first u (subst (λ z. IsFirst g z u) (sym (rest_past g item le x rest is)) f)
 
 -- what begins the rest, and the terminals where it derives the empty text, is all that opens
-pub open_lists : (g : GrammarView) (set : List Bool) (lookaheads : List (List ItemLookahead)) (s : ℕ) (item : Item) (n p0 : ℕ)
+pub open_lists : (g : GrammarView) (set : List Bool) (lookaheads : LookaheadsView) (s : ℕ) (item : Item) (n p0 : ℕ)
     (rest0 : List Symbol) →
-    after_dot g item ≡ Nonterminal n ∷ rest0 → IsFirstOf g n p0 →
+    after_dot g item ≡ Nonterminal n ∷ rest0 →
+    ((p : ℕ) → IsProductionOf g n p → (u : ℕ) → Lists lookaheads s (initial_item p0) u → Lists lookaheads s (initial_item p) u) →
     ((u : ℕ) → IsFirst g rest0 u → Lists lookaheads s (initial_item p0) u) →
     (Derives g rest0 [] → (t : ℕ) → IsMember set t → Lists lookaheads s (initial_item p0) t) →
-    (t u b p : ℕ) (rest : List Symbol) → after_dot g item ≡ Nonterminal b ∷ rest → IsFirstOf g b p → IsMember set t →
+    (t u b p : ℕ) (rest : List Symbol) → after_dot g item ≡ Nonterminal b ∷ rest → IsProductionOf g b p → IsMember set t →
     IsFirst g (rest ++ Terminal t ∷ []) u →
     Lists lookaheads s (initial_item p) u
-open_lists g set lookaheads s item n p0 rest0 here first0 of_rest of_set t u b p rest at first has begins =
+open_lists g set lookaheads s item n p0 rest0 here together of_rest of_set t u b p rest at rule has begins =
     let heads : Nonterminal b ∷ rest ≡ Nonterminal n ∷ rest0 = sym at ∙ here in
     let same : b ≡ n = cc in
     let rest_is : rest ≡ rest0 = cc in
-    let p_is : p ≡ p0 = first_once g n p p0 (subst (λ z. IsFirstOf g z p) same first) first0 in
-    subst (λ z. Lists lookaheads s (initial_item z) u) (sym p_is)
+    together p (subst (λ z. IsProductionOf g z p) same rule) u
     (elim (first_then rest0 t u (subst (λ z. IsFirst g (z ++ Terminal t ∷ []) u) rest_is begins)) [
       | inl f ↦ of_rest u f
       | inr (empty, t_is) ↦ subst (Lists lookaheads s (initial_item p0)) t_is (of_set empty t has)

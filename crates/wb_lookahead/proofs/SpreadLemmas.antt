@@ -8,50 +8,49 @@ use Rattle.std.proofs.lemmas.Bool.{cases_eq}
 use Rattle.std.proofs.lemmas.Option.{same_Some}
 use Rattle.wb_grammar_theory.specs.declared.item.Item.{Item}
 use Rattle.wb_termset.specs.Sets.{IsMember}
-use Rattle.wb_items.specs.declared.item_lookahead.ItemLookahead.{ItemLookahead}
+use Rattle.wb_items.specs.Apart.{AreApart}
 use Rattle.wb_items.specs.Kernels.{KernelsView, AreKernels, count_of}
-use Rattle.wb_items.specs.Lookaheads.{AnswersUnion, AreLookaheadsOf, Lists, Unites, items_in, row_of}
+use Rattle.wb_items.specs.Lookaheads.{AnswersUnion, AreLookaheadsOf, HasNumber, Lists, LookaheadsView, Unites, items_in, row_of, set_of}
 use Rattle.wb_lookahead.specs.declared.worklist.Place.{Place}
 use Rattle.wb_lookahead.specs.Inner.Spreading.{AreSound, FlowsTo, IsPlace, Spreads, Waits}
 use Rattle.wb_lookahead.specs.Inner.Waiting.{Adds, in_front, at_end, stays}
-use Rattle.wb_items.proofs.CallerLemmas.{lists_kept, lists_new, rows_within, shape_kept}
+use Rattle.wb_items.proofs.CallerLemmas.{apart_kept, lists_kept, lists_new, number_back, number_kept, rows_within, shape_kept, stayed}
 use Rattle.wb_lookahead.proofs.RoomLemmas.{room_less}
 use Rattle.wb_lookahead.proofs.StepLemmas.{closure_at}
-use Rattle.wb_items.proofs.OrderLemmas.{same_item}
+use Rattle.wb_lookahead.proofs.OpenedLemmas.{belong_flows}
 
-pub spreads_none : (l : List (List ItemLookahead)) (w : List Place) → Spreads l w l w
-spreads_none l w = record { keeps = λ s item t h. h; waits = λ s item h. h; grew = λ s item. inr (λ t h. h); less = omega arith }
+pub spreads_none : (l : LookaheadsView) (w : List Place) → Spreads l w l w
+spreads_none l w = record {
+  keeps = λ s item t h. h;
+  numbers = λ s item n h. h;
+  back = λ s item n h. h;
+  waits = λ place h. h;
+  grew = λ n. inr (λ t h. h);
+  less = omega arith;
+}
 
-pub spreads_then : {l m n : List (List ItemLookahead)} {v w x : List Place} → Spreads l v m w → Spreads m w n x → Spreads l v n x
+-- what waits goes on to wait, where items keep their numbers
+waits_on : (l m : LookaheadsView) (v w : List Place) (n : ℕ) →
+    ((s : ℕ) (item : Item) (k : ℕ) → HasNumber l s item k → HasNumber m s item k) →
+    ((place : Place) → Contains v place → Contains w place) → Waits l v n → Waits m w n
+waits_on l m v w n numbers kept (place, there, has) = (place, kept place there, numbers place.state place.item n has)
+
+pub spreads_then : {l m n : LookaheadsView} {v w x : List Place} → Spreads l v m w → Spreads m w n x → Spreads l v n x
 spreads_then {l} {m} {n} {v} {w} {x} p q = record {
   keeps = λ s item t h. q.keeps s item t (p.keeps s item t h);
-  waits = λ s item h. q.waits s item (p.waits s item h);
-  grew = λ s item. both s item (q.grew s item) (p.grew s item);
+  numbers = λ s item k h. q.numbers s item k (p.numbers s item k h);
+  back = λ s item k h. p.back s item k (q.back s item k h);
+  waits = λ place h. q.waits place (p.waits place h);
+  grew = λ k. both k (q.grew k) (p.grew k);
   less = (let a = p.less in let b = q.less in omega arith);
 }
   where
-    both : (s : ℕ) (item : Item) → Waits x s item ⊎ ((t : ℕ) → Lists n s item t → Lists m s item t) →
-        Waits w s item ⊎ ((t : ℕ) → Lists m s item t → Lists l s item t) →
-        Waits x s item ⊎ ((t : ℕ) → Lists n s item t → Lists l s item t)
-    both s item (inl waits) _ = inl waits
-    both s item (inr same) (inl waited) = inl (q.waits s item waited)
-    both s item (inr same) (inr before) = inr (λ t h. before t (same t h))
-
-abbrev item_of : ℕ → ℕ → Item
-item_of p d = record { production = p; dot = d }
-
--- two items of kernels are the same, or not
-same_at : (s k : ℕ) (a b : Item) → ((s ≡ k) × (a ≡ b)) ⊎ (((s ≡ k) × (a ≡ b)) → ⊥)
-same_at s k a b = elim (cases_eq s k) [
-  | inr s ↦ inr (λ e. s e.0)
-  | inl s ↦ elim (cases_eq a.production b.production) [
-    | inr p ↦ inr (λ e. p (ap (λ (z : Item). z.production) e.1))
-    | inl p ↦ elim (cases_eq a.dot b.dot) [
-      | inr d ↦ inr (λ e. d (ap (λ (z : Item). z.dot) e.1))
-      | inl d ↦ inl (s, same_item a b p d)
-    ]
-  ]
-]
+    both : (k : ℕ) → Waits n x k ⊎ ((t : ℕ) → IsMember (set_of n k) t → IsMember (set_of m k) t) →
+        Waits m w k ⊎ ((t : ℕ) → IsMember (set_of m k) t → IsMember (set_of l k) t) →
+        Waits n x k ⊎ ((t : ℕ) → IsMember (set_of n k) t → IsMember (set_of l k) t)
+    both k (inl waits) _ = inl waits
+    both k (inr same) (inl waited) = inl (waits_on m n w x k q.numbers q.waits waited)
+    both k (inr same) (inr before) = inr (λ t h. before t (same t h))
 
 -- numbers of a place
 abbrev pub place_of : ℕ → Item → ℕ → Place
@@ -62,22 +61,20 @@ contains_later : (place one : Place) (old : List Place) → Contains old one →
 contains_later place one old (k, lt, is) = (suc k, omega arith, is)
 
 -- what waited waits, and the place that was added
-pub adds_waits : {old new : List Place} (place : Place) → Adds old place new → (s : ℕ) (item : Item) → Waits old s item → Waits new s item
-adds_waits {old} place (in_front is) s item
-    (at, h) = (at, subst (λ z. Contains z (place_of s item at)) (sym is) (contains_later place (place_of s item at) old h))
-adds_waits {old} place (at_end is) s item
-    (at, h) = (at, subst (λ z. Contains z (place_of s item at)) (sym is) (Contains-append_left old (place ∷ []) (place_of s item at) h))
-adds_waits place (stays other is there) s item (at, h) = (at, subst (λ z. Contains z (place_of s item at)) (sym is) h)
+pub adds_waits : {old new : List Place} (place : Place) → Adds old place new → (one : Place) → Contains old one → Contains new one
+adds_waits {old} place (in_front is) one h = subst (λ z. Contains z one) (sym is) (contains_later place one old h)
+adds_waits {old} place (at_end is) one h = subst (λ z. Contains z one) (sym is) (Contains-append_left old (place ∷ []) one h)
+adds_waits place (stays other is there) one h = subst (λ z. Contains z one) (sym is) h
 
 pub adds_it : {kernels : KernelsView} {old new : List Place} {place : Place} → All (IsPlace kernels) old → IsPlace kernels place →
-    Adds old place new → Waits new place.state place.item
-adds_it {place = place} places p (in_front is) = (place.at, subst (λ z. Contains z place) (sym is) (0, omega arith, refl))
-adds_it {old = old} {place = place} places p (at_end is) = (place.at, subst (λ z. Contains z place) (sym is) (Contains-push old place))
+    Adds old place new → Contains new place
+adds_it {place = place} places p (in_front is) = subst (λ z. Contains z place) (sym is) (0, omega arith, refl)
+adds_it {old = old} {place = place} places p (at_end is) = subst (λ z. Contains z place) (sym is) (Contains-push old place)
 adds_it {kernels} {old} {new} {place} places p (stays item is there) =
     let other : Place = place_of place.state item place.at in
     let q : IsPlace kernels other = All-contains (IsPlace kernels) old other places there in
     let same : item ≡ place.item = same_Some item place.item (sym q.here ∙ p.here) in
-    (place.at, subst (λ z. Contains z place) (sym is) (subst (λ z. Contains old (place_of place.state z place.at)) same there))
+    subst (λ z. Contains z place) (sym is) (subst (λ z. Contains old (place_of place.state z place.at)) same there)
 
 pub adds_places : {kernels : KernelsView} {old new : List Place} {place : Place} → All (IsPlace kernels) old → IsPlace kernels place →
     Adds old place new → All (IsPlace kernels) new
@@ -95,27 +92,28 @@ adds_length {old} {new} place (at_end is) = (let e : length new ≡ length old +
 adds_length {old} {new} place (stays item is there) = (let e : length new ≡ length old =
     ap (λ (z : List Place). length z) is in omega (arith, e))
 
--- what a union leaves flows where it is listed
-pub union_sound : (kernels : KernelsView) (place : Place) {old new : List (List ItemLookahead)} {added : List Bool} →
-    Unites old place.state place.item added new → place.state < length old →
-    ((s : ℕ) (item : Item) (t : ℕ) → Lists old s item t → FlowsTo kernels s item t) →
-    ((t : ℕ) → IsMember added t → FlowsTo kernels place.state place.item t) →
-    (s : ℕ) (item : Item) (t : ℕ) → Lists new s item t → FlowsTo kernels s item t
-union_sound kernels place u lt sound flows s item t lists = elim (lists_new u lt s item t lists) [
-  | inl before ↦ sound s item t before
-  | inr (s_is, item_is, has) ↦ subst (λ z. FlowsTo kernels z item t) (sym s_is)
-      (subst (λ z. FlowsTo kernels place.state z t) (sym item_is) (flows t has))
+-- what a union leaves flows where it is listed, also at the items that have the set too
+pub union_sound : (kernels : KernelsView) {s : ℕ} {item : Item} {old new : LookaheadsView} {added : List Bool} →
+    Unites old s item added new → AreApart kernels.grammar old →
+    ((k : ℕ) (i : Item) (t : ℕ) → Lists old k i t → FlowsTo kernels k i t) →
+    ((t : ℕ) → IsMember added t → FlowsTo kernels s item t) →
+    (k : ℕ) (i : Item) (t : ℕ) → Lists new k i t → FlowsTo kernels k i t
+union_sound kernels {s} {item} u apart sound flows k i t lists = elim (lists_new u k i t lists) [
+  | inl before ↦ sound k i t before
+  | inr ((n, one, other), has) ↦
+      let (same, belong) = (apart s k item i n n one other).0 refl in
+      subst (λ z. FlowsTo kernels z i t) same (belong_flows kernels item i belong (flows t has))
 ]
 
 pub state_within : {kernels : KernelsView} → AreKernels kernels → (place : Place) → place.state < count_of kernels →
-    (old : List (List ItemLookahead)) → AreLookaheadsOf kernels old →
-    place.state < length old
+    (old : LookaheadsView) → AreLookaheadsOf kernels old →
+    place.state < length old.items
 state_within k place lt old shape = (let e = rows_within k old shape in omega (arith, e, lt))
 
-pub is_place : {kernels : KernelsView} → AreKernels kernels → (lookaheads : List (List ItemLookahead)) →
+pub is_place : {kernels : KernelsView} → AreKernels kernels → (lookaheads : LookaheadsView) →
     AreLookaheadsOf kernels lookaheads → (s : ℕ) → s < count_of kernels →
     (item : Item) (at : ℕ) → slice_get (items_in (row_of lookaheads s)) at ≡ Some item → IsPlace kernels (place_of s item at)
-is_place k lookaheads shape s lt item at e = record { state = lt; here = closure_at k lookaheads shape s lt item at e }
+is_place k lookaheads shape s lt item at e = record { state = lt; here = closure_at k lookaheads shape s item at e }
 
 -- a place is put into an equal list
 pub adds_to : {u w v : List Place} {place : Place} → u ≡ w → Adds u place v → Adds w place v
@@ -123,37 +121,37 @@ adds_to {v = v} {place} same adds = subst (λ z. Adds z place v) same adds
 
 -- a union that adds something, whose place then waits
 pub spread_sound : {kernels : KernelsView}
-    (place : Place) {old new : List (List ItemLookahead)} {added : List Bool} {w v : List Place} → AreKernels kernels →
+    (place : Place) {old new : LookaheadsView} {added : List Bool} {w v : List Place} →
     IsPlace kernels place → Unites old place.state place.item added new → AreSound kernels old w →
     ((t : ℕ) → IsMember added t → FlowsTo kernels place.state place.item t) →
     Adds w place v → AreSound kernels new v
-spread_sound {kernels} place {old} k p u h flows adds =
-    let lt = state_within k place p.state old h.shape in
-    record { shape = shape_kept u lt h.shape; sound = union_sound kernels place u lt h.sound flows; places = adds_places h.places p adds }
+spread_sound {kernels} place {old} p u h flows adds = record {
+  shape = shape_kept u h.shape;
+  apart = apart_kept u kernels.grammar h.apart;
+  sound = union_sound kernels u h.apart h.sound flows;
+  places = adds_places h.places p adds;
+}
 
--- the sets grew, and the place waits
+-- the set grew, and the place waits
 pub spread_spreads : {kernels : KernelsView}
-    (place : Place) {old new : List (List ItemLookahead)} {added : List Bool} {b : Bool} {w v : List Place} → place.state < length old →
+    (place : Place) {old new : LookaheadsView} {added : List Bool} {b : Bool} {w v : List Place} →
     AnswersUnion old place.state place.item added new b → b ≡ true → All (IsPlace kernels) w → IsPlace kernels place → Adds w place v →
     Spreads old w new v
-spread_spreads {kernels} place {old} {new} {added} {b} {w} {v} lt u grew places p adds = record {
-  keeps = lists_kept u.united lt;
+spread_spreads {kernels} place {old} {new} {added} {b} {w} {v} u grew places p adds = record {
+  keeps = lists_kept u.united;
+  numbers = number_kept u.united;
+  back = number_back u.united;
   waits = adds_waits place adds;
-  grew = λ s item. changes s item (same_at s place.state item place.item);
-  less = (let less = room_less u lt grew in let more = adds_length place adds in omega (arith, less, more));
+  grew = λ n. elim (cases_eq n u.united.number) [
+    | inl same ↦ inl (
+      place,
+      adds_it places p adds,
+      subst (HasNumber new place.state place.item) (sym same) (number_kept u.united place.state place.item u.united.number u.united.has),
+    )
+    | inr other ↦ inr (λ t. subst (λ z. IsMember z t) (stayed u.united n other))
+  ];
+  less = (let less = room_less u grew in let more = adds_length place adds in omega (arith, less, more));
 }
-  where
-    kept : (s : ℕ) (item : Item) → (((s ≡ place.state) × (item ≡ place.item)) → ⊥) → (t : ℕ) →
-        Lists old s item t ⊎ ((s ≡ place.state) × (item ≡ place.item) × IsMember added t) →
-        Lists old s item t
-    kept s item other t (inl before) = before
-    kept s item other t (inr (s_is, i_is, has)) = absurd (other (s_is, i_is))
-
-    changes : (s : ℕ) (item : Item) → ((s ≡ place.state) × (item ≡ place.item)) ⊎ (((s ≡ place.state) × (item ≡ place.item)) → ⊥) →
-        Waits v s item ⊎ ((t : ℕ) → Lists new s item t → Lists old s item t)
-    changes s item (inl same) = inl
-        (subst (λ z. Waits v z item) (sym same.0) (subst (Waits v place.state) (sym same.1) (adds_it places p adds)))
-    changes s item (inr other) = inr (λ t h. kept s item other t (lists_new u.united lt s item t h))
 
 -- an element of a prefix that is one longer
 pub contains_more : {A : Type 0} (xs : List A) (i : ℕ) (d x : A) → i < length xs → Contains (take (i + 1) xs) x →

@@ -77,13 +77,15 @@ before_or kernels h s t (Reduce p) act.None x y differ not = absurd y
 before_or kernels h s t Accept act.None x y differ not = absurd y
 before_or kernels h s t act.None b x y differ not = absurd x
 
-reductions_once : (top p q : ℕ) (a b : Action) → IsReduction top p a → IsReduction top q b → a ≡ b → p ≡ q
+-- a reduction is by one production
+pub reductions_once : (top p q : ℕ) (a b : Action) → IsReduction top p a → IsReduction top q b → a ≡ b → p ≡ q
 reductions_once top p q a b (inl (_, x)) (inl (_, y)) e = cc
 reductions_once top p q a b (inl (_, x)) (inr (_, y)) e = absurd (cc)
 reductions_once top p q a b (inr (_, x)) (inl (_, y)) e = absurd (cc)
 reductions_once top p q a b (inr (x, _)) (inr (y, _)) e = cc
 
-not_shift : (top p n : ℕ) (a : Action) → IsReduction top p a → Shift n ≡ a → ⊥
+-- and is no shift
+pub not_shift : (top p n : ℕ) (a : Action) → IsReduction top p a → Shift n ≡ a → ⊥
 not_shift top p n a (inl (_, x)) e = cc
 not_shift top p n a (inr (_, x)) e = cc
 

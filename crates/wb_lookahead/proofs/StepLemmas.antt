@@ -9,9 +9,8 @@ use Rattle.wb_grammar_theory.specs.Items.{after_dot, advance, initial_item, HasI
 use Rattle.wb_grammar_theory.specs.Productions.{IsProduction}
 use Rattle.wb_grammar_theory.proofs.KernelLemmas.{kernel_decides}
 use Rattle.wb_grammar_theory.proofs.FlowLemmas.{same_back, same_then}
-use Rattle.wb_items.specs.declared.item_lookahead.ItemLookahead.{ItemLookahead}
 use Rattle.wb_items.specs.Kernels.{KernelsView, AreKernels, LeadsTo, closure_of, count_of, prefix_of}
-use Rattle.wb_items.specs.Lookaheads.{AreLookaheadsOf, items_in, row_of}
+use Rattle.wb_items.specs.Lookaheads.{AreLookaheadsOf, LookaheadsView, items_in, row_of}
 use Rattle.wb_items.proofs.CallerLemmas.{row_items}
 
 -- a symbol leads to one kernel alone
@@ -34,14 +33,14 @@ initial_has {kernels} h s b item rest q right (t, v) is rule =
     let (u, f) = h.live item (Nonterminal b) rest is t in (u, valid.close item t b rest q u right v is rule f)
 
 -- a place of a row is that of the closure
-pub closure_at : {kernels : KernelsView} → AreKernels kernels → (lookaheads : List (List ItemLookahead)) →
+pub closure_at : {kernels : KernelsView} → AreKernels kernels → (lookaheads : LookaheadsView) →
     AreLookaheadsOf kernels lookaheads →
-    (s : ℕ) → s < count_of kernels → (item : Item) (at : ℕ) → slice_get (items_in (row_of lookaheads s)) at ≡ Some item →
+    (s : ℕ) (item : Item) (at : ℕ) → slice_get (items_in (row_of lookaheads s)) at ≡ Some item →
     slice_get (closure_of kernels s) at ≡ Some item
-closure_at h lookaheads shape s lt item at e = ap (λ z. slice_get z at) (sym (row_items h lookaheads shape s lt)) ∙ e
+closure_at h lookaheads shape s item at e = ap (λ z. slice_get z at) (sym (row_items h lookaheads shape s)) ∙ e
 
 -- and a place of the closure one of the row
-pub row_at : {kernels : KernelsView} → AreKernels kernels → (lookaheads : List (List ItemLookahead)) → AreLookaheadsOf kernels lookaheads →
+pub row_at : {kernels : KernelsView} → AreKernels kernels → (lookaheads : LookaheadsView) → AreLookaheadsOf kernels lookaheads →
     (s : ℕ) → s < count_of kernels → (item : Item) (at : ℕ) → slice_get (closure_of kernels s) at ≡ Some item →
     slice_get (items_in (row_of lookaheads s)) at ≡ Some item
-row_at h lookaheads shape s lt item at e = ap (λ z. slice_get z at) (row_items h lookaheads shape s lt) ∙ e
+row_at h lookaheads shape s lt item at e = ap (λ z. slice_get z at) (row_items h lookaheads shape s) ∙ e

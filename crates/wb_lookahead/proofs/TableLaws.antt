@@ -1,13 +1,13 @@
 -- What is shown as a conflict is one of the grammar, and where there are tables there is none.
 use Rattle.std.proofs.Common.{◌≢◌, ℕ, ◌<◌, sym, ◌∙◌, inl, inr, arith}
 use Rattle.wb_grammar_theory.specs.Productions.{top_of}
-use Rattle.wb_grammar_theory.specs.Lookaheads.{HasConflict}
+use Rattle.wb_grammar_theory.specs.Lookaheads.{HasConflict, HasNoConflict}
 use Rattle.wb_items.specs.Kernels.{KernelsView, prefix_of}
 use Rattle.wb_lookahead.specs.declared.action.Action.{Action}
 use Rattle.wb_lookahead.specs.declared.action.Action.TheVariants as act
 use Rattle.wb_lookahead.specs.declared.action.Action.TheVariants.{Shift, Reduce, Accept}
 use Rattle.wb_lookahead.specs.Contents.{TablesView}
-use Rattle.wb_lookahead.specs.Tables.{AreTables, IsConflict}
+use Rattle.wb_lookahead.specs.Tables.{AreTables, AreValidSets, IsConflict}
 
 -- a conflict at a kernel is one at its prefix
 pub conflict_has : (kernels : KernelsView) (s t : ℕ) (a b : Action) → IsConflict kernels s t a b →
@@ -24,6 +24,14 @@ conflict_has kernels s t (Reduce p) (Shift m) c = absurd c.in_order
 conflict_has kernels s t (Reduce p) act.None c = absurd c.in_order
 conflict_has kernels s t Accept b c = absurd c.in_order
 conflict_has kernels s t act.None b c = absurd c.in_order
+
+-- a grammar without conflict has none at any kernel
+pub no_conflict_shown : {kernels : KernelsView} → HasNoConflict kernels.grammar → (s t : ℕ) (a b : Action) → ¬ IsConflict kernels s t a b
+no_conflict_shown {kernels} clear s t a b c = clear (prefix_of kernels s) t (conflict_has kernels s t a b c)
+
+-- tables have the valid terminals of each kernel
+pub valid_of_tables : {kernels : KernelsView} {tables : TablesView} → AreTables kernels tables → AreValidSets kernels tables.valid
+valid_of_tables tables = record { len = tables.count; each = tables.valid }
 
 -- where there are tables, nothing shown is a conflict
 pub tables_refute : {kernels : KernelsView} {tables : TablesView} → AreTables kernels tables → (s t : ℕ) (a b : Action) →

@@ -3,4 +3,5 @@ pub mod Parts
 pub mod Rests
 pub mod Rows
 pub mod Spreading
+pub mod Valid
 pub mod Waiting

@@ -17,9 +17,11 @@ mod propagate;
 mod repeats;
 mod rows;
 mod spread;
+mod valid;
 mod worklist;
 
 pub use action::{Action, TableRefusal};
 pub use build_tables::tables;
 pub use parser_tables::Tables;
 pub use plain::plain_lookaheads;
+pub use valid::valid_sets;

@@ -88,6 +88,13 @@ impl Tables {
     {
         &self.valid[state]
     }
+
+    /// The terminals that are valid at each kernel.
+    pub fn valid_sets(&self) -> &[TermSet]
+        ensures { result.now ≡ self.now.valid }
+    {
+        &self.valid
+    }
 }
 
 impl Drop for Tables {

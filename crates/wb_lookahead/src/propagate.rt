@@ -1,6 +1,6 @@
 //! To which items do an item's lookaheads flow? To the item after its symbol, and to the initial items of a nonterminal after its dot.
 //!
-//! All initial items of one nonterminal in one kernel have the same lookaheads, so the first stands for them. `plain.rt` fills the rest.
+//! The initial items of one nonterminal in one kernel have one set, so what spreads to one of them is passed on from all.
 
 ghost use Rattle.std.specs.Prelude.{◌≡◌, ◌+◌, ◌<◌, ◌^◌, ◌∷◌, ◌++◌, [], ℕ, List, MatchOption, OnOk, length};
 ghost use Rattle.wb_base.specs.declared.symbol.Symbol.{Symbol};
@@ -11,7 +11,7 @@ ghost use Rattle.wb_grammar_theory.specs.Productions.{IsProduction};
 ghost use Rattle.wb_grammar_theory.specs.Derives.{IsFirst};
 ghost use Rattle.wb_grammar_theory.specs.Items.{after_dot, advance, initial_item, HasItem};
 ghost use Rattle.wb_items.specs.Kernels.{AreKernels, LeadsTo, count_of, prefix_of};
-ghost use Rattle.wb_lookahead.specs.Inner.Spreading.{AreSound, FlowsTo, IsContext, IsFirstOf, IsItemPassed, IsPassedOn, IsPlace, Spreads};
+ghost use Rattle.wb_lookahead.specs.Inner.Spreading.{AreSound, FlowsTo, IsContext, IsItemPassed, IsPassedOn, IsPlace, IsProductionOf, Spreads};
 ghost use Rattle.wb_items.specs.Lookaheads.{Lists};
 
 use crate::first_of::Rest;
@@ -147,7 +147,7 @@ fn move_on(
     spread(kernels, next, moved, set, lookaheads, worklist)
 }
 
-// Spreads what begins the symbols after a nonterminal, with the terminals after them, to the initial item of its first production.
+// Spreads what begins the symbols after a nonterminal, with the terminals after them, to its initial items, which have one set.
 fn open_after(
     context: &Context,
     state: usize,
@@ -167,38 +167,38 @@ fn open_after(
     requires sound { AreSound context.now.kernels.now lookaheads.old worklist.old }
     ensures sound { OnOk result (AreSound context.now.kernels.now lookaheads.new worklist.new) }
     ensures spreads { OnOk result (Spreads lookaheads.old worklist.old lookaheads.new worklist.new) }
-    ensures lists { OnOk result ((t u b p : ℕ) (rest : List Symbol) → after_dot context.now.grammar.now item ≡ Nonterminal b ∷ rest → IsFirstOf context.now.grammar.now b p → IsMember set.now t → IsFirst context.now.grammar.now (rest ++ Terminal t ∷ []) u → Lists lookaheads.new state (initial_item p) u) }
+    ensures lists { OnOk result ((t u b p : ℕ) (rest : List Symbol) → after_dot context.now.grammar.now item ≡ Nonterminal b ∷ rest → IsProductionOf context.now.grammar.now b p → IsMember set.now t → IsFirst context.now.grammar.now (rest ++ Terminal t ∷ []) u → Lists lookaheads.new state (initial_item p) u) }
 {
     let Symbol::Nonterminal(nonterminal) = symbol else {
         return Ok(());
     };
-    let Some(production) = first_production(context, nonterminal) else {
+    let Some(production) = production_of(context, nonterminal) else {
         return Ok(());
     };
-    let first = Item { production, dot: 0 };
+    let opened = Item { production, dot: 0 };
     if item.production >= context.grammar.productions() {
-        return spread(context.kernels, state, first, set, lookaheads, worklist);
+        return spread(context.kernels, state, opened, set, lookaheads, worklist);
     }
     let rest = &context.rests[item.production].as_slice()[item.dot];
     spread(
         context.kernels,
         state,
-        first,
+        opened,
         &rest.set,
         lookaheads,
         worklist,
     )?;
     if rest.empty {
-        spread(context.kernels, state, first, set, lookaheads, worklist)?;
+        spread(context.kernels, state, opened, set, lookaheads, worklist)?;
     }
     Ok(())
 }
 
-// The first production of a nonterminal.
-pub(crate) fn first_production(context: &Context, nonterminal: usize) -> Option<usize>
+// A production of a nonterminal.
+fn production_of(context: &Context, nonterminal: usize) -> Option<usize>
     requires context { IsContext context.now.kernels.now context.now.grammar.now context.now.productions.now context.now.rests.now }
     requires nonterminal { nonterminal < context.now.grammar.now.nonterminals }
-    ensures { MatchOption result ((q : ℕ) (right : List Symbol) → ¬ IsProduction context.now.grammar.now q nonterminal right) (IsFirstOf context.now.grammar.now nonterminal) }
+    ensures { MatchOption result ((q : ℕ) (right : List Symbol) → ¬ IsProduction context.now.grammar.now q nonterminal right) (IsProductionOf context.now.grammar.now nonterminal) }
 {
     let numbers = context.productions[nonterminal].as_slice();
     if numbers.len() > 0 {

@@ -1,15 +1,16 @@
 //! How does a set of terminals come to an item? It is joined to the item's own, and the item waits if that grew.
 
-ghost use Rattle.std.specs.Prelude.{◌≡◌, ◌+◌, ◌<◌, ℕ, All, IfOk, OnOk, Some, length, slice_get};
+ghost use Rattle.std.specs.Prelude.{◌≡◌, ◌+◌, ◌<◌, ℕ, OnOk, Some, length, slice_get};
 ghost use Rattle.wb_termset.specs.Sets.{IsMember};
 ghost use Rattle.wb_grammar_theory.specs.Items.{HasItem};
 ghost use Rattle.wb_items.specs.Kernels.{AreKernels, count_of, prefix_of};
-ghost use Rattle.wb_items.specs.Lookaheads.{AnswersUnion, Lists, Unites, items_in, row_of};
+ghost use Rattle.wb_items.specs.declared.item_lookahead.ItemLookahead.{ItemLookahead};
+ghost use Rattle.wb_items.specs.Lookaheads.{AnswersUnion, Lists, items_in, row_of};
 ghost use Rattle.wb_lookahead.specs.Inner.Spreading.{AreSound, FlowsTo, Spreads};
 
 use crate::worklist::{Place, Worklist};
 use std::alloc::AllocError;
-use wb_items::{Item, Kernels, Lookaheads, SharedSet};
+use wb_items::{Item, Kernels, Lookaheads};
 use wb_termset::TermSet;
 
 // Adds terminals to the set at an item, which then waits unless it had them.
@@ -33,36 +34,18 @@ pub(crate) fn spread(
 {
     let at = lookaheads.place_near(state, item, worklist.near(item));
     worklist.note(item, at);
-    let grew = unite(Place { state, item, at }, set, lookaheads)?;
-    if grew {
+    if unite(Place { state, item, at }, set, lookaheads) {
         worklist.add(Place { state, item, at })?;
     }
     Ok(())
 }
 
 // Adds terminals to the set at a place, and answers whether one was new.
-fn unite(place: Place, set: &TermSet, lookaheads: &mut Lookaheads) -> Result<bool, AllocError>
-    requires state { place.state < length lookaheads.old }
+fn unite(place: Place, set: &TermSet, lookaheads: &mut Lookaheads) -> bool
+    requires state { place.state < length lookaheads.old.items }
     requires here { slice_get (items_in (row_of lookaheads.old place.state)) place.at ≡ Some place.item }
-    requires len { All (λ looks. length looks.set ≡ length set.now) (row_of lookaheads.old place.state) }
-    ensures { IfOk result (AnswersUnion lookaheads.old place.state place.item set.now lookaheads.new) }
+    requires len { (looks : ItemLookahead) → slice_get (row_of lookaheads.old place.state) place.at ≡ Some looks → length looks.set ≡ length set.now }
+    ensures { AnswersUnion lookaheads.old place.state place.item set.now lookaheads.new result }
 {
-    let grew = lookaheads.union_at(place.state, place.at, set)?;
-    Ok(grew)
-}
-
-// Gives the item of a place a set that has the terminals that it has.
-pub(crate) fn put(
-    place: Place,
-    set: &SharedSet,
-    lookaheads: &mut Lookaheads,
-) -> Result<(), AllocError>
-    requires state { place.state < length lookaheads.old }
-    requires here { slice_get (items_in (row_of lookaheads.old place.state)) place.at ≡ Some place.item }
-    requires len { All (λ looks. length looks.set ≡ length set.now) (row_of lookaheads.old place.state) }
-    requires within { (t : ℕ) → Lists lookaheads.old place.state place.item t → IsMember set.now t }
-    ensures { OnOk result (Unites lookaheads.old place.state place.item set.now lookaheads.new) }
-{
-    lookaheads.put_at(place.state, place.at, set)?;
-    Ok(())
+    lookaheads.union_at(place.state, place.at, set)
 }

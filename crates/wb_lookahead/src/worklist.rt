@@ -3,6 +3,7 @@
 //! Places of the kernel that was taken last come first, since its sets are then at hand. `propagate.rt` passes on.
 
 ghost use Rattle.std.specs.Prelude.{◌≡◌, ◌⊎◌, ◌++◌, ◌∷◌, [], IsTrue, ◌↔◌, MatchOption, IfOk, OnErr, OnOk, slice_index_or, slice_set, false, replicate};
+ghost use Rattle.wb_items.specs.Kernels.{count_of};
 ghost use Rattle.wb_lookahead.specs.Inner.Waiting.{Adds, IsMarked, MarksChange};
 
 use std::alloc::{AllocError, Global};
@@ -86,12 +87,17 @@ impl Model for Worklist {
 }
 
 impl Worklist {
-    // Nothing waits.
-    pub(crate) fn new(alloc: Global, kernels: &Kernels) -> Result<Worklist, AllocError>
+    // Nothing waits, of so many kernels.
+    pub(crate) fn new(
+        alloc: Global,
+        kernels: &Kernels,
+        count: usize,
+    ) -> Result<Worklist, AllocError>
+        requires { count ≡ count_of kernels.now }
         ensures { IfOk result (λ worklist. worklist ≡ []) }
     {
         let mut marks = Vec::new(alloc);
-        'states: for state in 0..kernels.count() {
+        'states: for state in 0..count {
             push(&mut marks, Marks::new(alloc, kernels.closure(state).len())?)?;
         }
         Ok(Worklist {

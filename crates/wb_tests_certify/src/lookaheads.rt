@@ -2,9 +2,8 @@
 //!
 //! Each host and extension of these tests that is certified is asked, set by set, and so are the hosts here.
 
-ghost use Rattle.std.specs.Prelude.{◌≡◌, ◌<◌, IfOk};
+ghost use Rattle.std.specs.Prelude.{◌≡◌, ◌<◌, IfOk, length};
 ghost use Rattle.wb_grammar.specs.Facts.{AreFacts};
-ghost use Rattle.wb_items.specs.Kernels.{count_of};
 ghost use Rattle.wb_items.specs.Lookaheads.{AreLookaheadsOf};
 
 use crate::extensions::extensions_get;
@@ -14,6 +13,7 @@ use wb_digraph::digraph_lookaheads;
 use wb_grammar::{Facts, analyse};
 use wb_items::{Kernels, Lookaheads};
 use wb_lookahead::plain_lookaheads;
+use wb_termset::TermSet;
 
 // Whether both calls find the same lookaheads of this grammar.
 pub(crate) fn agree(alloc: Global, grammar: &Grammar) -> bool {
@@ -44,7 +44,7 @@ fn are_same(kernels: &Kernels, one: &Lookaheads, other: &Lookaheads) -> bool
     requires other { AreLookaheadsOf kernels.now other.now }
 {
     for state in 0..kernels.count() {
-        if !are_same_at(kernels, one, other, state) {
+        if !are_same_at(one, other, state) {
             return false;
         }
     }
@@ -52,17 +52,25 @@ fn are_same(kernels: &Kernels, one: &Lookaheads, other: &Lookaheads) -> bool
 }
 
 // Whether this kernel has.
-fn are_same_at(kernels: &Kernels, one: &Lookaheads, other: &Lookaheads, state: usize) -> bool
-    requires one { AreLookaheadsOf kernels.now one.now }
-    requires other { AreLookaheadsOf kernels.now other.now }
-    requires state { state < count_of kernels.now }
+fn are_same_at(one: &Lookaheads, other: &Lookaheads, state: usize) -> bool
+    requires one { state < length one.now.items }
+    requires other { state < length other.now.items }
 {
-    for item in kernels.closure(state) {
-        if !one.of(state, *item).equals(other.of(state, *item)) {
+    if one.len(state) != other.len(state) {
+        return false;
+    }
+    for place in 0..one.len(state) {
+        let same = one.item_at(state, place) == other.item_at(state, place);
+        if !same || !are_equal(one.at(state, place), other.at(state, place)) {
             return false;
         }
     }
     true
+}
+
+// Whether the sets have the same members.
+fn are_equal(one: &TermSet, other: &TermSet) -> bool {
+    one.count() == other.count() && one.equals(other)
 }
 
 // A grammar that is LALR(1) and not SLR(1).

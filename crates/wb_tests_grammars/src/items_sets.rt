@@ -1,13 +1,12 @@
-//! Is a terminal added to the set at one item, and to no other?
+//! Is a terminal added to the sets of the items that one nonterminal opens, and to no other?
 
-ghost use Rattle.std.specs.Prelude.{◌≡◌, ◌<◌, All, Contains, length};
-ghost use Rattle.wb_items.specs.Lookaheads.{items_in, row_of};
+ghost use Rattle.std.specs.Prelude.{◌≡◌, ◌<◌, length};
 
 use crate::small::{A, Small, T0, grammar_of, kernels_of};
 use std::alloc::{AllocError, Global};
 use std::test::Fail;
 use wb_base::Grammar;
-use wb_items::{Item, Kernels, Lookaheads};
+use wb_items::{Kernels, Lookaheads};
 use wb_termset::TermSet;
 
 // Whether the set has the terminal.
@@ -15,12 +14,12 @@ fn has(set: &TermSet, terminal: usize) -> bool {
     terminal < set.count() && set.contains(terminal)
 }
 
-// Whether the terminal is in the set at the item and in no other of the kernel.
-fn is_only_at(lookaheads: &Lookaheads, state: usize, item: Item, terminal: usize) -> bool
-    requires { state < length lookaheads.now }
+// Whether the terminal is in the set at the items of productions below a number, and in no other of the kernel.
+fn is_only_below(lookaheads: &Lookaheads, state: usize, production: usize, terminal: usize) -> bool
+    requires { state < length lookaheads.now.items }
 {
     for place in 0..lookaheads.len(state) {
-        let is_there = lookaheads.item_at(state, place) == item;
+        let is_there = lookaheads.item_at(state, place).production < production;
         if has(lookaheads.at(state, place), terminal) != is_there {
             return false;
         }
@@ -28,33 +27,34 @@ fn is_only_at(lookaheads: &Lookaheads, state: usize, item: Item, terminal: usize
     true
 }
 
-// Whether the terminal was new in the set at the item, and is then there and nowhere else.
-fn takes(
-    lookaheads: &mut Lookaheads,
-    state: usize,
-    item: Item,
-    terminal: usize,
-) -> Result<bool, AllocError>
-    requires state { state < length lookaheads.old }
-    requires item { Contains (items_in (row_of lookaheads.old state)) item }
-    requires wide { All (λ looks. terminal < length looks.set) (row_of lookaheads.old state) }
+// Whether the terminal was new in the set at the first item, and is then there and at the items of productions below a number alone.
+fn takes(lookaheads: &mut Lookaheads, state: usize, terminal: usize, production: usize) -> bool
+    requires state { state < length lookaheads.old.items }
 {
-    let new = lookaheads.insert(state, item, terminal)?;
-    Ok(new && is_only_at(lookaheads, state, item, terminal))
+    if lookaheads.len(state) == 0 {
+        return false;
+    }
+    if terminal >= lookaheads.at(state, 0).count() {
+        return false;
+    }
+    lookaheads.insert_at(state, 0, terminal)
+        && is_only_below(lookaheads, state, production, terminal)
 }
 
-// Whether the set at the first item of the first kernel takes the end of a text.
+// Whether the end of a text goes to all items that the grammar's nonterminal opens in the first kernel, and not to `S' -> S`.
 fn takes_the_end(alloc: Global, grammar: &Grammar, kernels: &Kernels) -> Result<bool, AllocError>
     requires { kernels.now.grammar ≡ grammar.now }
 {
     if kernels.count() == 0 {
         return Ok(false);
     }
-    let Some(&item) = kernels.closure(0).first() else {
-        return Ok(false);
-    };
     let mut lookaheads = Lookaheads::new(alloc, grammar, kernels)?;
-    takes(&mut lookaheads, 0, item, grammar.terminals())
+    Ok(takes(
+        &mut lookaheads,
+        0,
+        grammar.terminals(),
+        grammar.productions(),
+    ))
 }
 
 // A -> , A -> A t0
@@ -77,7 +77,9 @@ fn is_taken(alloc: Global) -> Result<bool, AllocError> {
 }
 
 #[test]
-fn a_set_takes_a_terminal_for_one_item(rt: HostRuntime) -> Result<(), Fail> {
+fn a_set_takes_a_terminal_for_the_items_that_one_nonterminal_opens(
+    rt: HostRuntime,
+) -> Result<(), Fail> {
     assert!(rt; is_taken(rt.alloc())?);
     Ok(())
 }

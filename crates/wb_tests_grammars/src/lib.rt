@@ -16,6 +16,8 @@ mod lookahead;
 #[cfg(test)]
 mod lookahead_canonical;
 #[cfg(test)]
+mod lookahead_conflicts;
+#[cfg(test)]
 mod lookahead_random;
 #[cfg(test)]
 mod lookahead_relations;

@@ -30,7 +30,7 @@ pub(crate) fn is_mask(set: &TermSet, mask: u64) -> bool {
 
 // Whether the sets of a kernel are these, in order.
 fn are_masks(lookaheads: &Lookaheads, state: usize, masks: &[u64]) -> bool
-    requires { state < length lookaheads.now }
+    requires { state < length lookaheads.now.items }
 {
     if lookaheads.len(state) != masks.len() {
         return false;

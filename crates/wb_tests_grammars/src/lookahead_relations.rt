@@ -69,8 +69,8 @@ fn are_same(one: &TermSet, other: &TermSet) -> bool {
 
 // Whether a kernel has the same items in both, with the same sets.
 fn are_same_at(one: &Lookaheads, other: &Lookaheads, state: usize) -> bool
-    requires one { state < length one.now }
-    requires other { state < length other.now }
+    requires one { state < length one.now.items }
+    requires other { state < length other.now.items }
 {
     if one.len(state) != other.len(state) {
         return false;

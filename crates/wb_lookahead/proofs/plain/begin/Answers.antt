@@ -10,7 +10,7 @@ use Rattle.wb_items.specs.Kernels.{prefix_of}
 use Rattle.wb_lookahead.specs.Inner.Spreading.{FlowsTo}
 use Rattle.wb_items.specs.Lookaheads.{Lists}
 use Rattle.wb_lookahead.proofs.PassLemmas.{first_within, one_member, start_has}
-use Rattle.wb_lookahead.proofs.WaitingLemmas.{begun_waiting}
+use Rattle.wb_lookahead.proofs.WaitingLemmas.{begun_sound, begun_waiting}
 use Rattle.wb_lookahead.proofs.plain.begin.Goals as goal
 use Rattle.wb_lemmas.proofs.Refusals.{on_ok_both}
 
@@ -23,6 +23,10 @@ spread-requires-clause-has c =
     let top : c.productions.result ≡ length K.grammar.productions = c.productions.ensures.count ∙
     ap (λ (g : GrammarView). length g.productions) (sym c.requires.context.of_grammar) in
     subst (λ p. HasItem K.grammar (prefix_of K 0) (initial_item p)) (sym top) (start_has c.requires.context.are_kernels)
+
+pub spread-requires-clause-sound : goal.spread-requires-clause-sound
+spread-requires-clause-sound c =
+    begun_sound c.args.lookaheads.now c.requires.shape c.requires.apart c.requires.empty c.requires.nothing
 
 pub spread-requires-clause-flows : goal.spread-requires-clause-flows
 spread-requires-clause-flows c =

@@ -10,9 +10,9 @@ pass_on-requires-clause-place c = first_place c.in-Some.place c.waiting.invarian
 pub waiting-preserved : goal.waiting-preserved
 waiting-preserved c = record {
   sound = c.in_ok-pass_on.ensures.sound;
-  waiting = passed_waiting c.pop.new.self c.in-Some.place c.in-Some.ensures c.waiting.invariant.waiting c.in_ok-pass_on.ensures.spreads
+  waiting = passed_waiting c.pop.new.self c.in-Some.place c.in-Some.ensures c.waiting.invariant.sound c.waiting.invariant.waiting c.in_ok-pass_on.ensures.spreads
       c.in_ok-pass_on.ensures.passed;
 }
 
 pub returns : goal.returns
-returns c = all_passed c.waiting.invariant.sound c.waiting.invariant.waiting c.in_default.ensures
+returns c = all_passed c.requires.context.are_kernels c.waiting.invariant.sound c.waiting.invariant.waiting c.in_default.ensures

@@ -2,12 +2,12 @@ use Rattle.std.proofs.Common.{◌≡◌, ◌<◌, ◌≤◌, ◌∷◌, length, 
 use Rattle.std.specs.Prelude.{slice_get}
 use Rattle.std.proofs.lemmas.Bool.{true≢false}
 use Rattle.std.proofs.lemmas.Option.{slice_get_read, slice_get-get_or}
-use Rattle.std.proofs.lemmas.Result.{on_ok_weaker}
 use Rattle.wb_base.specs.declared.symbol.Symbol.TheVariants.{Nonterminal}
 use Rattle.wb_base.specs.Grammar.{GrammarView}
 use Rattle.wb_grammar_theory.specs.Items.{after_dot, initial_item}
+use Rattle.wb_lemmas.proofs.Refusals.{on_ok_both}
 use Rattle.wb_lookahead.specs.Inner.Rests.{IsOpening}
-use Rattle.wb_lookahead.proofs.PassLemmas.{open_flows_on, open_has, opening_flows}
+use Rattle.wb_lookahead.proofs.PassLemmas.{open_flows_on, open_has, opened_together, opening_flows}
 use Rattle.wb_lookahead.proofs.PropagateLemmas.{nothing_after, nothing_begins, open_lists, rest_there}
 use Rattle.wb_lookahead.proofs.SpreadLemmas.{spreads_then}
 use Rattle.wb_lookahead.proofs.propagate.open_after.Goals as goal
@@ -44,10 +44,12 @@ returns-then-item-productions-clause-lists c =
     let here : after_dot g c.args.item ≡ Nonterminal n ∷ rest = is ∙ ap (λ z. z ∷ rest) c.in-Nonterminal.is in
     let past : length g.productions ≤ c.args.item.production = (let e = c.productions.ensures.count in let f =
     c.if-item-productions.true in omega (arith, e, f)) in
-    on_ok_weaker c.spread.result
-    (λ lists. open_lists g c.args.set.now c.spread.new.lookaheads c.args.state c.args.item n p rest here c.in-Some.ensures
+    on_ok_both c.spread.result
+    (λ sound lists. open_lists g c.args.set.now c.spread.new.lookaheads c.args.state c.args.item n p rest here
+    (opened_together c.requires.context.are_kernels c.requires.context.of_grammar c.spread.new.lookaheads sound c.args.state
+    c.requires.state c.args.item c.requires.has n p rest here c.in-Some.ensures)
     (λ u begins. absurd (nothing_begins g c.args.item past (Nonterminal n) rest here u begins)) (λ _. lists))
-    c.spread.ensures.lists
+    c.spread.ensures.sound c.spread.ensures.lists
 
 pub offset_bounds-as_slice-item : goal.offset_bounds-as_slice-item
 offset_bounds-as_slice-item c =
@@ -187,7 +189,9 @@ returns-in_ok-spread-2-clause-lists c =
     there.1 c.index-as_slice-item.result
     (slice_get_read c.as_slice.result.now
     (length c.as_slice.result.now) c.args.item.dot c.index-as_slice-item.result refl there.0 c.index-as_slice-item.is) in
-    open_lists g c.args.set.now c.spread-then-rest.new.lookaheads c.args.state c.args.item n p rest here c.in-Some.ensures
+    open_lists g c.args.set.now c.spread-then-rest.new.lookaheads c.args.state c.args.item n p rest here
+    (opened_together c.requires.context.are_kernels c.requires.context.of_grammar c.spread-then-rest.new.lookaheads
+    c.in_ok-spread-2.ensures.sound c.args.state c.requires.state c.args.item c.requires.has n p rest here c.in-Some.ensures)
     (λ u begins. c.in_ok-spread-2.ensures.spreads.keeps c.args.state (initial_item p) u
     (c.in_ok-spread.ensures.lists u (is_rest.first u begins))) (λ _. c.in_ok-spread-2.ensures.lists)
 
@@ -209,6 +213,8 @@ returns-else-rest-clause-lists c =
     there.1 c.index-as_slice-item.result
     (slice_get_read c.as_slice.result.now
     (length c.as_slice.result.now) c.args.item.dot c.index-as_slice-item.result refl there.0 c.index-as_slice-item.is) in
-    open_lists g c.args.set.now c.spread-2.new.lookaheads c.args.state c.args.item n p rest here c.in-Some.ensures
+    open_lists g c.args.set.now c.spread-2.new.lookaheads c.args.state c.args.item n p rest here
+    (opened_together c.requires.context.are_kernels c.requires.context.of_grammar c.spread-2.new.lookaheads
+    c.in_ok-spread.ensures.sound c.args.state c.requires.state c.args.item c.requires.has n p rest here c.in-Some.ensures)
     (λ u begins. c.in_ok-spread.ensures.lists u (is_rest.first u begins))
     (λ empty. absurd (true≢false (sym (is_rest.empty.1 empty) ∙ c.if-rest.false)))

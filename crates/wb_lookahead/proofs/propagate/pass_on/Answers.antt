@@ -1,18 +1,24 @@
-use Rattle.std.proofs.Common.{◌≡◌, ◌<◌, length, sym, ap, subst, arith}
+use Rattle.std.proofs.Common.{◌≡◌, ℕ, ◌<◌, length, sym, ap, subst, arith}
 use Rattle.std.proofs.lemmas.Result.{on_ok_weaker}
 use Rattle.wb_base.specs.Grammar.{GrammarView}
 use Rattle.wb_grammar_theory.specs.Productions.{IsProduction}
 use Rattle.wb_grammar_theory.specs.Items.{initial_item, HasItem}
 use Rattle.wb_items.specs.Kernels.{prefix_of}
+use Rattle.wb_items.specs.Apart.{Opens}
 use Rattle.wb_items.specs.Lookaheads.{IsSetOf}
-use Rattle.wb_lookahead.specs.Inner.Spreading.{FlowsTo, IsSole}
-use Rattle.wb_lookahead.proofs.PassLemmas.{initial_passed, sole_passed}
+use Rattle.wb_lookahead.specs.Inner.Spreading.{FlowsTo}
+use Rattle.wb_lookahead.proofs.PassLemmas.{alone_passed, initial_passed, place_in_row}
 use Rattle.wb_lookahead.proofs.PlaceLemmas.{held, held_len, listed_held, place_has}
 use Rattle.wb_lookahead.proofs.PropagateLemmas.{left_is}
-use Rattle.wb_lookahead.proofs.StandInLemmas.{initial_all, initial_flows_all, initial_is, moved_sole, past_sole}
+use Rattle.wb_lookahead.proofs.OpenedLemmas.{initial_all, initial_flows_all, initial_is, moved_alone, past_alone}
 use Rattle.wb_lookahead.proofs.propagate.pass_on.Goals as goal
 use Rattle.wb_lookahead.proofs.propagate.pass_on.Goals.{then-place-gt0-via-then-place-gt0}
 use Rattle.wb_lookahead.proofs.propagate.pass_on.Goals.{then-place-gt0-via-else-place-gt0+then-place-productions}
+
+pub at-requires-clause-place : goal.at-requires-clause-place
+at-requires-clause-place c =
+    place_in_row c.requires.context.are_kernels c.args.lookaheads.now c.requires.sound.shape c.args.place.state c.requires.place.state
+    c.args.place.item c.args.place.at c.requires.place.here
 
 pub pass_item-requires-clause-has : goal.pass_item-requires-clause-has
 pass_item-requires-clause-has c = place_has c.requires.context.are_kernels c.args.place c.requires.place
@@ -45,15 +51,15 @@ returns-then-place-gt0-clause-passed c =
     let set_is : IsSetOf c.args.lookaheads.now place.state place.item c.in_ok-set.set =
     held h c.args.lookaheads.now c.requires.sound.shape place c.requires.place c.at.result.now c.in_ok-set.set c.at.ensures
     c.in_ok-set.ensures in
-    let sole : IsSole K.grammar place.item = elim c.then-place-gt0.branch [
-      | then-place-gt0-via-then-place-gt0 w ↦ moved_sole K.grammar place.item w.if-place-gt0.true
+    let none : (b : ℕ) → ¬ Opens K.grammar b place.item = elim c.then-place-gt0.branch [
+      | then-place-gt0-via-then-place-gt0 w ↦ moved_alone K.grammar place.item w.if-place-gt0.true
       | then-place-gt0-via-else-place-gt0+then-place-productions w ↦
-          past_sole K.grammar place.item
+          past_alone K.grammar place.item
           (let e = w.productions.ensures.count in let f = w.if-place-productions.true in let g =
           ap (λ (z : GrammarView). length z.productions) c.requires.context.of_grammar in omega (arith, e, f, g))
     ] in
     on_ok_weaker c.pass_item.result
-    (λ passed t lists. sole_passed sole
+    (λ passed t lists. alone_passed none
     (passed t (listed_held h c.args.lookaheads.now c.requires.sound.shape place.state c.requires.place.state place.item c.in_ok-set.set
     set_is t lists)))
     c.pass_item.ensures.passed

@@ -11,7 +11,7 @@ use Rattle.wb_lookahead.specs.Tables.{IsTableRefusal, Stands}
 use Rattle.wb_lookahead.specs.Inner.Rows.{IsClash, IsReduction}
 use Rattle.wb_lookahead.proofs.RowLemmas.{adds_none, clash_refused, complete_asks, complete_stands, nothing_asked, puts_adds, shift_asks}
 use Rattle.wb_grammar_theory.proofs.ShiftLemmas.{valid_production}
-use Rattle.wb_items.proofs.CallerLemmas.{row_has}
+use Rattle.wb_items.proofs.CallerLemmas.{row_has, set_wide}
 use Rattle.wb_lookahead.proofs.rows.add_item.Goals as goal
 
 pub reduction-action-requires : goal.reduction-action-requires
@@ -98,3 +98,8 @@ returns-clause-refused c =
     (record { item = c.args.item; rest = rest; has = c.requires.item; before_dot = before }, leads))
     c.requires.sound)
     c.put.ensures.refused
+
+pub put_all-requires : goal.put_all-requires
+put_all-requires c =
+    c.requires.sound.len ∙
+    sym (set_wide c.requires.kernels c.args.lookaheads.now c.requires.lookaheads.shape c.args.state c.args.item c.of.result.now c.of.ensures)
