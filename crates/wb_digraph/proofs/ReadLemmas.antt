@@ -1,210 +1,249 @@
--- The edges of what moves read, as they are added.
-use Rattle.std.proofs.Common.{◌≡◌, ℕ, ◌+◌, ◌<◌, ◌≤◌, ◌⊎◌, List, [], ◌∷◌, ◌++◌, length, Some, sym, ◌∙◌, ap, subst, inl, inr, arith}
-use Rattle.std.specs.Prelude.{Contains, slice_get, ◌↔◌}
+-- What is read at kernels, as rows of moves are gone through.
+use Rattle.std.proofs.Common.{◌≡◌, ℕ, ◌+◌, ◌<◌, ◌≤◌, ◌⊎◌, Bool, List, [], ◌∷◌, ◌++◌, length, set, get_or, false, true, Some, refl, sym, ◌∙◌, ap, subst}
+use Rattle.std.proofs.Common.{inl, inr, arith, length-set, length-append, get_or-set_same, get_or-set_other}
+use Rattle.std.specs.Prelude.{Contains, slice_get, take, ◌↔◌}
 use Rattle.std.proofs.lemmas.Bool.{cases_eq}
+use Rattle.std.proofs.lemmas.List.{take_all, take_more}
+use Rattle.std.proofs.lemmas.List.Elements.{All-contains, All-push, Contains-push, Contains-push_cases, Contains-append_left}
 use Rattle.std.proofs.lemmas.Option.{slice_get_within}
-use Rattle.wb_lemmas.proofs.Places.{at_once}
-use Rattle.wb_lemmas.proofs.Members.{contains_at, contains_push, place_of, push_contains, push_contains_last, nothing_in}
-use Rattle.wb_base.specs.declared.symbol.Symbol.{Symbol}
-use Rattle.wb_base.specs.declared.symbol.Symbol.TheVariants.{Nonterminal}
+use Rattle.wb_lemmas.proofs.Places.{at_once, at_push}
+use Rattle.wb_lemmas.proofs.Members.{contains_at, contains_push, nothing_in, place_of, push_contains, push_contains_last}
+use Rattle.wb_termset.specs.Sets.{IsMember}
 use Rattle.wb_graph.specs.Graphs.{Edge, IsEdge}
+use Rattle.wb_base.specs.declared.symbol.Symbol.{Symbol}
+use Rattle.wb_base.specs.declared.symbol.Symbol.TheVariants.{Nonterminal, Terminal}
 use Rattle.wb_grammar_theory.specs.Derives.{IsNullable}
 use Rattle.wb_items.specs.declared.transitions.Move.{Move}
-use Rattle.wb_items.specs.Kernels.{KernelsView, AreKernels, LeadsTo}
-use Rattle.wb_digraph.specs.declared.moves.NonterminalMove.{NonterminalMove}
-use Rattle.wb_digraph.specs.Inner.Kernels.{ReadsIn}
-use Rattle.wb_digraph.specs.Inner.Moves.{AreMovesOf}
-use Rattle.wb_digraph.specs.Inner.Edges.{AddsReads, AreSoundEdges, IsBefore, LeadsOn, ListsEdges, ListsRead, ReadsUpTo, Relates}
 use Rattle.wb_base.specs.Grammar.{IsGrammar}
-use Rattle.wb_digraph.proofs.BackLemmas.{leads_below, next_once}
-use Rattle.wb_digraph.proofs.MoveLemmas.{move_of}
+use Rattle.wb_items.specs.Kernels.{AreKernels, KernelsView, LeadsTo, count_of}
+use Rattle.wb_digraph.specs.Inner.Links.{AddsReads, AreShiftsUpTo, ReadsOn, Shifts}
+use Rattle.wb_digraph.specs.Inner.Pools.{AreNumbers, Extends, set_at}
+use Rattle.wb_digraph.proofs.BackLemmas.{leads_below}
+use Rattle.wb_digraph.proofs.PoolLemmas.{extended_at, numbers_kept}
 
--- an edge among more leads on
-pub leads_kept : (moves : List NonterminalMove) (old new : List Edge) (u s a : ℕ) → ((u v : ℕ) → IsEdge old u v → IsEdge new u v) →
-    LeadsOn moves old u s a → LeadsOn moves new u s a
-leads_kept moves old new u s a keeps l = record {
-  number = l.number;
-  to = l.to;
-  at = l.at;
-  state = l.state;
-  nonterminal = l.nonterminal;
-  edge = keeps u l.number l.edge;
-}
+abbrev pub move_of : Symbol → ℕ → Move
+move_of x next = record { symbol = x; state = next }
 
--- an old edge among one more
-pub edge_old : (edges : List Edge) (x : Edge) (u v : ℕ) → IsEdge edges u v → IsEdge (edges ++ x ∷ []) u v
-edge_old edges x u v e = push_contains edges x (u, v) e
+-- the first places of the row have a move by the terminal
+abbrev pub ShiftsIn : List Move → ℕ → Type 0
+ShiftsIn row t = (next : ℕ) × Contains row (move_of (Terminal t) next)
 
--- an edge of a list with one more is an old one or that
-pub edge_push : (edges : List Edge) (x y u v : ℕ) → IsEdge (edges ++ (x, y) ∷ []) u v → IsEdge edges u v ⊎ ((x ≡ u) × (y ≡ v))
-edge_push edges x y u v e = elim (contains_push edges (x, y) (u, v) e) [
-  | inl old ↦ inl old
-  | inr same ↦ inr (ap (λ (z : Edge). z.0) same, ap (λ (z : Edge). z.1) same)
-]
+-- a terminal more
+pub inserted : (old new : List Bool) (n : ℕ) → n < length old → new ≡ set old n true → (length new ≡ length old) ×
+    ((t : ℕ) → IsMember new t ↔ (IsMember old t ⊎ (t ≡ n)))
+inserted old new n lt is = (
+  ap length is ∙ length-set old n true,
+  λ t. elim (cases_eq t n) [
+    | inl same ↦ (
+      λ has. inr same,
+      λ either. ap (λ z. get_or z t false) is ∙ ap (λ z. get_or (set old n true) z false) same ∙ get_or-set_same old n true false lt,
+    )
+    | inr ne ↦ (
+      λ has. inl (sym (ap (λ z. get_or z t false) is ∙ get_or-set_other old n t true false ne) ∙ has),
+      λ either. elim either [
+        | inl has ↦ ap (λ z. get_or z t false) is ∙ get_or-set_other old n t true false ne ∙ has
+        | inr same ↦ absurd (ne same)
+      ],
+    )
+  ],
+)
 
--- one edge of the relation more
-pub sound_push : (R : ℕ → ℕ → ℕ → ℕ → Type 0) (moves : List NonterminalMove) (edges : List Edge) (x y : ℕ) → Relates R moves x y →
-    AreSoundEdges R moves edges → AreSoundEdges R moves (edges ++ (x, y) ∷ [])
-sound_push R moves edges x y r sound u v e = elim (edge_push edges x y u v e) [
-  | inl old ↦ sound u v old
-  | inr (p, q) ↦ subst (λ z. Relates R moves z v) p (subst (Relates R moves x) q r)
-]
+same_terminal : (t n : ℕ) → Terminal n ≡ Terminal t → t ≡ n
+same_terminal t n e = cc
 
-no_edges : (u v : ℕ) → IsEdge [] u v → ⊥
-no_edges u v e = nothing_in (u, v) e
+-- a symbol that is a terminal
+pub symbol_in : (old new : List Bool) (symbol : Symbol) (n : ℕ) → symbol ≡ Terminal n →
+    ((t : ℕ) → IsMember new t ↔ (IsMember old t ⊎ (t ≡ n))) → (t : ℕ) → IsMember new t ↔ (IsMember old t ⊎ (symbol ≡ Terminal t))
+symbol_in old new symbol n is h t = (
+  λ has. elim ((h t).0 has) [ inl before ↦ inl before | inr same ↦ inr (is ∙ ap Terminal (sym same)) ],
+  λ either. elim either [ inl before ↦ (h t).1 (inl before) | inr at ↦ (h t).1 (inr (same_terminal t n (sym is ∙ at))) ],
+)
 
-pub sound_start : (R : ℕ → ℕ → ℕ → ℕ → Type 0) (moves : List NonterminalMove) → AreSoundEdges R moves []
-sound_start R moves u v e = absurd (no_edges u v e)
+-- one move more of the row
+pub shifts_more : (row : List Move) (i : ℕ) (d step : Move) (old new : List Bool) → i < length row → step ≡ get_or row i d →
+    ((t : ℕ) → IsMember new t ↔ (IsMember old t ⊎ (step.symbol ≡ Terminal t))) →
+    ((t : ℕ) → IsMember old t ↔ ShiftsIn (take i row) t) → (t : ℕ) → IsMember new t ↔ ShiftsIn (take (i + 1) row) t
+shifts_more row i d step old new lt is adds h t = (
+  λ has. elim ((adds t).0 has) [
+    | inl before ↦ (let (next, of) = (h t).0 before in (next, more (Contains-append_left (take i row) (get_or row i d ∷ []) _ of)))
+    | inr same ↦ (
+      step.state,
+      more (subst (λ z. Contains (take i row ++ get_or row i d ∷ []) z) (sym is ∙ whole step t same)
+          (Contains-push (take i row) (get_or row i d))),
+    )
+  ],
+  λ (next, of). elim (Contains-push_cases (take i row) (get_or row i d) (move_of (Terminal t) next)
+      (subst (λ z. Contains z (move_of (Terminal t) next)) (take_more row i d lt) of)) [
+        | inl before ↦ (adds t).1 (inl ((h t).1 (next, before)))
+        | inr same ↦ (adds t).1 (inr (ap (λ (m : Move). m.symbol) (is ∙ same)))
+      ],
+)
+  where
+    more : {m : Move} → Contains (take i row ++ get_or row i d ∷ []) m → Contains (take (i + 1) row) m
+    more {m} of = subst (λ z. Contains z m) (sym (take_more row i d lt)) of
 
-module _ (kernels : KernelsView) (moves : List NonterminalMove) where
-  -- no edge, where nothing is asked for
-  pub reads_none : (number : ℕ) (Of : ℕ → Type 0) (edges : List Edge) → AreSoundEdges (ReadsIn kernels) moves edges →
-      ((c : ℕ) → Of c → IsNullable kernels.grammar c → ⊥) → AddsReads kernels moves number Of edges edges
-  reads_none number Of edges sound never = record {
-    sound = sound;
-    keeps = λ u v e. e;
-    lists = λ c of from next at n empty. absurd (never c of empty);
-  }
+    whole : (m : Move) (t : ℕ) → m.symbol ≡ Terminal t → m ≡ move_of (Terminal t) m.state
+    whole m t e = λ j. record { symbol = e j; state = m.state }
 
-  -- the edge of one move by a nonterminal
-  pub reads_push : (number target state b next : ℕ) (from : NonterminalMove) (edges : List Edge) → AreMovesOf kernels moves →
-      slice_get moves number ≡ Some from → from.next ≡ state → slice_get moves target ≡ Some (move_of state b next) →
-      IsNullable kernels.grammar b → AreSoundEdges (ReadsIn kernels) moves edges →
-      AddsReads kernels moves number (λ c. Nonterminal b ≡ Nonterminal c) edges (edges ++ (number, target) ∷ [])
-  reads_push number target state b next from edges are at to at' empty sound = record {
-    sound = sound_push (ReadsIn kernels) moves edges number target (record {
-      from = from;
-      to = move_of state b next;
-      at_from = at;
-      at_to = at';
-      related = record {
-        moves = subst (λ z. LeadsTo kernels from.state (Nonterminal from.nonterminal) z) to
-            (are.sound from (contains_at moves from number at));
-        on = (next, are.sound (move_of state b next) (contains_at moves (move_of state b next) target at'));
-        empty = empty;
-      };
-    }) sound;
-    keeps = λ u v e. edge_old edges (number, target) u v e;
-    lists = λ c same other next' other_at n null. record {
-      number = target;
-      to = move_of state b next;
-      at = at';
-      state = sym to ∙ ap (λ (z : NonterminalMove). z.next) (at_once moves number from other at other_at);
-      nonterminal = (let e : Nonterminal b ≡ Nonterminal c = same in cc);
-      edge = push_contains_last edges (number, target);
-    };
-  }
+-- all moves of the row
+pub shifts_all : (kernels : KernelsView) (row : List Move) (s i : ℕ) (made : List Bool) →
+    ((x : Symbol) (next : ℕ) → Contains row (move_of x next) ↔ LeadsTo kernels s x next) → length row ≤ i →
+    ((t : ℕ) → IsMember made t ↔ ShiftsIn (take i row) t) → (t : ℕ) → IsMember made t ↔ Shifts kernels s t
+shifts_all kernels row s i made exact past h t = (
+  λ has. let (next, of) = (h t).0 has in
+      (next, (exact (Terminal t) next).0 (subst (λ z. Contains z (move_of (Terminal t) next)) (take_all i row past) of)),
+  λ (next, leads). (h t).1
+      (next, subst (λ z. Contains z (move_of (Terminal t) next)) (sym (take_all i row past)) ((exact (Terminal t) next).1 leads)),
+)
 
-  -- edges added one after another
-  pub reads_then : {number : ℕ} {P Q R : ℕ → Type 0} {old mid new : List Edge} → AddsReads kernels moves number P old mid →
-      AddsReads kernels moves number Q mid new → ((c : ℕ) → R c → P c ⊎ Q c) → AddsReads kernels moves number R old new
-  reads_then {number} {P} {Q} {R} {old} {mid} {new} one two both = record {
-    sound = two.sound;
-    keeps = λ u v e. two.keeps u v (one.keeps u v e);
-    lists = λ c of. go c (both c of);
-  }
-    where
-      go : (c : ℕ) → P c ⊎ Q c → ListsRead kernels moves new number c
-      go c (inl p) = λ from next at n empty. leads_kept moves mid new number from.next c two.keeps (one.lists c p from next at n empty)
-      go c (inr q) = two.lists c q
+-- the set of one kernel more
+pub shifts_next : (kernels : KernelsView) (s number : ℕ) (old new : List (List Bool)) (shifts shifts' : List ℕ) (made : List Bool) →
+    Extends old new → number < length new → set_at new number ≡ made → ((t : ℕ) → IsMember made t ↔ Shifts kernels s t) →
+    shifts' ≡ shifts ++ number ∷ [] → AreShiftsUpTo kernels s old shifts → AreShiftsUpTo kernels (s + 1) new shifts'
+shifts_next kernels s number old new shifts shifts' made more lt is exact shifts_is h =
+    subst (AreShiftsUpTo kernels (s + 1) new) (sym shifts_is) (record {
+      len = length-append shifts (number ∷ []) ∙ ap (λ z. z + 1) h.len;
+      below = All-push (λ n. n < length new) shifts number (numbers_kept old new shifts more h.below) lt;
+      exact = λ k m t at. elim (at_push shifts number m k at) [
+        | inl before ↦
+            let m_lt : m < length old = All-contains (λ n. n < length old) shifts m h.below
+            (contains_at shifts m k before) in
+            let same = extended_at old new m more m_lt in
+            let one = h.exact k m t before in
+            (λ has. one.0 (subst (λ z. IsMember z t) same has), λ shifts. subst (λ z. IsMember z t) (sym same) (one.1 shifts))
+        | inr (last, same) ↦
+            let set_is : set_at new m ≡ made = ap (set_at new) (sym same) ∙ is in
+            let one = exact t in
+            let k_is : k ≡ s = last ∙ h.len in (
+              λ has. subst (λ z. Shifts kernels z t) (sym k_is) (one.0 (subst (λ z. IsMember z t) set_is has)),
+              λ shifts. subst (λ z. IsMember z t) (sym set_is) (one.1 (subst (λ z. Shifts kernels z t) k_is shifts)),
+            )
+      ];
+    })
 
-  -- all moves of the row
-  pub reads_row : (number i state : ℕ) (from : NonterminalMove) (row : List Move) (old new : List Edge) →
-      slice_get moves number ≡ Some from →
-      from.next ≡ state → length row ≤ i →
-      ((x : Symbol) (next : ℕ) → Contains row (record { symbol = x; state = next }) ↔ LeadsTo kernels state x next) →
-      AddsReads kernels moves number (IsBefore row i) old new → AddsReads kernels moves number (λ c. Unit {0}) old new
-  reads_row number i state from row old new at to past exact h = record {
-    sound = h.sound;
-    keeps = h.keeps;
-    lists = λ c _ other next other_at n empty.
-        let same : other.next ≡ state = ap (λ (z : NonterminalMove). z.next) (at_once moves number other from other_at at) ∙ to in
-        let (j, at_j) = place_of row (record { symbol = Nonterminal c; state = next })
-        ((exact (Nonterminal c) next).1 (subst (λ z. LeadsTo kernels z (Nonterminal c) next) same n)) in
-        h.lists c
-        (next, j, (let w = slice_get_within row j (record { symbol = Nonterminal c; state = next }) at_j in omega (arith, past, w)), at_j)
-        other next other_at n empty;
-  }
+-- an edge more
+pub reads_push : (To : ℕ → Type 0) (s next : ℕ) (old new : List Edge) → new ≡ old ++ (s, next) ∷ [] → ((v : ℕ) → To v ↔ (v ≡ next)) →
+    AddsReads To s old new
+reads_push To s next old new is to u v = (
+  λ e. elim (contains_push old (s, next) (u, v) (subst (λ z. Contains z (u, v)) is e)) [
+    | inl before ↦ inl before
+    | inr same ↦ inr (ap (λ (z : Edge). z.0) (sym same), (to v).1 (ap (λ (z : Edge). z.1) (sym same)))
+  ],
+  λ either. subst (λ z. Contains z (u, v)) (sym is) (elim either [
+    | inl before ↦ push_contains old (s, next) (u, v) before
+    | inr (from, at) ↦ subst (Contains (old ++ (s, next) ∷ [])) (λ j. (sym from j, sym ((to v).0 at) j)) (push_contains_last old (s, next))
+  ]),
+)
 
-  pub reads_start : ReadsUpTo kernels moves 0 []
-  reads_start = record { sound = sound_start (ReadsIn kernels) moves; lists = λ u c lt. absurd (omega arith) }
+-- none
+pub reads_none : (To : ℕ → Type 0) (s : ℕ) (edges : List Edge) → ((v : ℕ) → To v → ⊥) → AddsReads To s edges edges
+reads_none To s edges never u v = (
+  λ e. inl e,
+  λ either. elim either [ inl before ↦ before | inr (from, to) ↦ absurd (never v to) ],
+)
 
-  -- one move more
-  pub reads_more : (n : ℕ) (old new : List Edge) → AddsReads kernels moves n (λ c. Unit {0}) old new → ReadsUpTo kernels moves n old →
-      ReadsUpTo kernels moves (n + 1) new
-  reads_more n old new adds h = record {
-    sound = adds.sound;
-    lists = λ u c lt. elim (cases_eq u n) [
-      | inl same ↦ subst (λ z. ListsRead kernels moves new z c) (sym same) (adds.lists c tt)
-      | inr ne ↦ λ from next at l empty. leads_kept moves old new u from.next c adds.keeps
-          (h.lists u c (omega (arith, lt, ne)) from next at l empty)
-    ];
-  }
+-- one after another
+pub reads_then : {P Q R : ℕ → Type 0} {s : ℕ} (old mid new : List Edge) → AddsReads P s old mid → AddsReads Q s mid new →
+    ((v : ℕ) → R v ↔ (P v ⊎ Q v)) → AddsReads R s old new
+reads_then old mid new one two both u v = (
+  λ e. elim ((two u v).0 e) [
+    | inl before ↦ elim ((one u v).0 before) [
+      | inl first ↦ inl first
+      | inr (from, p) ↦ inr (from, (both v).1 (inl p))
+    ]
+    | inr (from, q) ↦ inr (from, (both v).1 (inr q))
+  ],
+  λ either. elim either [
+    | inl first ↦ (two u v).1 (inl ((one u v).1 (inl first)))
+    | inr (from, r) ↦ elim ((both v).0 r) [
+      | inl p ↦ (two u v).1 (inl ((one u v).1 (inr (from, p))))
+      | inr q ↦ (two u v).1 (inr (from, q))
+    ]
+  ],
+)
 
-  -- all moves
-  pub reads_done : AreKernels kernels → AreMovesOf kernels moves → (n : ℕ) (edges : List Edge) → length moves ≤ n →
-      ReadsUpTo kernels moves n edges → ListsEdges (ReadsIn kernels) moves edges
-  reads_done k are n edges past h = record {
-    sound = h.sound;
-    complete = λ u s b from at r.
-        let same : from.next ≡ s = next_once k from.state (Nonterminal from.nonterminal) from.next s
-        (are.sound from (contains_at moves from u at)) r.moves in
-        let (next, l) = r.on in
-        subst (λ z. LeadsOn moves edges u z b) same
-        (h.lists u b (let w = slice_get_within moves u from at in omega (arith, past, w)) from next at
-        (subst (λ z. LeadsTo kernels z (Nonterminal b) next) (sym same) l) r.empty);
-  }
+-- a move of the first places of the row is by such a nonterminal
+abbrev pub ReadsIn : KernelsView → List Move → ℕ → Type 0
+ReadsIn kernels row next = (c : ℕ) × Contains row (move_of (Nonterminal c) next) × IsNullable kernels.grammar c
 
--- no move is before the first place
-pub none_before : (row : List Move) (c : ℕ) → IsBefore row 0 c → ⊥
-none_before row c (next, j, lt, at) = absurd (omega arith)
+pub row_more : (kernels : KernelsView) (row : List Move) (i : ℕ) (d step : Move) (v : ℕ) → i < length row → step ≡ get_or row i d →
+    ReadsIn kernels (take (i + 1) row) v ↔ (ReadsIn kernels (take i row) v ⊎
+    ((v ≡ step.state) × ((c : ℕ) × (step.symbol ≡ Nonterminal c) × IsNullable kernels.grammar c)))
+row_more kernels row i d step v lt is = (
+  λ (c, of, empty). elim (Contains-push_cases (take i row) (get_or row i d) (move_of (Nonterminal c) v)
+      (subst (λ z. Contains z (move_of (Nonterminal c) v)) (take_more row i d lt) of)) [
+        | inl before ↦ inl (c, before, empty)
+        | inr same ↦ inr (
+          ap (λ (m : Move). m.state) (sym same ∙ sym is),
+          (c, ap (λ (m : Move). m.symbol) (is ∙ same), empty),
+        )
+      ],
+  λ either. elim either [
+    | inl (c, of, empty) ↦ (c, more (Contains-append_left (take i row) (get_or row i d ∷ []) (move_of (Nonterminal c) v) of), empty)
+    | inr (state, (c, symbol, empty)) ↦ (
+      c,
+      more (subst (λ z. Contains (take i row ++ get_or row i d ∷ []) z) (sym is ∙ whole c symbol state)
+          (Contains-push (take i row) (get_or row i d))),
+      empty,
+    )
+  ],
+)
+  where
+    more : {m : Move} → Contains (take i row ++ get_or row i d ∷ []) m → Contains (take (i + 1) row) m
+    more {m} of = subst (λ z. Contains z m) (sym (take_more row i d lt)) of
 
--- a move of one place more is one of those before, or by the symbol there
-pub row_cases : (row : List Move) (i c : ℕ) (step : Move) → slice_get row i ≡ Some step → IsBefore row (i + 1) c →
-    IsBefore row i c ⊎ (step.symbol ≡ Nonterminal c)
-row_cases row i c step at (next, j, lt, at') = elim (cases_eq j i) [
-  | inl same ↦ inr (ap (λ (z : Move). z.symbol) (at_once row i step (record { symbol = Nonterminal c; state = next }) at
-      (subst (λ k. slice_get row k ≡ Some (record { symbol = Nonterminal c; state = next })) same at')))
-  | inr ne ↦ inl (next, j, omega (arith, lt, ne), at')
-]
+    whole : (c : ℕ) → step.symbol ≡ Nonterminal c → v ≡ step.state → step ≡ move_of (Nonterminal c) v
+    whole c symbol state = λ j. record { symbol = symbol j; state = sym state j }
 
--- the move at a place leads where it says
-pub step_leads : (kernels : KernelsView) (row : List Move) (s i : ℕ) (step : Move) →
-    ((x : Symbol) (next : ℕ) → Contains row (record { symbol = x; state = next }) ↔ LeadsTo kernels s x next) →
-    slice_get row i ≡ Some step → (next : ℕ) × LeadsTo kernels s step.symbol next
-step_leads kernels row s i step exact at = (step.state, (exact step.symbol step.state).0 (contains_at row step i at))
+pub row_all : (kernels : KernelsView) (row : List Move) (s i v : ℕ) →
+    ((x : Symbol) (next : ℕ) → Contains row (move_of x next) ↔ LeadsTo kernels s x next) → length row ≤ i →
+    ReadsOn kernels s v ↔ ReadsIn kernels (take i row) v
+row_all kernels row s i v exact past = (
+  λ (c, leads, empty). (
+    c,
+    subst (λ z. Contains z (move_of (Nonterminal c) v)) (sym (take_all i row past)) ((exact (Nonterminal c) v).1 leads),
+    empty,
+  ),
+  λ (c, of, empty). (
+    c,
+    (exact (Nonterminal c) v).0 (subst (λ z. Contains z (move_of (Nonterminal c) v)) (take_all i row past) of),
+    empty,
+  ),
+)
 
--- the nonterminal of a move is in the set of facts
-pub nullable_within : {kernels : KernelsView} → AreKernels kernels → IsGrammar kernels.grammar → {count : ℕ} →
-    count ≡ kernels.grammar.nonterminals → (s : ℕ) (x : Symbol) (b : ℕ) → x ≡ Nonterminal b → (next : ℕ) × LeadsTo kernels s x next →
-    b < count
-nullable_within {kernels} h ok {count} len s x b is (next, leads) =
-    let below : b < kernels.grammar.nonterminals =
-    leads_below h ok s (Nonterminal b) next (subst (λ z. LeadsTo kernels s z next) is leads) in
-    omega (arith, len, below)
+-- the same by another condition
+pub reads_same : {P R : ℕ → Type 0} {s : ℕ} (old new : List Edge) → AddsReads P s old new → ((v : ℕ) → R v ↔ P v) → AddsReads R s old new
+reads_same old new one both u v = (
+  λ e. elim ((one u v).0 e) [ inl first ↦ inl first | inr (from, p) ↦ inr (from, (both v).1 p) ],
+  λ either. elim either [ inl first ↦ (one u v).1 (inl first) | inr (from, r) ↦ (one u v).1 (inr (from, (both v).0 r)) ],
+)
 
--- the move by the nonterminal is listed
-pub there : (kernels : KernelsView) (moves : List NonterminalMove) (s : ℕ) (x : Symbol) (b : ℕ) → AreMovesOf kernels moves →
-    x ≡ Nonterminal b → (next : ℕ) × LeadsTo kernels s x next → (next : ℕ) × Contains moves (move_of s b next)
-there kernels moves s x b are is (next, leads) =
-    let leads' = subst (λ z. LeadsTo kernels s z next) is leads in (next, are.complete s b next leads'.0 leads')
+-- a nonterminal that leads somewhere is one of those that facts are known of
+pub nullable_within : {kernels : KernelsView} → AreKernels kernels → IsGrammar kernels.grammar → (facts : List Bool) →
+    length facts ≡ kernels.grammar.nonterminals → (s next : ℕ) (symbol : Symbol) (c : ℕ) → symbol ≡ Nonterminal c →
+    LeadsTo kernels s symbol next → c < length facts
+nullable_within {kernels} h ok facts len s next symbol c is leads =
+    let below = leads_below h ok s (Nonterminal c) next (subst (λ z. LeadsTo kernels s z next) is leads) in
+    (let lt : c < kernels.grammar.nonterminals = below in omega (arith, lt, len))
 
--- nothing is added for a nonterminal that doesn't derive the empty text
-pub reads_unless : (kernels : KernelsView) (moves : List NonterminalMove) (number : ℕ) (x : Symbol) (b : ℕ) (edges : List Edge) →
-    x ≡ Nonterminal b → (IsNullable kernels.grammar b → ⊥) → AreSoundEdges (ReadsIn kernels) moves edges →
-    AddsReads kernels moves number (λ c. x ≡ Nonterminal c) edges edges
-reads_unless kernels moves number x b edges is never sound = reads_none kernels moves number _ edges sound (λ c is' empty.
-    let same : Nonterminal b ≡ Nonterminal c = sym is ∙ is' in
-    let e : c ≡ b = cc in
-    never (subst (IsNullable kernels.grammar) e empty))
+-- the edges of one kernel more
+pub edges_more : (kernels : KernelsView) (s : ℕ) (old new : List Edge) → AddsReads (λ next. ReadsOn kernels s next) s old new →
+    ((u v : ℕ) → IsEdge old u v ↔ ((u < s) × ReadsOn kernels u v)) → (u v : ℕ) → IsEdge new u v ↔ ((u < s + 1) × ReadsOn kernels u v)
+edges_more kernels s old new adds h u v = (
+  λ e. elim ((adds u v).0 e) [
+    | inl before ↦ (let (lt, reads) = (h u v).0 before in (omega (arith, lt), reads))
+    | inr (same, reads) ↦ (omega (arith, same), subst (λ z. ReadsOn kernels z v) (sym same) reads)
+  ],
+  λ (lt, reads). (adds u v).1 (elim (cases_eq u s) [
+    | inl same ↦ inr (same, subst (λ z. ReadsOn kernels z v) same reads)
+    | inr ne ↦ inl ((h u v).1 (omega (arith, lt, ne), reads))
+  ]),
+)
 
--- the edge to the move by the nonterminal
-pub reads_by : (kernels : KernelsView) (moves : List NonterminalMove) (number state target b : ℕ) (x : Symbol) (old new : List Edge) →
-    AreMovesOf kernels moves → (from : NonterminalMove) × (slice_get moves number ≡ Some from) × (from.next ≡ state) →
-    (next : ℕ) × (slice_get moves target ≡ Some (move_of state b next)) → x ≡ Nonterminal b → IsNullable kernels.grammar b →
-    new ≡ old ++ (number, target) ∷ [] → AreSoundEdges (ReadsIn kernels) moves old →
-    AddsReads kernels moves number (λ c. x ≡ Nonterminal c) old new
-reads_by kernels moves number state target b x old new are (from, at, to) (next, at') is empty new_is sound =
-    subst (AddsReads kernels moves number (λ c. x ≡ Nonterminal c) old) (sym new_is)
-    (subst (λ z. AddsReads kernels moves number (λ c. z ≡ Nonterminal c) old (old ++ (number, target) ∷ [])) (sym is)
-    (reads_push kernels moves number target state b next from old are at to at' empty sound))
+-- those of all kernels
+pub edges_all : (kernels : KernelsView) (s : ℕ) (edges : List Edge) → count_of kernels ≤ s →
+    ((u v : ℕ) → IsEdge edges u v ↔ ((u < s) × ReadsOn kernels u v)) → (u v : ℕ) → IsEdge edges u v ↔ ReadsOn kernels u v
+edges_all kernels s edges past h u v = (
+  λ e. ((h u v).0 e).1,
+  λ (c, leads, empty). (h u v).1 ((let lt = leads.0 in omega (arith, lt, past)), (c, leads, empty)),
+)

@@ -113,7 +113,7 @@ module _ {g : GrammarView} {count : ℕ} (prefix_of : ℕ → List Symbol) {Next
       let (u', v') = kernel_decides live v (prefix_of s ++ x ∷ []) (((h.next s x s').0 next).3) in
       behind_it v' (prefix_of s) x refl t text d
 
-  not_first : (s : ℕ) (x : Symbol) (s' : ℕ) → Next s x s' → s' ≡ 0 → ⊥
+  pub not_first : (s : ℕ) (x : Symbol) (s' : ℕ) → Next s x s' → s' ≡ 0 → ⊥
   not_first s x s' next e = go ((((h.next s x s').0 next).3 (start_item g)).0 (
     (
       end_of g,

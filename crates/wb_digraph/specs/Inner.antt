@@ -1,7 +1,7 @@
 -- What loops keep, and words of private functions.
-pub mod Edges
+pub mod Chains
 pub mod Filling
-pub mod Kernels
-pub mod Moves
-pub mod Sets
-pub mod Visits
+pub mod Links
+pub mod Numbers
+pub mod Pools
+pub mod Spreading

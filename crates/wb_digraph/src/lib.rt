@@ -1,18 +1,22 @@
-//! The LALR(1) lookaheads of a grammar's items, found by relations between the moves by nonterminals (DeRemer and Pennello).
+//! The LALR(1) lookaheads of a grammar's items, found by relations between the items of kernels.
 //!
-//! Moves that reach each other share one set. Kernels and the answer's type are in `wb_items`, the words in `wb_grammar_theory`.
+//! Items that take each other's lookaheads share one set (DeRemer and Pennello). Kernels and the answer's type are in `wb_items`, the words
+//! in `wb_grammar_theory`.
 #![tactic(auto)]
 
+mod bases;
+mod chains;
 mod context;
 mod digraph;
 mod fill;
-mod includes;
+mod firsts;
 pub mod laws;
-mod moves;
+mod links;
+mod numbers;
+mod pool;
 mod reads;
-mod set_list;
-mod sets;
+mod runs;
 mod spread;
-mod walk;
+mod tails;
 
 pub use digraph::digraph_lookaheads;

@@ -1,49 +1,35 @@
--- Sets of items that fill with what the relations bring.
-use Rattle.std.specs.Prelude.{◌≡◌, ◌↔◌, ◌<◌, ◌+◌, ℕ, Bool, List, Some, length, slice_get}
-use Rattle.wb_base.specs.Grammar.{GrammarView}
+-- Items that get the sets of what flows to them.
+use Rattle.std.specs.Prelude.{◌≡◌, ◌⊎◌, ◌↔◌, ◌<◌, ◌+◌, ◌^◌, ℕ, Bool, List, Some, length, slice_get}
 use Rattle.wb_termset.specs.Sets.{IsMember}
 use Rattle.wb_grammar_theory.specs.declared.item.Item.{Item}
-use Rattle.wb_grammar_theory.specs.Items.{HasItem}
-use Rattle.wb_grammar_theory.specs.Productions.{top_of, end_of}
-use Rattle.wb_items.specs.declared.item_lookahead.ItemLookahead.{ItemLookahead}
-use Rattle.wb_items.specs.Kernels.{KernelsView, count_of, prefix_of}
-use Rattle.wb_items.specs.Lookaheads.{AreLookaheadsOf, Lists}
-use Rattle.wb_digraph.specs.declared.moves.NonterminalMove.{NonterminalMove}
-use Rattle.wb_digraph.specs.Inner.Kernels.{IsByRelations, IsFollowIn, LooksBackIn}
+use Rattle.wb_items.specs.Kernels.{KernelsView, closure_of}
+use Rattle.wb_items.specs.Lookaheads.{AreLookaheadsOf, Lists, LookaheadsView, set_of}
+use Rattle.wb_digraph.specs.Inner.Links.{FlowsIn}
+use Rattle.wb_digraph.specs.Inner.Pools.{AreNumbers, set_at}
 
--- the sets are those of the kernels' items, and what they list is a lookahead by the relations
-pub record AreSound (kernels : KernelsView) (lookaheads : List (List ItemLookahead)) : Type 0 where
+-- each number of an item has that of the set of what flows to the item
+pub record HoldFlows (kernels : KernelsView) (Number : ℕ → Item → ℕ → Type 0) (numbers : List ℕ) (sets : List (List Bool)) : Type 0 where
+  pub within : (s : ℕ) (item : Item) (n : ℕ) → Number s item n → n < length numbers
+  pub below : AreNumbers sets numbers
+  pub exact : (s : ℕ) (item : Item) (n m t : ℕ) → Number s item n → slice_get numbers n ≡ Some m →
+      IsMember (set_at sets m) t ↔ FlowsIn kernels s item t
+
+-- the sets come after the first set of the lookaheads
+pub record HoldsSets (sets : List (List Bool)) (lookaheads : LookaheadsView) : Type 0 where
+  pub len : length lookaheads.sets ≡ length sets + 1
+  pub same : (n : ℕ) → n < length sets → set_of lookaheads (n + 1) ≡ set_at sets n
+
+-- the same of the sets after the first of the lookaheads
+pub record HoldFlowsLater (kernels : KernelsView) (Number : ℕ → Item → ℕ → Type 0) (numbers : List ℕ) (lookaheads : LookaheadsView) : Type 0
+  where
+    pub room : length lookaheads.sets < 2 ^ 64
+    pub within : (s : ℕ) (item : Item) (n : ℕ) → Number s item n → n < length numbers
+    pub below : (n m : ℕ) → slice_get numbers n ≡ Some m → m + 1 < length lookaheads.sets
+    pub exact : (s : ℕ) (item : Item) (n m t : ℕ) → Number s item n → slice_get numbers n ≡ Some m →
+        IsMember (set_of lookaheads (m + 1)) t ↔ FlowsIn kernels s item t
+
+-- at the items of the first kernels, and of the kernel s at those at the first places, is listed exactly what flows to them
+pub record AreFilledUpTo (kernels : KernelsView) (s place : ℕ) (lookaheads : LookaheadsView) : Type 0 where
   pub shape : AreLookaheadsOf kernels lookaheads
-  pub sound : (s : ℕ) (item : Item) (t : ℕ) → Lists lookaheads s item t → IsByRelations kernels s item t
-
--- the sets grew by lookaheads by the relations at most, and what is in the set is listed for each item that the condition holds of, at each
--- kernel where it looks back to the move of this number
-pub record FillsAbove (kernels : KernelsView) (moves : List NonterminalMove) (number : ℕ) (set : List Bool) (Of : Item → Type 0)
-    (old new : List (List ItemLookahead)) : Type 0 where
-  pub sound : AreSound kernels new
-  pub keeps : (s : ℕ) (item : Item) (t : ℕ) → Lists old s item t → Lists new s item t
-  pub lists : (item : Item) (from : NonterminalMove) (s t : ℕ) → Of item → slice_get moves number ≡ Some from →
-      LooksBackIn kernels s item from.state from.nonterminal → IsMember set t → Lists new s item t
-
--- what follows the moves of the first numbers is listed at each kernel where an item looks back to them
-abbrev pub AreFollowed : KernelsView → List NonterminalMove → ℕ → List (List ItemLookahead) → Type 0
-AreFollowed kernels moves n lookaheads =
-    (number : ℕ) (from : NonterminalMove) (item : Item) (s t : ℕ) → number < n → slice_get moves number ≡ Some from →
-    LooksBackIn kernels s item from.state from.nonterminal → IsFollowIn kernels from.state from.nonterminal t → Lists lookaheads s item t
-
--- the end is listed at each item of `S' -> S`
-abbrev pub IsEndListed : KernelsView → List (List ItemLookahead) → Type 0
-IsEndListed kernels lookaheads =
-    (s : ℕ) (item : Item) → s < count_of kernels → HasItem kernels.grammar (prefix_of kernels s) item →
-    item.production ≡ top_of kernels.grammar → Lists lookaheads s item (end_of kernels.grammar)
-
--- the set is the follow set of the move of this number
-pub record IsFollowSet (kernels : KernelsView) (moves : List NonterminalMove) (number : ℕ) (set : List Bool) : Type 0 where
-  pub len : length set ≡ kernels.grammar.terminals + 1
-  pub members : (from : NonterminalMove) (t : ℕ) → slice_get moves number ≡ Some from →
-      IsMember set t ↔ IsFollowIn kernels from.state from.nonterminal t
-
--- the set has the end of the text alone
-pub record IsEndSet (g : GrammarView) (set : List Bool) : Type 0 where
-  pub len : length set ≡ g.terminals + 1
-  pub members : (t : ℕ) → IsMember set t ↔ (t ≡ end_of g)
+  pub exact : (k j : ℕ) (item : Item) (t : ℕ) → (k < s) ⊎ ((k ≡ s) × (j < place)) → slice_get (closure_of kernels k) j ≡ Some item →
+      Lists lookaheads k item t ↔ FlowsIn kernels k item t

@@ -1,6 +1,7 @@
-use Rattle.wb_digraph.specs.Inner.Edges.{AddsReads, IsBefore}
+use Rattle.std.proofs.Common.{take}
+use Rattle.wb_digraph.specs.Inner.Links.{AddsReads}
+use Rattle.wb_digraph.proofs.ReadLemmas.{ReadsIn}
 use Rattle.wb_digraph.proofs.reads.add_reads.Given as goal
 
 abbrev pub invariant-row : goal.invariant-row
-invariant-row l = AddsReads l.context.kernels.now l.context.moves.now l.number (IsBefore l.row l.step-index) l.initial.edges.items
-    l.edges.items
+invariant-row l = AddsReads (ReadsIn l.context.kernels.now (take l.step-index l.row)) l.state l.initial.edges.items l.edges.items
