@@ -26,7 +26,6 @@ with_regions both regions = record {
   grammar = both.grammar;
   kernels = both.kernels;
   lookaheads = both.lookaheads;
-  tables = both.tables;
   regions = regions;
 }
 
@@ -43,7 +42,6 @@ some_extension r (Some g) host both regions (_, parts) ext are = (
     of_grammar = parts.of_grammar;
     kernels = parts.kernels;
     lookaheads = parts.lookaheads;
-    tables = parts.tables;
     regions = are;
   },
 )

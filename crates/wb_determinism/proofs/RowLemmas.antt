@@ -12,7 +12,7 @@ use Rattle.wb_grammar_theory.proofs.KernelLemmas.{kernel_decides}
 use Rattle.wb_items.specs.declared.item_lookahead.ItemLookahead.{ItemLookahead}
 use Rattle.wb_items.specs.Kernels.{KernelsView, AreKernels, count_of, prefix_of}
 use Rattle.wb_items.specs.LookaheadSets.{AreLookaheads}
-use Rattle.wb_items.specs.Lookaheads.{IsSetOf, items_in, row_of}
+use Rattle.wb_items.specs.Lookaheads.{IsSetOf, LookaheadsView, items_in, row_of}
 use Rattle.wb_lookahead.proofs.PassLemmas.{set_at}
 use Rattle.wb_items.proofs.CallerLemmas.{row_has}
 use Rattle.wb_lookahead.proofs.StepLemmas.{closure_at}
@@ -43,7 +43,7 @@ row_entry row item has =
     )
 
 -- an item with a lookahead is in the row of the kernel
-pub lookahead_listed : (kernels : KernelsView) → AreKernels kernels → (lookaheads : List (List ItemLookahead))
+pub lookahead_listed : (kernels : KernelsView) → AreKernels kernels → (lookaheads : LookaheadsView)
     → AreLookaheads kernels lookaheads
     → (s : ℕ) → s < count_of kernels → (item : Item) (t : ℕ) → IsLookahead kernels.grammar (prefix_of kernels s) item t
     → Contains (items_in (row_of lookaheads s)) item
@@ -81,14 +81,14 @@ module _ (c : Context) (h : IsContext c) (s : ℕ) (below : s < count_of c.both.
   }
 
 -- the set that was read at the place of an item is the item's
-pub place_set : (kernels : KernelsView) → AreKernels kernels → (lookaheads : List (List ItemLookahead)) → AreLookaheads kernels lookaheads
+pub place_set : (kernels : KernelsView) → AreKernels kernels → (lookaheads : LookaheadsView) → AreLookaheads kernels lookaheads
     → (s : ℕ) → s < count_of kernels → (row : List ItemLookahead) → row ≡ row_of lookaheads s → (item : Item) (place : ℕ)
     → slice_get (items_in row) place ≡ Some item → (set : List Bool)
     → (looks : ItemLookahead) × (slice_get (row_of lookaheads s) place ≡ Some looks) × (set ≡ looks.set) → IsSetOf lookaheads s item set
 place_set kernels exact lookaheads are s below row row_is item place here set (looks, at, is) =
     let there = subst (λ (r : List ItemLookahead). slice_get (items_in r) place ≡ Some item) row_is here in
     subst (IsSetOf lookaheads s item) (sym is)
-    (set_at exact lookaheads are.shape s below item place (closure_at exact lookaheads are.shape s below item place there) looks at)
+    (set_at exact lookaheads are.shape s below item place (closure_at exact lookaheads are.shape s item place there) looks at)
 
 -- what is kept of each entry of a row is kept of each item
 pub keeps_row : (c : Context) (own : List Item) (s : ℕ) (row : List ItemLookahead) (n : ℕ) → IsEnvelopeRow (host_of c) own row

@@ -6,10 +6,9 @@ use Rattle.wb_base.specs.declared.symbol.Symbol.{Symbol}
 use Rattle.wb_base.specs.Grammar.{GrammarView}
 use Rattle.wb_grammar_theory.specs.declared.item.Item.{Item}
 use Rattle.wb_grammar_theory.specs.Lookaheads.{IsLookahead}
-use Rattle.wb_items.specs.declared.item_lookahead.ItemLookahead.{ItemLookahead}
 use Rattle.wb_items.specs.Kernels.{KernelsView, AreKernels, prefix_of}
 use Rattle.wb_items.specs.LookaheadSets.{AreLookaheads}
-use Rattle.wb_items.specs.Lookaheads.{IsSetOf, row_of}
+use Rattle.wb_items.specs.Lookaheads.{IsSetOf, LookaheadsView, row_of}
 use Rattle.wb_lemmas.proofs.Members.{contains_at}
 use Rattle.wb_lookahead.proofs.PlaceLemmas.{held_len}
 use Rattle.wb_lookahead.specs.declared.action.Action.{Action}
@@ -26,7 +25,7 @@ use Rattle.wb_determinism.proofs.NumberLemmas.{lifted_once}
 use Rattle.wb_determinism.proofs.RowLemmas.{lookahead_listed, row_entry}
 
 -- a lookahead is a terminal of the grammar, or the end
-pub lookahead_bound : (kernels : KernelsView) → AreKernels kernels → (lookaheads : List (List ItemLookahead))
+pub lookahead_bound : (kernels : KernelsView) → AreKernels kernels → (lookaheads : LookaheadsView)
     → AreLookaheads kernels lookaheads
     → (prefix : List Symbol) (item : Item) (t : ℕ) → IsLookahead kernels.grammar prefix item t → t < kernels.grammar.terminals + 1
 lookahead_bound kernels exact lookaheads are prefix item t (other, same, valid) =

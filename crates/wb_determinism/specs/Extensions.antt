@@ -7,7 +7,6 @@ use Rattle.wb_determinism_host.specs.Lexicons.{lexicon_of}
 use Rattle.wb_determinism_host.specs.declared.parts.HostParts.{HostParts}
 use Rattle.wb_items.specs.Kernels.{AreKernels, count_of}
 use Rattle.wb_items.specs.LookaheadSets.{AreLookaheads}
-use Rattle.wb_lookahead.specs.Tables.{AreTables}
 use Rattle.wb_marking_holes.specs.Holes.{with_holes_of}
 use Rattle.wb_syntax_resolved.specs.declared.resolved.ResolvedParts.{ResolvedParts}
 use Rattle.wb_compose_theory.specs.Numbered.{KeepsKernelLookaheads, StaysInEnvelope}
@@ -75,5 +74,4 @@ pub record AreExtensionParts (r : ResolvedParts) (g : GrammarView) (host : HostP
   pub of_grammar : parts.kernels.grammar ≡ parts.grammar
   pub kernels : AreKernels parts.kernels
   pub lookaheads : AreLookaheads parts.kernels parts.lookaheads
-  pub tables : AreTables parts.kernels parts.tables
   pub regions : AreRegions host.kernels parts.kernels (both_numbers r g host.grammar) (count_of parts.kernels) parts.regions

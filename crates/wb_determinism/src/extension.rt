@@ -78,7 +78,6 @@ pub fn judge_extension(
             grammar: both.grammar,
             kernels: both.kernels,
             lookaheads: both.lookaheads,
-            tables: both.tables,
             regions,
         }),
         Err(refusal) => {

@@ -3,9 +3,8 @@
 use crate::Region;
 use wb_base::{Grammar, Sequence};
 use wb_items::{Kernels, Lookaheads};
-use wb_lookahead::Tables;
 
-/// The grammar of the host with the extension, with holes, and what is made of it for a parser.
+/// The grammar of the host with the extension, with holes, its kernels and lookaheads, and what the kernels are to the host.
 pub struct ExtensionParts {
     /// The grammar with holes.
     pub grammar: Grammar,
@@ -13,8 +12,6 @@ pub struct ExtensionParts {
     pub kernels: Kernels,
     /// The lookaheads of their items.
     pub lookaheads: Lookaheads,
-    /// What a parser does at each of them.
-    pub tables: Tables,
     /// What each kernel is to the host.
     pub regions: Sequence<Region>,
 }
@@ -30,13 +27,11 @@ impl Drop for ExtensionParts {
             grammar,
             kernels,
             lookaheads,
-            tables,
             regions,
         } = self;
         drop(grammar);
         drop(kernels);
         drop(lookaheads);
-        drop(tables);
         drop(regions);
     }
 }

@@ -2,7 +2,7 @@
 
 ghost use Rattle.std.specs.Prelude.{◌≡◌, ◌<◌, ◌↔◌, IfOk, IfSome, IsNone};
 ghost use Rattle.wb_items.specs.Kernels.{count_of};
-ghost use Rattle.wb_lookahead.specs.Tables.{AreTables};
+ghost use Rattle.wb_lookahead.specs.Tables.{AreValidSets};
 ghost use Rattle.wb_determinism_contexts.specs.Considered.{IsClashAt, HasNoClashAt};
 ghost use Rattle.wb_determinism_contexts.specs.Sets.{AreConsideredSets, FitsGrammar, lent};
 
@@ -12,7 +12,6 @@ use std::alloc::{AllocError, Global};
 use wb_base::{Bytes, Sequence, Symbol};
 use wb_items::Kernels;
 use wb_lexical::{Clash, find_clash};
-use wb_lookahead::Tables;
 use wb_termset::TermSet;
 
 /// Two terminals that are considered at a prefix and match a text, with no preference between them.
@@ -30,20 +29,20 @@ pub struct ContextClash {
 
 /// Looks for two terminals that are considered at one prefix and match a common text, with no preference between them.
 ///
-/// Which of several clashes is shown is left open.
+/// The valid terminals are those of each kernel by number. Which of several clashes is shown is left open.
 pub fn clash_at(
     alloc: Global,
     kernels: &Kernels,
-    tables: &Tables,
+    valid: &[TermSet],
     lexicon: &Lexicon,
 ) -> Result<Option<ContextClash>, AllocError>
-    requires tables { AreTables kernels.now tables.now }
+    requires valid { AreValidSets kernels.now valid.now }
     requires lexicon { FitsGrammar kernels.now.grammar.terminals (lent lexicon.now) }
     ensures clash { IfOk result (λ found. IfSome found (λ clash. IsClashAt kernels.now.grammar (lent lexicon.now) clash.prefix clash.left clash.right clash.text)) }
     ensures in_order { IfOk result (λ found. IfSome found (λ clash. clash.left < clash.right)) }
     ensures none { IfOk result (λ found. IsNone found → HasNoClashAt kernels.now.grammar (lent lexicon.now)) }
 {
-    let sets = considered_sets(alloc, kernels, tables, lexicon)?;
+    let sets = considered_sets(alloc, kernels, valid, lexicon)?;
     clash_in(alloc, kernels, lexicon, &sets)
 }
 

@@ -5,30 +5,31 @@
 ghost use Rattle.std.specs.Prelude.{◌≡◌, ◌≤◌, ◌<◌, ◌↔◌, ◌⊎◌, ℕ, IfOk, length};
 ghost use Rattle.wb_termset.specs.Sets.{IsMember};
 ghost use Rattle.wb_items.specs.Kernels.{count_of};
-ghost use Rattle.wb_lookahead.specs.Tables.{AreTables};
+ghost use Rattle.wb_lookahead.specs.Tables.{AreValidSets};
 ghost use Rattle.wb_determinism_contexts.specs.Sets.{AreConsideredSets, FitsGrammar, lent};
 
 use crate::Lexicon;
 use std::alloc::{AllocError, Global};
 use wb_base::push;
 use wb_items::Kernels;
-use wb_lookahead::Tables;
 use wb_termset::TermSet;
 
 /// For each kernel the set of what is considered there: the scanned terminals that are valid at its prefixes, and layout.
+///
+/// The valid terminals are those of each kernel by number.
 pub fn considered_sets(
     alloc: Global,
     kernels: &Kernels,
-    tables: &Tables,
+    valid: &[TermSet],
     lexicon: &Lexicon,
 ) -> Result<Vec<TermSet>, AllocError>
-    requires tables { AreTables kernels.now tables.now }
+    requires valid { AreValidSets kernels.now valid.now }
     requires lexicon { FitsGrammar kernels.now.grammar.terminals (lent lexicon.now) }
     ensures { IfOk result (λ sets. AreConsideredSets kernels.now (lent lexicon.now) (count_of kernels.now) sets.items) }
 {
     let mut sets = Vec::new(alloc);
     'kernels: for state in 0..kernels.count() {
-        let set = considered_set(lexicon.layout, tables.valid(state), lexicon.scanned)?;
+        let set = considered_set(lexicon.layout, &valid[state], lexicon.scanned)?;
         push(&mut sets, set)?;
     }
     Ok(sets)

@@ -12,4 +12,4 @@ mod parts;
 pub use clash::{ContextClash, clash_at};
 pub use considered::considered_sets;
 pub use lexicon::Lexicon;
-pub use parts::{Conflict, Parts, PartsRefusal, parts_of, tables_of};
+pub use parts::{Conflict, Parts, PartsRefusal, parts_of, valid_sets_of};

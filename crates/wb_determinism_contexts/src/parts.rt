@@ -2,9 +2,10 @@
 
 ghost use Rattle.std.specs.Prelude.{◌≡◌, IfErr, IfOk};
 ghost use Rattle.wb_grammar.specs.Facts.{AreFacts};
+ghost use Rattle.wb_grammar_theory.specs.Lookaheads.{HasNoConflict};
 ghost use Rattle.wb_items.specs.Kernels.{AreKernels};
 ghost use Rattle.wb_items.specs.LookaheadSets.{AreLookaheads};
-ghost use Rattle.wb_lookahead.specs.Tables.{AreTables, IsConflict};
+ghost use Rattle.wb_lookahead.specs.Tables.{AreTables, AreValidSets, IsTableRefusal};
 ghost use Rattle.wb_determinism_contexts.specs.Conflicts.{IsConflictAt};
 ghost use Rattle.wb_determinism_contexts.specs.Parts.{ArePartsOf, IsPartsRefusal};
 
@@ -12,7 +13,8 @@ use std::alloc::{AllocError, Global};
 use wb_base::{Grammar, Sequence, Symbol};
 use wb_grammar::Facts;
 use wb_items::{Kernels, Lookaheads};
-use wb_lookahead::{Action, TableRefusal, Tables, plain_lookaheads, tables};
+use wb_lookahead::{Action, TableRefusal, Tables, plain_lookaheads, tables, valid_sets};
+use wb_termset::TermSet;
 
 /// What is made of a grammar for a parser.
 #[derive(Drop)]
@@ -98,10 +100,8 @@ fn decided_by(
     Ok(Decided { lookaheads, tables })
 }
 
-/// The tables of kernels with their lookaheads, or a conflict. The only other error is out of memory.
-///
-/// It doesn't matter how the lookaheads were found.
-pub fn tables_of(
+// The tables of kernels with their lookaheads, or a conflict.
+fn tables_of(
     alloc: Global,
     grammar: &Grammar,
     kernels: &Kernels,
@@ -114,22 +114,51 @@ pub fn tables_of(
 {
     match tables(alloc, grammar, kernels, lookaheads) {
         Ok(made) => Ok(made),
-        Err(
-            TableRefusal::Conflict {
-                state,
+        Err(refusal) => Err(shown(alloc, kernels, refusal)),
+    }
+}
+
+/// The terminals that are valid at each kernel, or a conflict. The only other error is out of memory.
+///
+/// It doesn't matter how the lookaheads were found.
+pub fn valid_sets_of(
+    alloc: Global,
+    grammar: &Grammar,
+    kernels: &Kernels,
+    lookaheads: &Lookaheads,
+) -> Result<Vec<TermSet>, PartsRefusal>
+    requires kernels { kernels.now.grammar ≡ grammar.now }
+    requires lookaheads { AreLookaheads kernels.now lookaheads.now }
+    ensures ok { IfOk result (λ sets. AreValidSets kernels.now sets.items) }
+    ensures no_conflict { IfOk result (λ sets. HasNoConflict grammar.now) }
+    ensures refused { IfErr result (IsPartsRefusal grammar.now) }
+{
+    match valid_sets(alloc, grammar, kernels, lookaheads) {
+        Ok(sets) => Ok(sets),
+        Err(refusal) => Err(shown(alloc, kernels, refusal)),
+    }
+}
+
+// A conflict of a kernel, at its prefix.
+fn shown(alloc: Global, kernels: &Kernels, refusal: TableRefusal) -> PartsRefusal
+    requires { IsTableRefusal kernels.now refusal }
+    ensures { IsPartsRefusal kernels.now.grammar result }
+{
+    match refusal {
+        TableRefusal::Conflict {
+            state,
+            terminal,
+            first,
+            second,
+        } => match kernels.prefix(alloc, state) {
+            Ok(prefix) => PartsRefusal::Conflict(Conflict {
+                prefix: Sequence::from_vec(prefix),
                 terminal,
                 first,
                 second,
-            },
-        ) => {
-            let prefix = Sequence::from_vec(kernels.prefix(alloc, state)?);
-            Err(PartsRefusal::Conflict(Conflict {
-                prefix,
-                terminal,
-                first,
-                second,
-            }))
-        }
-        Err(TableRefusal::NoMemory(error)) => Err(PartsRefusal::NoMemory(error)),
+            }),
+            Err(error) => PartsRefusal::NoMemory(error),
+        },
+        TableRefusal::NoMemory(error) => PartsRefusal::NoMemory(error),
     }
 }

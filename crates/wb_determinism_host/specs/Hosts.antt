@@ -8,7 +8,6 @@ use Rattle.wb_grammar_theory.specs.Shape.{IsReduced}
 use Rattle.wb_graph.specs.Orders.{IsCycle}
 use Rattle.wb_items.specs.Kernels.{AreKernels}
 use Rattle.wb_items.specs.LookaheadSets.{AreLookaheads}
-use Rattle.wb_lookahead.specs.Tables.{AreTables}
 use Rattle.wb_marking_holes.specs.Holes.{with_holes_of}
 use Rattle.wb_syntax_resolved.specs.declared.resolved.ResolvedParts.{ResolvedParts}
 use Rattle.wb_determinism_host.specs.declared.parts.HostParts.{HostParts}
@@ -42,4 +41,3 @@ pub record AreHostParts (r : ResolvedParts) (g : GrammarView) (parts : HostParts
   pub of_grammar : parts.kernels.grammar ≡ parts.grammar
   pub kernels : AreKernels parts.kernels
   pub lookaheads : AreLookaheads parts.kernels parts.lookaheads
-  pub tables : AreTables parts.kernels parts.tables

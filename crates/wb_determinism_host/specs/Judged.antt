@@ -2,7 +2,7 @@
 use Rattle.std.specs.Prelude.{◌≡◌, List}
 use Rattle.wb_base.specs.Grammar.{GrammarView}
 use Rattle.wb_grammar.specs.Facts.{FactsView, AreFacts}
-use Rattle.wb_items.specs.declared.item_lookahead.ItemLookahead.{ItemLookahead}
+use Rattle.wb_items.specs.Lookaheads.{LookaheadsView}
 use Rattle.wb_items.specs.Kernels.{KernelsView}
 use Rattle.wb_items.specs.LookaheadSets.{AreLookaheads}
 use Rattle.wb_marking_holes.specs.Holes.{with_holes_of}
@@ -12,7 +12,7 @@ use Rattle.wb_determinism_host.specs.Hosts.{IsSound}
 -- preferences are acyclic and the grammar is reduced; and the facts, kernels and lookaheads are those of the grammar with holes. So that
 -- one has neither unit cycles nor hidden left recursion
 pub record IsReadyToJudge (r : ResolvedParts) (g holes : GrammarView) (facts : FactsView) (kernels : KernelsView)
-    (lookaheads : List (List ItemLookahead)) : Type 0 where
+    (lookaheads : LookaheadsView) : Type 0 where
   pub sound : IsSound r g
   pub holes_are : holes ≡ with_holes_of g r.extensible
   pub facts_are : AreFacts holes facts

@@ -6,7 +6,8 @@ ghost use Rattle.std.specs.Prelude.{◌≡◌, IfErr, IfOk, IfSome, IsSome};
 ghost use Rattle.wb_determinism_contexts.specs.Considered.{HasNoClashAt};
 ghost use Rattle.wb_determinism_contexts.specs.Sets.{lent};
 ghost use Rattle.wb_items.specs.Kernels.{AreKernels};
-ghost use Rattle.wb_lookahead.specs.Tables.{AreTables};
+ghost use Rattle.wb_grammar_theory.specs.Lookaheads.{HasNoConflict};
+ghost use Rattle.wb_lookahead.specs.Tables.{AreValidSets};
 ghost use Rattle.wb_marking_holes.specs.Holes.{with_holes_of};
 ghost use Rattle.wb_determinism_host.specs.HostGrammar.{HasGrammar};
 ghost use Rattle.wb_determinism_host.specs.Hosts.{AreHostParts, IsDeterministicHost};
@@ -20,15 +21,14 @@ use crate::lexicon::{expressions_of, layout_of, pairs_of};
 use crate::{DeterminismRefusal, HostParts};
 use std::alloc::{AllocError, Global};
 use wb_base::Grammar;
-use wb_determinism_contexts::{Lexicon, PartsRefusal, clash_at, tables_of};
+use wb_determinism_contexts::{Lexicon, PartsRefusal, clash_at, valid_sets_of};
 use wb_grammar::Facts;
 use wb_items::{Kernels, Lookaheads};
-use wb_lookahead::Tables;
 use wb_regex::Regex;
 use wb_syntax_resolved::Resolved;
 use wb_termset::TermSet;
 
-/// What is made of a host's grammar with holes, whose kernels and lookaheads are there already, or a conflict or a clash.
+/// A host's grammar with holes, with its kernels and lookaheads, which are there already, or a conflict or a clash.
 ///
 /// `grammar` is the grammar with holes. Every rule before the conflict holds: that it has no unit cycle and no hidden left recursion is in
 /// its facts. The lookaheads may come from anywhere. The only other error is out of memory. No clause bounds the time.
@@ -45,12 +45,11 @@ pub fn judge_host(
     ensures ok { IfOk result (λ parts. IfSome resolved.now.grammar (λ g. IsDeterministicHost resolved.now g × AreHostParts resolved.now g parts)) }
     ensures refused { IfErr result (λ refusal. IfSome resolved.now.grammar (λ g. IsHostRefusal resolved.now g refusal)) }
 {
-    match tables_without_clash(alloc, resolved, &grammar, facts, &kernels, &lookaheads) {
-        Ok(tables) => Ok(HostParts {
+    match test_host(alloc, resolved, &grammar, facts, &kernels, &lookaheads) {
+        Ok(()) => Ok(HostParts {
             grammar,
             kernels,
             lookaheads,
-            tables,
         }),
         Err(refusal) => {
             drop(grammar);
@@ -61,24 +60,23 @@ pub fn judge_host(
     }
 }
 
-// Like `judge_host`, for the tables alone.
-fn tables_without_clash(
+// Whether there is neither a conflict nor a clash.
+fn test_host(
     alloc: Global,
     resolved: &Resolved,
     holes: &Grammar,
     facts: &Facts,
     kernels: &Kernels,
     lookaheads: &Lookaheads,
-) -> Result<Tables, DeterminismRefusal>
+) -> Result<(), DeterminismRefusal>
     requires grammar { IsSome resolved.now.grammar }
     requires ready { IfSome resolved.now.grammar (λ g. IsReadyToJudge resolved.now g holes.now facts.now kernels.now lookaheads.now) }
-    ensures kernels { IfOk result (λ tables. AreKernels kernels.now) }
-    ensures tables { IfOk result (AreTables kernels.now) }
-    ensures ok { IfOk result (λ tables. IfSome resolved.now.grammar (IsDeterministicHost resolved.now)) }
+    ensures kernels { IfOk result (λ done. AreKernels kernels.now) }
+    ensures ok { IfOk result (λ done. IfSome resolved.now.grammar (IsDeterministicHost resolved.now)) }
     ensures refused { IfErr result (λ refusal. IfSome resolved.now.grammar (λ g. IsHostRefusal resolved.now g refusal)) }
 {
     match &resolved.parts().grammar {
-        Some(grammar) => judged_tables(
+        Some(grammar) => test_judged(
             alloc,
             &Judged {
                 resolved,
@@ -104,33 +102,29 @@ struct Judged<'a> {
     lookaheads: &'a Lookaheads,
 }
 
-// Its tables, or a conflict or a clash.
-fn judged_tables(alloc: Global, host: &Judged) -> Result<Tables, DeterminismRefusal>
+// Whether it has neither a conflict nor a clash.
+fn test_judged(alloc: Global, host: &Judged) -> Result<(), DeterminismRefusal>
     requires { IsJudged host.now }
-    ensures kernels { IfOk result (λ tables. AreKernels host.now.kernels.now) }
-    ensures tables { IfOk result (AreTables host.now.kernels.now) }
-    ensures ok { IfOk result (λ tables. IsDeterministicHost host.now.resolved.now host.now.grammar.now) }
+    ensures kernels { IfOk result (λ done. AreKernels host.now.kernels.now) }
+    ensures ok { IfOk result (λ done. IsDeterministicHost host.now.resolved.now host.now.grammar.now) }
     ensures refused { IfErr result (IsHostRefusal host.now.resolved.now host.now.grammar.now) }
 {
     let _count = host.kernels.count();
-    let tables = tables_by(alloc, host)?;
-    match test_clashes(alloc, host, &tables) {
-        Ok(()) => Ok(tables),
-        Err(refusal) => {
-            drop(tables);
-            Err(refusal)
-        }
-    }
+    let valid = valid_by(alloc, host)?;
+    let answer = test_clashes(alloc, host, &valid);
+    drop(valid);
+    answer
 }
 
-// The tables, or a conflict.
-fn tables_by(alloc: Global, host: &Judged) -> Result<Tables, DeterminismRefusal>
+// The terminals that are valid at each kernel, or a conflict.
+fn valid_by(alloc: Global, host: &Judged) -> Result<Vec<TermSet>, DeterminismRefusal>
     requires { IsJudged host.now }
-    ensures ok { IfOk result (AreTables host.now.kernels.now) }
+    ensures ok { IfOk result (λ valid. AreValidSets host.now.kernels.now valid.items) }
+    ensures no_conflict { IfOk result (λ valid. HasNoConflict (with_holes_of host.now.grammar.now host.now.resolved.now.extensible)) }
     ensures refused { IfErr result (IsHostRefusal host.now.resolved.now host.now.grammar.now) }
 {
-    match tables_of(alloc, host.holes, host.kernels, host.lookaheads) {
-        Ok(tables) => Ok(tables),
+    match valid_sets_of(alloc, host.holes, host.kernels, host.lookaheads) {
+        Ok(valid) => Ok(valid),
         Err(PartsRefusal::Conflict(conflict)) => Err(DeterminismRefusal::Conflict {
             prefix: conflict.prefix,
             terminal: conflict.terminal,
@@ -166,9 +160,10 @@ fn lists_of(alloc: Global, resolved: &Resolved) -> Result<Lists, AllocError>
 }
 
 // Whether no two terminals clash.
-fn test_clashes(alloc: Global, host: &Judged, tables: &Tables) -> Result<(), DeterminismRefusal>
+fn test_clashes(alloc: Global, host: &Judged, valid: &[TermSet]) -> Result<(), DeterminismRefusal>
     requires host { IsJudged host.now }
-    requires tables { AreTables host.now.kernels.now tables.now }
+    requires valid { AreValidSets host.now.kernels.now valid.now }
+    requires no_conflict { HasNoConflict (with_holes_of host.now.grammar.now host.now.resolved.now.extensible) }
     ensures ok { IfOk result (λ done. HasNoClashAt (with_holes_of host.now.grammar.now host.now.resolved.now.extensible) (lexicon_of host.now.resolved.now host.now.grammar.now)) }
     ensures refused { IfErr result (IsHostRefusal host.now.resolved.now host.now.grammar.now) }
 {
@@ -176,7 +171,7 @@ fn test_clashes(alloc: Global, host: &Judged, tables: &Tables) -> Result<(), Det
     let answer = test_lexicon(
         alloc,
         host,
-        tables,
+        valid,
         &Lexicon {
             expressions: &lists.expressions,
             scanned: host.grammar.terminals(),
@@ -192,16 +187,17 @@ fn test_clashes(alloc: Global, host: &Judged, tables: &Tables) -> Result<(), Det
 fn test_lexicon(
     alloc: Global,
     host: &Judged,
-    tables: &Tables,
+    valid: &[TermSet],
     lexicon: &Lexicon,
 ) -> Result<(), DeterminismRefusal>
     requires host { IsJudged host.now }
-    requires tables { AreTables host.now.kernels.now tables.now }
+    requires valid { AreValidSets host.now.kernels.now valid.now }
+    requires no_conflict { HasNoConflict (with_holes_of host.now.grammar.now host.now.resolved.now.extensible) }
     requires lexicon { lent lexicon.now ≡ lexicon_of host.now.resolved.now host.now.grammar.now }
     ensures ok { IfOk result (λ done. HasNoClashAt (with_holes_of host.now.grammar.now host.now.resolved.now.extensible) (lexicon_of host.now.resolved.now host.now.grammar.now)) }
     ensures refused { IfErr result (IsHostRefusal host.now.resolved.now host.now.grammar.now) }
 {
-    match clash_at(alloc, host.kernels, tables, lexicon)? {
+    match clash_at(alloc, host.kernels, valid, lexicon)? {
         Some(clash) => Err(DeterminismRefusal::Clash {
             prefix: clash.prefix,
             left: clash.left,

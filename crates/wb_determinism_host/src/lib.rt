@@ -13,7 +13,7 @@ mod refusal;
 
 pub use host::{AnalysedHost, analysed_host, host_determinism};
 pub use judge::judge_host;
-pub use laws::host_refusals_law;
+pub use laws::{host_refusals_law, host_tables_law};
 pub use lexicon::{expressions_of, pairs_of};
 pub use parts::HostParts;
 pub use refusal::{DeterminismRefusal, EnvelopeFault};

@@ -2,9 +2,8 @@
 
 use wb_base::Grammar;
 use wb_items::{Kernels, Lookaheads};
-use wb_lookahead::Tables;
 
-/// The host's grammar with holes, and what is made of it for a parser.
+/// The host's grammar with holes, and the kernels and lookaheads by which extensions are compared with it.
 #[derive(Drop)]
 pub struct HostParts {
     /// The grammar with holes.
@@ -13,8 +12,6 @@ pub struct HostParts {
     pub kernels: Kernels,
     /// The lookaheads of their items.
     pub lookaheads: Lookaheads,
-    /// What a parser does at each of them.
-    pub tables: Tables,
 }
 
 impl HostParts {

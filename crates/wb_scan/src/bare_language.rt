@@ -209,7 +209,7 @@ fn sets_of(
         layout: &layout,
         preferences: written.preferences,
     };
-    considered_sets(alloc, &parts.kernels, &parts.tables, &lexicon)
+    considered_sets(alloc, &parts.kernels, parts.tables.valid_sets(), &lexicon)
 }
 
 // Whether no two forms clash.

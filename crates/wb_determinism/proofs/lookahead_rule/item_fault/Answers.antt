@@ -1,7 +1,8 @@
-use Rattle.std.proofs.Common.{subst}
+use Rattle.std.proofs.Common.{sym, ◌∙◌, subst}
 use Rattle.wb_grammar_theory.specs.Items.{IsKernelItem}
 use Rattle.wb_items.specs.Kernels.{prefix_of}
 use Rattle.wb_items.proofs.CallerLemmas.{row_has}
+use Rattle.wb_lookahead.proofs.PlaceLemmas.{held_len}
 use Rattle.wb_determinism.specs.Inner.Contexts.{both_of}
 use Rattle.wb_determinism.proofs.KeepLemmas.{item_answer}
 use Rattle.wb_determinism.proofs.lookahead_rule.item_fault.Goals as goal
@@ -24,6 +25,13 @@ of-allowed-requires-clause-item c =
     c.requires.other
     ((c.requires.region.same c.in-Some.own).1
     (subst (IsKernelItem (both_of x) (prefix_of x.both.now c.args.state)) c.in-Some.ensures c.requires.item)).0
+
+pub foreign_member-requires : goal.foreign_member-requires
+foreign_member-requires c =
+    let x = c.args.context.now in
+    let h = c.requires.context in
+    held_len h.both x.both_lookaheads.now h.both_lookaheads.shape c.args.state c.requires.state c.args.item c.of-set.result.now
+    c.of-set.ensures ∙ sym h.images
 
 pub returns : goal.returns
 returns c =

@@ -1,5 +1,4 @@
-use Rattle.std.proofs.Common.{subst, refl}
-use Rattle.wb_grammar_theory.specs.Lookaheads.{HasNoConflict}
+use Rattle.std.proofs.Common.{refl}
 use Rattle.wb_determinism_host.proofs.HostLemmas.{lexicon_fits}
 use Rattle.wb_determinism_host.proofs.JudgeLemmas.{fit_for_parsing, of_with_holes}
 use Rattle.wb_determinism_host.proofs.judge.test_lexicon.Goals as goal
@@ -14,7 +13,7 @@ returns-in-Some-clause-refused c =
     let x = c.args.host.now in
     let of = of_with_holes x c.requires.host in (
       fit_for_parsing x c.requires.host,
-      subst HasNoConflict of c.requires.tables.no_conflict,
+      c.requires.no_conflict,
       rw of at (rw c.requires.lexicon at (rw c.in-Some.is at c.in_ok-clash.ensures.clash)),
       rw c.in-Some.is at c.in_ok-clash.ensures.in_order,
     )

@@ -1,12 +1,18 @@
-use Rattle.std.proofs.Common.{refl}
+use Rattle.std.proofs.Common.{refl, subst, sym}
 use Rattle.std.proofs.lemmas.Result.{IfOk-weaker}
 use Rattle.wb_determinism_contexts.specs.Considered.{LexiconView}
 use Rattle.wb_determinism_contexts.specs.Sets.{AreConsideredSets}
 use Rattle.wb_items.specs.Kernels.{count_of}
+use Rattle.wb_lookahead.specs.Tables.{AreValidSets}
+use Rattle.wb_lookahead.proofs.TableLaws.{valid_of_tables}
 use Rattle.wb_scan.specs.Inner.Lexicons.{AreStateSets}
 use Rattle.wb_scan.specs.Inner.Written.{language_of_written}
 use Rattle.wb_scan.proofs.SetLemmas.{sets_on}
 use Rattle.wb_scan.proofs.bare_language.sets_of.Goals as goal
+
+pub considered_sets-requires-clause-valid : goal.considered_sets-requires-clause-valid
+considered_sets-requires-clause-valid c =
+    subst (AreValidSets c.args.parts.now.kernels) (sym c.valid_sets.ensures) (valid_of_tables c.requires.parts.tables)
 
 pub returns : goal.returns
 returns c =
