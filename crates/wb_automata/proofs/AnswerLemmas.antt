@@ -23,7 +23,8 @@ use Rattle.wb_automata.specs.Paths.{path_by, path_on, paths_of}
 use Rattle.wb_automata.specs.Inner.Endings.{AreApartBelow, KeepRows}
 use Rattle.wb_automata.specs.Inner.Found.{on}
 use Rattle.wb_automata.specs.Inner.Pairs.{Adds, Any, AreEnds, AreMet, ArePairs, AreSmall, AreStepsBelow, Closes, HasCommonBytes, HasEnds}
-use Rattle.wb_automata.specs.Inner.Pairs.{IsAfter, IsGrown, IsPassed, IsWalked, Met, left_of, met_of, path_at, place_at, right_of, steps_of}
+use Rattle.wb_automata.specs.Inner.Pairs.{IsAfter, IsGrown, IsPassed, IsWalked, Met, is_stuck, left_of, met_of, path_at, place_at}
+use Rattle.wb_automata.specs.Inner.Pairs.{right_of, steps_of}
 use Rattle.wb_automata.proofs.GroupLemmas.{walked_first}
 use Rattle.wb_automata.proofs.PairLemmas.{adds_none, after_left, none_in, place_is, reads_below, right_below}
 use Rattle.wb_automata.proofs.TextLemmas.{paths_len}
@@ -223,10 +224,10 @@ module _ (places : List Place) (b c : ℕ) (left right : Option ℕ) (r : Option
       let f : (a.left, a.right) ≡ (q, s) = same_Some (a.left, a.right) (q, s) (sym (after_is d a) ∙ e) in
       a.pair ∙ ap (λ (z : ℕ × ℕ). z.0 * length places + z.1) f
 
-  pub after_from : (q s d : ℕ) → r ≡ Some (q, s) → d ≡ q * length places + s → IsAfter places b c d
-  after_from q s d e f =
+  pub after_from : (q s d : ℕ) → r ≡ Some (q, s) → d ≡ q * length places + s → is_stuck places d ≡ false → IsAfter places b c d
+  after_from q s d e f goes_on =
       let (g, h) = (both q s).1 e in
-      record { left = q; right = s; left_reads = (to_left q).1 g; right_reads = (to_right s).1 h; pair = f }
+      record { left = q; right = s; left_reads = (to_left q).1 g; right_reads = (to_right s).1 h; pair = f; goes_on = goes_on }
 
   pub after_small : (q s : ℕ) → r ≡ Some (q, s) → ArePlacesBelow places → left_of places c < length places
       → (q < length places) × (s < length places)

@@ -14,6 +14,7 @@ pub mod PlaceLemmas
 pub mod PairLemmas
 pub mod PlainTextLemmas
 pub mod StateLemmas
+pub mod StuckLemmas
 pub mod TextLemmas
 pub mod WalkLemmas
 pub mod WalkedLemmas

@@ -1,8 +1,8 @@
 -- Pairs of places: what is met, and what leads from a pair to two ends leads there from a pair before it.
-use Rattle.std.proofs.Common.{◌≡◌, ℕ, ◌+◌, ◌*◌, ◌/◌, ◌%◌, ◌≤◌, ◌<◌, ◌⊎◌, List, [], ◌∷◌, ◌++◌, refl, sym, ◌∙◌, ap}
+use Rattle.std.proofs.Common.{◌≡◌, ℕ, ◌+◌, ◌*◌, ◌/◌, ◌%◌, ◌≤◌, ◌<◌, ◌⊎◌, Bool, false, List, [], ◌∷◌, ◌++◌, refl, sym, ◌∙◌, ap}
 use Rattle.std.proofs.Common.{subst, arith, inl, inr, Some, length, get_or, take, append_assoc, append-nil}
 use Rattle.std.specs.Prelude.{slice_get, Contains}
-use Rattle.std.proofs.lemmas.List.{take_all}
+use Rattle.std.proofs.lemmas.List.{get_or_default, take_all}
 use Rattle.std.proofs.lemmas.List.Elements.{Contains-append_left, Contains-push, Contains-push_cases}
 use Rattle.std.proofs.lemmas.Nat.{div-mul-add, mod-mul-add}
 use Rattle.std.proofs.Math.Nat.{mod-lt}
@@ -14,7 +14,10 @@ use Rattle.wb_automata_positions.proofs.MachineLemmas.{taken, none_taken}
 use Rattle.wb_automata.specs.declared.steps.Steps.{Steps}
 use Rattle.wb_automata.specs.declared.steps.Steps.TheVariants.{Still}
 use Rattle.wb_automata.specs.Inner.Pairs.{Adds, Any, IsAfter, LeadTo}
-use Rattle.wb_automata.specs.Inner.Pairs.{both_steps, left_of, pair_steps, place_at, right_of, right_steps, steps_of}
+use Rattle.wb_automata.specs.Inner.Pairs.{bare_steps, both_steps, is_stuck, left_of, pair_steps, place_at, right_of, right_steps, steps_of}
+use Rattle.wb_automata.specs.Inner.Stuck.{are_stuck}
+use Rattle.wb_automata_positions.proofs.RunLemmas.{RunsIn}
+use Rattle.wb_automata.proofs.StuckLemmas.{open_both, opens, unstuck_back, unstuck_on}
 
 pub none_in : (c : ℕ) → Contains [] c → ⊥
 none_in c (k, lt, is) = absurd (omega arith)
@@ -131,6 +134,14 @@ module _ (places : List Place) where
   pub place_is : (i : ℕ) → i < length places → slice_get places i ≡ Some (place_at places i)
   place_is i lt = slice_get-get_or places i (p.End 0) lt
 
+  -- whether a pair is stuck, by what is at its places
+  pub stuck_is : (c : ℕ) (d d' : Place) (r : Bool) → left_of places c < length places
+      → r ≡ are_stuck (get_or places (left_of places c) d) (get_or places (right_of places c) d') → r ≡ is_stuck places c
+  stuck_is c d d' r lt e = e
+      ∙ ap (λ z. are_stuck z (get_or places (right_of places c) d')) (get_or_default places (left_of places c) d (p.End 0) lt)
+      ∙ ap (λ z. are_stuck (place_at places (left_of places c)) z)
+      (get_or_default places (right_of places c) d' (p.End 0) (right_below c lt))
+
   -- what is at a place goes on at places
   pub goes_below : (i q : ℕ) (place : Place) → ArePlacesBelow places → slice_get places i ≡ Some place → GoesOn place q → q < length places
   goes_below i q place below at goes = lemma place (below i place at) goes
@@ -184,8 +195,11 @@ module _ (places : List Place) where
       let (q, f, goes) = right_step (left_of places c) (right_of places c) d (place_at places (right_of places c)) h in
       record { left = left_of places c; right = q; pair = f; goes = inr (refl, goes) }
 
+  bare_step : (c d : ℕ) → LeadTo (bare_steps places c) d → IsStep c d
+  bare_step c d h = step_by c d (place_at places (left_of places c)) refl h
+
   pub step_of : (c d : ℕ) → LeadTo (pair_steps places c) d → IsStep c d
-  step_of c d h = step_by c d (place_at places (left_of places c)) refl h
+  step_of c d h = bare_step c d (unstuck_back places (bare_steps places c) d h)
 
   -- the places of what a pair goes on to
   pub record AreAt (d left right : ℕ) : Type 0 where
@@ -236,6 +250,21 @@ module _ (places : List Place) where
   step_left c d below lt h =
       let s = step_of c d h in let a = step_at c d s below lt in subst (λ z. z < length places) (sym a.left_is) a.left_below
 
+  pub bare_left : (c d : ℕ) → ArePlacesBelow places → left_of places c < length places → LeadTo (bare_steps places c) d
+      → left_of places d < length places
+  bare_left c d below lt h =
+      let s = bare_step c d h in let a = step_at c d s below lt in subst (λ z. z < length places) (sym a.left_is) a.left_below
+
+  pub bare_is : (c : ℕ) (d d' : Place) (steps lefts rights : Steps) → left_of places c < length places
+      → steps ≡ both_steps (length places) (left_of places c) (right_of places c) lefts rights
+      → lefts ≡ steps_of (get_or places (left_of places c) d) → rights ≡ steps_of (get_or places (right_of places c) d')
+      → steps ≡ bare_steps places c
+  bare_is c d d' steps lefts rights lt e f g = e
+      ∙ ap (λ z. both_steps (length places) (left_of places c) (right_of places c) z rights)
+      (f ∙ ap steps_of (get_or_default places (left_of places c) d (p.End 0) lt))
+      ∙ ap (λ z. both_steps (length places) (left_of places c) (right_of places c) (steps_of (place_at places (left_of places c))) z)
+      (g ∙ ap steps_of (get_or_default places (right_of places c) d' (p.End 0) (right_below c lt)))
+
   -- where the left place goes on, and where the right one does while the left one waits
   left_leads : (m left right q : ℕ) (x : Place) (steps : Steps) → GoesOn x q → LeadTo (both_steps m left right (steps_of x) steps) (q * m + right)
   left_leads m left right q (p.Read words next) steps h = absurd h
@@ -251,16 +280,26 @@ module _ (places : List Place) where
   right_leads first q (p.Fork next other) (inr h) = inr (ap (λ z. first + z) h)
   right_leads first q (p.End number) h = absurd h
 
-  pub leads_left : (c q : ℕ) → GoesOn (place_at places (left_of places c)) q
-      → LeadTo (pair_steps places c) (q * length places + right_of places c)
-  leads_left c q h = left_leads (length places) (left_of places c) (right_of places c) q (place_at places (left_of places c))
-      (steps_of (place_at places (right_of places c))) h
+  pub leads_left : (c q : ℕ) → is_stuck places (q * length places + right_of places c) ≡ false
+      → GoesOn (place_at places (left_of places c)) q → LeadTo (pair_steps places c) (q * length places + right_of places c)
+  leads_left c q goes_on h = unstuck_on places (bare_steps places c) (q * length places + right_of places c) goes_on
+      (left_leads (length places) (left_of places c) (right_of places c) q (place_at places (left_of places c))
+      (steps_of (place_at places (right_of places c))) h)
 
-  pub leads_right : (c q : ℕ) → steps_of (place_at places (left_of places c)) ≡ Still → GoesOn (place_at places (right_of places c)) q
+  pub leads_right : (c q : ℕ) → is_stuck places (left_of places c * length places + q) ≡ false
+      → steps_of (place_at places (left_of places c)) ≡ Still → GoesOn (place_at places (right_of places c)) q
       → LeadTo (pair_steps places c) (left_of places c * length places + q)
-  leads_right c q still h = subst (λ z. LeadTo (both_steps (length places) (left_of places c) (right_of places c) z
+  leads_right c q goes_on still h = unstuck_on places (bare_steps places c) (left_of places c * length places + q) goes_on
+      (subst (λ z. LeadTo (both_steps (length places) (left_of places c) (right_of places c) z
       (steps_of (place_at places (right_of places c)))) (left_of places c * length places + q)) (sym still)
-      (right_leads (left_of places c * length places) q (place_at places (right_of places c)) h)
+      (right_leads (left_of places c * length places) q (place_at places (right_of places c)) h))
+
+  -- from a pair from which a text leads to two ends one goes on
+  pub both_open : (d n k i j : ℕ) (x : List ℕ) → left_of places d < length places → RunsIn places n (left_of places d) i x
+      → RunsIn places k (right_of places d) j x → is_stuck places d ≡ false
+  both_open d n k i j x lt f g = open_both (place_at places (left_of places d)) (place_at places (right_of places d)) x
+      (opens (place_at places (left_of places d)) (place_is (left_of places d) lt) f)
+      (opens (place_at places (right_of places d)) (place_is (right_of places d) (right_below d lt)) g)
 
   -- the pair after a byte
   pub after_at : (b c d : ℕ) (a : IsAfter places b c d) → ArePlacesBelow places → left_of places c < length places → AreAt d a.left a.right

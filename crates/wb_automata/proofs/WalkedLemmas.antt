@@ -16,8 +16,8 @@ use Rattle.wb_automata.specs.Inner.Pairs.{AreAllMet, AreEnds, AreMet, HasEnds, I
 use Rattle.wb_automata.specs.Inner.Pairs.{left_of, path_at, place_at, right_of, steps_of}
 use Rattle.wb_automata.proofs.LeastLemmas.{at_most}
 use Rattle.wb_automata.proofs.OrderLemmas.{IsLatest, latest_more, latest_next}
-use Rattle.wb_automata.proofs.PairLemmas.{after_at, end_still, goes_below, leads_left, leads_right, place_is, places_of_pair}
-use Rattle.wb_automata.proofs.PairLemmas.{reads_still, right_below}
+use Rattle.wb_automata.proofs.PairLemmas.{both_open, end_still, goes_below, leads_left, leads_right, place_is, places_of_pair}
+use Rattle.wb_automata.proofs.PairLemmas.{reads_below, reads_still, right_below}
 use Rattle.wb_automata.specs.declared.steps.Steps.TheVariants.{Still}
 
 -- the path with more bytes after it
@@ -81,9 +81,11 @@ module _ (places : List Place) (seeds : List ℕ) (met : Met) (first : ℕ) (are
       (place_is places (right_of places c) (right_below places c by.left)) goes in
       let d : ℕ = left_of places c * length places + q in
       let (l, r) = places_of_pair (length places) (left_of places c) q d small refl in
-      let u = are.still g c d gl has (leads_right places c q still goes) in
-      from_group i j x (path_at met.paths g) (path_at met.paths u.group) u.least (next u.group d u.within u.has
-      (subst (λ z. RunsIn places n z i x) (sym l) run) (subst (λ z. RunsIn places less z j x) (sym r) sub))
+      let run' = subst (λ z. RunsIn places n z i x) (sym l) run in
+      let sub' = subst (λ z. RunsIn places less z j x) (sym r) sub in
+      let goes_on = both_open places d n less i j x (subst (λ z. z < length places) (sym l) by.left) run' sub' in
+      let u = are.still g c d gl has (leads_right places c q goes_on still goes) in
+      from_group i j x (path_at met.paths g) (path_at met.paths u.group) u.least (next u.group d u.within u.has run' sub')
 
   left_move : (k less i j q : ℕ) (x : List ℕ) (g c : ℕ) → g < length met.pairs → Contains (row met.pairs g) c
       → GoesOn (place_at places (left_of places c)) q → RunsIn places less q i x → RunsIn places k (right_of places c) j x →
@@ -93,9 +95,13 @@ module _ (places : List Place) (seeds : List ℕ) (met : Met) (first : ℕ) (are
       let by = are.each g c gl has in
       let d : ℕ = q * length places + right_of places c in
       let (l, r) = places_of_pair (length places) q (right_of places c) d (right_below places c by.left) refl in
-      let u = are.still g c d gl has (leads_left places c q goes) in
-      from_group i j x (path_at met.paths g) (path_at met.paths u.group) u.least (next u.group d u.within u.has
-      (subst (λ z. RunsIn places less z i x) (sym l) sub) (subst (λ z. RunsIn places k z j x) (sym r) run))
+      let sub' = subst (λ z. RunsIn places less z i x) (sym l) sub in
+      let run' = subst (λ z. RunsIn places k z j x) (sym r) run in
+      let small = goes_below places (left_of places c) q (place_at places (left_of places c)) are.small.below
+      (place_is places (left_of places c) by.left) goes in
+      let goes_on = both_open places d less k i j x (subst (λ z. z < length places) (sym l) small) sub' run' in
+      let u = are.still g c d gl has (leads_left places c q goes_on goes) in
+      from_group i j x (path_at met.paths g) (path_at met.paths u.group) u.least (next u.group d u.within u.has sub' run')
 
   -- where both places read
   both_read : (less less' i j b q q' : ℕ) (x y : List ℕ) (g c : ℕ) → g < length met.pairs → Contains (row met.pairs g) c
@@ -108,11 +114,23 @@ module _ (places : List Place) (seeds : List ℕ) (met : Met) (first : ℕ) (are
     | inl early ↦
         let by = are.each g c gl has in
         let d : ℕ = q * length places + q' in
-        let a : IsAfter places b c d = record { left = q; right = q'; left_reads = reads; right_reads = reads'; pair = refl } in
-        let at = after_at places b c d a are.small.below by.left in
+        let small = reads_below places (right_of places c) b q' (place_at places (right_of places c)) are.small.below
+        (place_is places (right_of places c) (right_below places c by.left)) reads' in
+        let small' = reads_below places (left_of places c) b q (place_at places (left_of places c)) are.small.below
+        (place_is places (left_of places c) by.left) reads in
+        let (left_is, right_is) = places_of_pair (length places) q q' d small refl in
+        let f = subst (λ z. RunsIn places less z i y) (sym left_is) run in
+        let f' = subst (λ z. RunsIn places less' z j y) (sym right_is) run' in
+        let a : IsAfter places b c d = record {
+          left = q;
+          right = q';
+          left_reads = reads;
+          right_reads = reads';
+          pair = refl;
+          goes_on = both_open places d less less' i j y (subst (λ z. z < length places) (sym left_is) small') f f';
+        } in
         let u = closed g b early c d has a in
-        let r = next u.group d u.within u.has (subst (λ z. RunsIn places less z i y) (sym at.left_is) run)
-        (subst (λ z. RunsIn places less' z j y) (sym at.right_is) run') in
+        let r = next u.group d u.within u.has f f' in
         let own : Path = path_at met.paths g in
         let mid : Path = path_at met.paths u.group in
         record {

@@ -16,5 +16,7 @@ pub mod Pairs
 pub mod PlainTexts
 -- pairs of starts and of ends
 pub mod Starts
+-- pairs from which no text goes on
+pub mod Stuck
 -- a code of views
 pub mod ViewCode

@@ -20,6 +20,7 @@ mod predecessor;
 mod shared;
 mod states;
 mod steps;
+mod stuck;
 mod text;
 mod walk;
 

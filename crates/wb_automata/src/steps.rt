@@ -3,9 +3,10 @@
 //! The left place goes first, and the right one only where the left one waits for a byte or an end: so pairs of one closure aren't all met
 //! with all of the other.
 
-ghost use Rattle.std.specs.Prelude.{◌≡◌, ◌-◌, ◌*◌, ◌/◌, ◌%◌, ◌^◌, ◌<◌, length};
-ghost use Rattle.wb_automata.specs.Inner.Pairs.{AreSmall, AreStepsBelow, both_steps, left_of, pair_steps, right_steps, steps_of};
+ghost use Rattle.std.specs.Prelude.{◌≡◌, ℕ, ◌-◌, ◌*◌, ◌/◌, ◌%◌, ◌^◌, ◌<◌, length};
+ghost use Rattle.wb_automata.specs.Inner.Pairs.{AreSmall, AreStepsBelow, LeadTo, both_steps, left_of, pair_steps, right_steps, step_to, steps_of, steps_to, unstuck};
 
+use crate::stuck::is_stuck;
 use wb_automata_positions::Place;
 
 // The one or two numbers to which something goes on.
@@ -25,7 +26,38 @@ pub(crate) fn pair_steps(places: &[Place], pair: usize) -> Steps
     let count = places.len();
     let left = pair / count;
     let right = pair % count;
-    both_steps(count, pair, steps_of(places[left]), steps_of(places[right]))
+    let steps = both_steps(count, pair, steps_of(places[left]), steps_of(places[right]));
+    unstuck(places, steps)
+}
+
+// The steps to pairs that aren't stuck.
+fn unstuck(places: &[Place], steps: Steps) -> Steps
+    requires { (d : ℕ) → LeadTo steps d → left_of places.now d < length places.now }
+    ensures { result ≡ unstuck places.now steps }
+{
+    match steps {
+        Steps::Still => Steps::Still,
+        Steps::One(q) => step_to(is_stuck(places, q), q),
+        Steps::Two(q, r) => steps_to(is_stuck(places, q), is_stuck(places, r), q, r),
+    }
+}
+
+fn step_to(stuck: bool, q: usize) -> Steps
+    ensures { result ≡ step_to stuck q }
+{
+    if stuck { Steps::Still } else { Steps::One(q) }
+}
+
+fn steps_to(stuck: bool, other: bool, q: usize, r: usize) -> Steps
+    ensures { result ≡ steps_to stuck other q r }
+{
+    if stuck {
+        return step_to(other, r);
+    }
+    if other {
+        return Steps::One(q);
+    }
+    Steps::Two(q, r)
 }
 
 // The pairs to which the places of a pair go on, by where each does.

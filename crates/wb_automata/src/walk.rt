@@ -2,11 +2,11 @@
 //!
 //! It is a walk over pairs of places, breadth first by bytes in their order (`groups`), so that an end is met by the least text first.
 
-ghost use Rattle.std.specs.Prelude.{◌≡◌, ◌+◌, ◌<◌, ◌↔◌, [], ℕ, IfOk, IfSome, IsNone, Some, length};
+ghost use Rattle.std.specs.Prelude.{◌≡◌, ◌+◌, ◌<◌, ◌↔◌, [], ℕ, IfOk, IfSome, IsNone, Some, false, length};
 ghost use Rattle.wb_automata_positions.specs.declared.places.Place.TheVariants.{End};
 ghost use Rattle.wb_automata_positions.specs.Places.{ReadsTo};
 ghost use Rattle.wb_automata_positions.specs.Rows.{row};
-ghost use Rattle.wb_automata.specs.Inner.Pairs.{Adds, Any, AreAllMet, AreEnds, AreMet, ArePairs, AreSmall, HasCommonBytes, HasEnds, IsAfter, IsCommon, IsPassed, IsWalked, left_of, met_of};
+ghost use Rattle.wb_automata.specs.Inner.Pairs.{Adds, Any, AreAllMet, AreEnds, AreMet, ArePairs, AreSmall, HasCommonBytes, HasEnds, IsAfter, IsCommon, IsPassed, IsWalked, is_stuck, left_of, met_of};
 ghost use Rattle.wb_automata.specs.Inner.Endings.{IsEnding, KeepRows};
 
 use crate::bytes::{add_common, has_byte};
@@ -14,6 +14,7 @@ use crate::groups::{Groups, add_group, meet, no_groups};
 use crate::met::Met;
 use crate::predecessor::Predecessor;
 use crate::shared::SharedText;
+use crate::stuck::is_stuck;
 use crate::text::text_at;
 use std::alloc::{AllocError, Global};
 use wb_automata_positions::{Leaves, Place};
@@ -285,8 +286,24 @@ fn meet_next(
     let right = target(places[pair % count], byte);
     match both(left, right) {
         None => Ok(()),
-        Some((q, r)) => meet(q * count + r, met, next),
+        Some((q, r)) => meet_open(places, q * count + r, met, next),
     }
+}
+
+// Meets a pair, unless it is stuck.
+fn meet_open(
+    places: &[Place],
+    pair: usize,
+    met: &mut Met,
+    next: &mut Leaves,
+) -> Result<(), AllocError>
+    requires { left_of places.now pair < length places.now }
+    ensures { IfOk result (λ _. Adds (λ d. (d ≡ pair) × (is_stuck places.now d ≡ false)) met.old next.old met.new next.new) }
+{
+    if is_stuck(places, pair) {
+        return Ok(());
+    }
+    meet(pair, met, next)
 }
 
 // Where a place goes on by the byte, if it reads it.

@@ -9,7 +9,7 @@ use Rattle.wb_regex.specs.declared.node.RegexNode.{RegexNode}
 use Rattle.wb_automata_positions.specs.Leaves.{node_holds}
 use Rattle.wb_automata_positions.specs.Rising.{AreRising}
 use Rattle.wb_automata_positions.specs.Classes.{AreClasses}
-use Rattle.wb_automata_positions.specs.Inner.ClassPasses.{IsClassOf, ClassPass}
+use Rattle.wb_automata_positions.specs.Inner.ClassPasses.{IsClassOf, ClassPass, KeepsClasses}
 
 -- before the first node all bytes are in one class
 pub classes_begin : (nodes : List RegexNode) (classes firsts : List ℕ) → classes ≡ replicate 256 0 → firsts ≡ 0 ∷ []
@@ -108,6 +108,22 @@ classes_step nodes node old firsts new news i at h p = record {
             subst (λ z. node_holds z b ≡ node_holds z f) e (sym (p.holds b lt))
       ];
   rising = p.rising;
+}
+
+-- one node more, which tells no bytes of a class apart
+pub classes_stay : (nodes : List RegexNode) (node : RegexNode) (classes firsts : List ℕ) (i : ℕ) → slice_get nodes i ≡ Some node
+    → AreClasses nodes classes firsts i → KeepsClasses node classes firsts 256 → AreClasses nodes classes firsts (i + 1)
+classes_stay nodes node classes firsts i at h keeps = record {
+  len = h.len;
+  below = h.below;
+  first = h.first;
+  alike = λ b lt q other less here. elim (cases_lt q i) [
+    | inl early ↦ h.alike b lt q other early here
+    | inr past ↦
+        let e : node ≡ other = same_Some node other (sym at ∙ ap (slice_get nodes) (let g : i ≡ q = omega arith in g) ∙ here) in
+        subst (λ z. node_holds z b ≡ node_holds z (get_or firsts (get_or classes b 0) 0)) e (keeps b lt)
+  ];
+  rising = h.rising;
 }
 
 -- a number of a rising list isn't less than its place

@@ -14,7 +14,7 @@ use Rattle.wb_automata_positions.specs.declared.ends.Parts.{Parts}
 use Rattle.wb_automata_positions.specs.declared.ends.Parts.TheVariants.{Leaf, One, Two}
 use Rattle.wb_automata_positions.specs.Rows.{row, AreBelow}
 use Rattle.wb_automata_positions.specs.Inner.Nodes.{flag, AreNullable, AreFirsts, AreLasts}
-use Rattle.wb_automata_positions.specs.Parts.{AreParts, PartsBelow}
+use Rattle.wb_automata_positions.specs.Inner.Parts.{AreParts, PartsBelow}
 use Rattle.wb_automata_positions.specs.Inner.Ends.{parts_of, leaves_at, rows_from, rows_of, todo, weight, AreBefore, IsOpened}
 use Rattle.wb_lemmas.proofs.Elements.{all_weaker}
 use Rattle.wb_lemmas.proofs.Places.{append_seam}

@@ -13,7 +13,7 @@ use Rattle.wb_regex.specs.declared.node.RegexNode.TheVariants as n
 use Rattle.wb_automata_positions.specs.PositionTrees.{PositionTree, Leaf, Sequence, Choice, Star, Plus, Maybe}
 use Rattle.wb_automata_positions.specs.Projection.{IsProjection, leaf, sequence, choice, star, plus, maybe}
 use Rattle.wb_automata_positions.specs.Forests as c
-use Rattle.wb_automata_positions.specs.Parts.{AreParts, PartsBelow}
+use Rattle.wb_automata_positions.specs.Inner.Parts.{AreParts, PartsBelow}
 use Rattle.wb_automata_positions.specs.Inner.Concatenated.{raised, AreConcatenated, AreAdded}
 use Rattle.wb_automata_positions.specs.Sizes.{size_of, bound_of}
 use Rattle.wb_regex.specs.Filled.{Filled}

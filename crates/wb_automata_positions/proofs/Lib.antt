@@ -1,10 +1,12 @@
 pub mod ClassLemmas
 pub mod Empties
 pub mod EndLemmas
+pub mod EntryLemmas
 pub mod ErasingLemmas
 pub mod Forests
 pub mod JoinLemmas
 pub mod MachineLemmas
+pub mod MergeLemmas
 pub mod NodeLemmas
 pub mod PlantLemmas
 pub mod NextLemmas
@@ -16,6 +18,7 @@ pub mod ReachLemmas
 pub mod RepeatedLemmas
 pub mod RootLemmas
 pub mod RunLemmas
+pub mod ShortcutLemmas
 pub mod StandsLemmas
 pub mod StartLemmas
 pub mod Subs

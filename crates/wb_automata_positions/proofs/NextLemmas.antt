@@ -7,7 +7,7 @@ use Rattle.std.proofs.lemmas.List.{get_or-replicate, length-replicate}
 use Rattle.std.proofs.lemmas.Option.{slice_get_within, same_Some}
 use Rattle.wb_regex.specs.declared.node.RegexNode.{RegexNode}
 use Rattle.wb_regex.specs.declared.node.RegexNode.TheVariants as n
-use Rattle.wb_automata_positions.specs.Parts.{PartsBelow}
+use Rattle.wb_automata_positions.specs.Inner.Parts.{PartsBelow}
 use Rattle.wb_automata_positions.specs.Inner.Machines.{AreContinued, AreDifferent, AreEndsSet, AreNextBelow, Continues, HaveOneParent, IsPart, linked}
 
 -- what isn't a part of the node stays

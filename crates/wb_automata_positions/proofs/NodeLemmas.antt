@@ -16,7 +16,7 @@ use Rattle.wb_regex.specs.declared.node.RegexNode.{RegexNode}
 use Rattle.wb_regex.specs.declared.node.RegexNode.TheVariants as n
 use Rattle.wb_automata_positions.specs.Forests.{Covers, one, seq, choice, star, plus, maybe}
 use Rattle.wb_automata_positions.specs.Inner.Nodes.{nullable_at, flag, firsts, lasts, AreNullable, AreFirsts, AreLasts}
-use Rattle.wb_automata_positions.specs.Parts.{PartsBelow}
+use Rattle.wb_automata_positions.specs.Inner.Parts.{PartsBelow}
 use Rattle.wb_automata_positions.specs.Rows.{row}
 use Rattle.wb_automata_positions.specs.declared.ends.Side.TheVariants as side
 use Rattle.wb_automata_positions.specs.declared.ends.Parts.TheVariants as parts

@@ -12,7 +12,7 @@ use Rattle.wb_regex.specs.declared.node.RegexNode.TheVariants as n
 use Rattle.wb_automata_positions.specs.declared.places.Place.{Place}
 use Rattle.wb_automata_positions.specs.declared.places.Place.TheVariants as p
 use Rattle.wb_automata_positions.specs.declared.places.Places.{Places}
-use Rattle.wb_automata_positions.specs.Parts.{PartsBelow}
+use Rattle.wb_automata_positions.specs.Inner.Parts.{PartsBelow}
 use Rattle.wb_automata_positions.specs.Places.{ArePlaces, GoesBelow, Runs, ended}
 use Rattle.wb_automata_positions.specs.Inner.Concatenated.{AreConcatenated}
 use Rattle.wb_automata_positions.specs.Inner.Machines.{AreContinued, AreListed, HaveOneParent, IsMachine, IsPlaceAt, again_place, first_place}

@@ -10,7 +10,7 @@ use Rattle.wb_regex.specs.declared.node.RegexNode.{RegexNode}
 use Rattle.wb_automata_positions.specs.PositionTrees.{PositionTree, Leaf, Matches}
 use Rattle.wb_automata_positions.specs.Projection.{IsProjection}
 use Rattle.wb_automata_positions.specs.Forests.{Covers, IsFollow, IsEnds}
-use Rattle.wb_automata_positions.specs.Parts.{AreParts}
+use Rattle.wb_automata_positions.specs.Inner.Parts.{AreParts}
 use Rattle.wb_automata_positions.specs.Rows.{row, AreBelow}
 use Rattle.wb_automata_positions.specs.Sizes.{size_of, bound_of}
 use Rattle.wb_automata_positions.specs.Inner.Concatenated.{IsPart, AreConcatenated}

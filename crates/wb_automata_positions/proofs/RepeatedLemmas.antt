@@ -14,7 +14,7 @@ use Rattle.wb_automata_positions.specs.declared.ends.Side.TheVariants.{First, La
 use Rattle.wb_automata_positions.specs.declared.ends.Parts.TheVariants.{One, Two}
 use Rattle.wb_automata_positions.specs.Rows.{row}
 use Rattle.wb_automata_positions.specs.Inner.Nodes.{flag}
-use Rattle.wb_automata_positions.specs.Parts.{PartsBelow}
+use Rattle.wb_automata_positions.specs.Inner.Parts.{PartsBelow}
 use Rattle.wb_automata_positions.specs.Inner.Ends.{IsPostOrder, parts_of, leaves_at, rows_of}
 use Rattle.wb_automata_positions.specs.Inner.Follows.{LinkAt, LinkIn, AreFollows}
 use Rattle.wb_automata_positions.specs.Inner.Repeated.{AreAmong, RepeatsPart, IsRepetition, IsRepeated, AreRepeated, adds_nothing}

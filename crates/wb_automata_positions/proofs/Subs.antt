@@ -7,7 +7,7 @@ use Rattle.wb_automata_positions.specs.PositionTrees.{PositionTree, Leaf, Sequen
 use Rattle.wb_regex.specs.declared.node.RegexNode.{RegexNode}
 use Rattle.wb_regex.specs.declared.node.RegexNode.TheVariants as n
 use Rattle.wb_automata_positions.specs.Forests.{Covers, one, seq, choice, star, plus, maybe}
-use Rattle.wb_automata_positions.specs.Parts.{PartsBelow}
+use Rattle.wb_automata_positions.specs.Inner.Parts.{PartsBelow}
 use Rattle.wb_automata_positions.proofs.NodeLemmas.{covers_lt}
 
 pub record Sub (nodes : List RegexNode) (j : ℕ) : Type 0 where

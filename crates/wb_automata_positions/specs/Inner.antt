@@ -12,10 +12,14 @@ pub mod LinkTables
 pub mod Machines
 -- tables with an entry for each node
 pub mod Nodes
+-- nodes whose parts come before them
+pub mod Parts
 -- nodes that a star or plus repeats as a whole
 pub mod Repeated
 -- where expressions begin and end
 pub mod Roots
+-- machines in which steps are left out
+pub mod Shortcuts
 -- where leaves lie
 pub mod Spans
 -- sets of leaves as states

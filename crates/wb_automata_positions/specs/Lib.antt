@@ -4,8 +4,6 @@ pub mod Rising
 pub mod Rows
 -- how many nodes expressions have
 pub mod Sizes
--- nodes whose parts come before them
-pub mod Parts
 -- which bytes leaves hold
 pub mod Leaves
 -- bytes in classes, which the same leaves hold

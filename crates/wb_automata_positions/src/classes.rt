@@ -4,10 +4,11 @@
 
 ghost use Rattle.std.specs.Prelude.{◌≡◌, ◌+◌, ◌*◌, ◌<◌, ◌≤◌, ℕ, [], IfOk, IsTrue, length, replicate, slice_index};
 ghost use Rattle.wb_automata_positions.specs.Classes.{AreClasses};
-ghost use Rattle.wb_automata_positions.specs.Inner.ClassPasses.{ClassPass, IsClassOf};
+ghost use Rattle.wb_automata_positions.specs.Inner.ClassPasses.{ClassPass, IsClassOf, KeepsClasses};
 ghost use Rattle.wb_automata_positions.specs.Leaves.{node_holds};
+ghost use Rattle.wb_regex.specs.declared.node.RegexNode.TheVariants.{Set};
 
-use crate::transition::holds;
+use crate::transition::{has_byte, holds};
 use std::alloc::{AllocError, Global};
 use wb_base::push;
 use wb_regex::RegexNode;
@@ -25,9 +26,42 @@ pub fn classes_of(alloc: Global, nodes: &[RegexNode]) -> Result<Classes, AllocEr
 {
     let mut classes = one_class(alloc)?;
     for node in nodes {
-        classes = refined(alloc, &classes.of, *node)?;
+        if !are_kept(*node, &classes.of, &classes.firsts) {
+            classes = refined(alloc, &classes.of, *node)?;
+        }
     }
     Ok(classes)
+}
+
+// Whether the node holds of each class all bytes or none, as most nodes do.
+fn are_kept(node: RegexNode, classes: &[u8], firsts: &[u8]) -> bool
+    requires len { length classes.now ≡ 256 }
+    requires below { (b : ℕ) → b < 256 → slice_index classes.now b < length firsts.now }
+    ensures { IsTrue result → KeepsClasses node classes.now firsts.now 256 }
+{
+    match node {
+        RegexNode::Set(words) => are_kept_by(&words, classes, firsts),
+        RegexNode::Sequence(_, _) => true,
+        RegexNode::Choice(_, _) => true,
+        RegexNode::Star(_) => true,
+        RegexNode::Plus(_) => true,
+        RegexNode::Maybe(_) => true,
+    }
+}
+
+// The same for a set of bytes.
+fn are_kept_by(words: &[u64; 4], classes: &[u8], firsts: &[u8]) -> bool
+    requires len { length classes.now ≡ 256 }
+    requires below { (b : ℕ) → b < 256 → slice_index classes.now b < length firsts.now }
+    ensures { IsTrue result → KeepsClasses (Set words.now) classes.now firsts.now 256 }
+{
+    for b in 0..256usize {
+        let first = firsts[usize::from(classes[b])];
+        if has_byte(words, first) != has_byte(words, b as u8) {
+            return false;
+        }
+    }
+    true
 }
 
 // All bytes in one class.

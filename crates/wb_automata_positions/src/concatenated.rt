@@ -1,7 +1,7 @@
 //! The nodes of several expressions, one after the other in one list: so a position belongs to one expression.
 
 ghost use Rattle.std.specs.Prelude.{◌≡◌, ◌^◌, ◌<◌, ◌++◌, IfOk, length, map};
-ghost use Rattle.wb_automata_positions.specs.Parts.{AreParts, PartsBelow};
+ghost use Rattle.wb_automata_positions.specs.Inner.Parts.{AreParts, PartsBelow};
 ghost use Rattle.wb_automata_positions.specs.Inner.Concatenated.{AreConcatenated, AreAdded, raised};
 
 use std::alloc::{AllocError, Global};

@@ -4,7 +4,7 @@
 
 ghost use Rattle.std.specs.Prelude.{◌≡◌, ◌<◌, ◌≤◌, ◌++◌, ◌∷◌, [], IfOk, length};
 ghost use Rattle.wb_automata_positions.specs.Rows.{row};
-ghost use Rattle.wb_automata_positions.specs.Parts.{PartsBelow};
+ghost use Rattle.wb_automata_positions.specs.Inner.Parts.{PartsBelow};
 ghost use Rattle.wb_automata_positions.specs.Inner.Ends.{IsPostOrder, parts_of, sequence_parts, rows_of, IsOpened};
 
 use crate::post_order::PostOrder;

@@ -12,6 +12,7 @@ mod positions;
 mod post_order;
 mod repeated;
 mod rows;
+mod shortcuts;
 mod tables;
 mod terminals;
 mod transition;

@@ -3,11 +3,12 @@
 //! It is linear in the expressions, where the rows of `tables` may be quadratic: a place goes on at two others at most.
 
 ghost use Rattle.std.specs.Prelude.{◌≡◌, ◌+◌, ◌^◌, ◌<◌, ◌≤◌, IfOk, length, replicate};
-ghost use Rattle.wb_automata_positions.specs.Parts.{PartsBelow};
+ghost use Rattle.wb_automata_positions.specs.Inner.Parts.{PartsBelow};
 ghost use Rattle.wb_automata_positions.specs.Places.{ArePlaces};
 ghost use Rattle.wb_automata_positions.specs.Inner.Machines.{AreContinued, AreEndsSet, AreListed, HaveOneParent, IsMachine, IsPlaceAt, again_place, first_place, linked};
 
 use crate::concatenated::concatenate;
+use crate::shortcuts::shorten;
 use std::alloc::{AllocError, Global};
 use wb_base::push;
 use wb_regex::{Regex, RegexNode};
@@ -48,16 +49,18 @@ impl Drop for Places {
 /// The places of these expressions.
 ///
 /// With n nodes, place i is that of node i, place n + i is where the part of node i goes on if it is a plus, and place 2n + k is the end
-/// of expression k.
+/// of expression k. Nothing leads to a place that only hands on, nor to a star that is the whole of another.
 pub fn places_of(alloc: Global, terminals: &[Regex]) -> Result<Places, AllocError>
     ensures { IfOk result (ArePlaces terminals.now) }
 {
     let all = concatenate(alloc, terminals)?;
-    let places = all_places(alloc, all.nodes.as_slice(), all.roots.as_slice())?;
+    let mut places = all_places(alloc, all.nodes.as_slice(), all.roots.as_slice())?;
     let size = all.nodes.len();
+    let mut starts = all.roots;
+    shorten(alloc, &mut places, &mut starts)?;
     Ok(Places {
         places,
-        starts: all.roots,
+        starts,
         first_end: size + size,
     })
 }

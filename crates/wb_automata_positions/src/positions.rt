@@ -3,7 +3,7 @@
 //! A node of which all links come by another is left out, so each pair of leaves is listed once: `repeated` says which.
 
 ghost use Rattle.std.specs.Prelude.{◌≡◌, ℕ, ◌<◌, ◌≤◌, ◌++◌, ◌∷◌, [], List, length, IfOk, All, Contains, ◌↔◌, ◌⊎◌};
-ghost use Rattle.wb_automata_positions.specs.Parts.{PartsBelow};
+ghost use Rattle.wb_automata_positions.specs.Inner.Parts.{PartsBelow};
 ghost use Rattle.wb_automata_positions.specs.Rows.{row, AreBelow};
 ghost use Rattle.wb_automata_positions.specs.Inner.Ends.{IsPostOrder, rows_of};
 ghost use Rattle.wb_automata_positions.specs.Inner.Follows.{LinkAt, AreFollows};

@@ -1,7 +1,7 @@
 //! Nodes in post-order, and which of them match the empty text.
 
 ghost use Rattle.std.specs.Prelude.{◌≡◌, ◌++◌, ◌∷◌, [], IfOk, length};
-ghost use Rattle.wb_automata_positions.specs.Parts.{AreParts, PartsBelow};
+ghost use Rattle.wb_automata_positions.specs.Inner.Parts.{AreParts, PartsBelow};
 ghost use Rattle.wb_automata_positions.specs.Inner.Nodes.{nullable_at, AreNullable};
 
 use std::alloc::{AllocError, Global};

@@ -4,7 +4,7 @@
 
 ghost use Rattle.std.specs.Prelude.{◌≡◌, ℕ, ◌<◌, ◌≤◌, ◌⊎◌, ◌&&◌, false, true, length, replicate, IfOk};
 ghost use Rattle.wb_automata_positions.specs.Inner.Ends.{IsPostOrder, rows_of};
-ghost use Rattle.wb_automata_positions.specs.Parts.{PartsBelow};
+ghost use Rattle.wb_automata_positions.specs.Inner.Parts.{PartsBelow};
 ghost use Rattle.wb_automata_positions.specs.Inner.Nodes.{flag};
 ghost use Rattle.wb_automata_positions.specs.Inner.Repeated.{AreRepeated, RepeatsPart};
 

@@ -2,7 +2,7 @@
 
 ghost use Rattle.std.specs.Prelude.{◌≡◌, ◌+◌, ◌<◌, ◌↔◌, ◌⊎◌, ℕ, List, [], All, Contains, IfOk, length, replicate};
 ghost use Rattle.wb_automata_positions.specs.Rows.{row};
-ghost use Rattle.wb_automata_positions.specs.Parts.{AreParts};
+ghost use Rattle.wb_automata_positions.specs.Inner.Parts.{AreParts};
 ghost use Rattle.wb_automata_positions.specs.Inner.Nodes.{AreNullable};
 ghost use Rattle.wb_automata_positions.specs.Inner.Ends.{IsPostOrder, rows_of};
 ghost use Rattle.wb_automata_positions.specs.Inner.Follows.{LinkIn};

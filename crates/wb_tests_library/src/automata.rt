@@ -405,7 +405,15 @@ fn letters_far_from_the_end_overlap(rt: HostRuntime) {
     assert!(rt; holds(all_overlap(rt.alloc(), &FAR_FROM_THE_END)));
 }
 
-static LEAST: [(&str, &str); 2] = [("[ \\n]+", "\n"), ("aa|b", "b")];
+static LEAST: [(&str, &str); 3] = [
+    ("[ \\n]+", "\n"),
+    ("aa|b", "b"),
+    // so long that few positions are ahead of each
+    (
+        "(the|a|an) (quick|quickly moving) brown (dog|fox) jumps? (over|under) the (lazy|crazy) (dog|fox|hedgehog)s?, (and|or) (then|thus) it goes",
+        "a quick brown dog jump over the lazy dog, or then it goes",
+    ),
+];
 
 fn is_least(alloc: Global, text: &str, wanted: &str) -> Result<bool, RegexRefusal> {
     let regex = read_regex(alloc, text.as_bytes())?;

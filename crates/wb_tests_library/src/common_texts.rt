@@ -56,7 +56,7 @@ struct Row {
     shown: &'static [(usize, usize)],
 }
 
-static SHARED: [Row; 9] = [
+static SHARED: [Row; 11] = [
     Row {
         lines: "if\nelse\nwhile\n[a-z]+",
         pairs: &[(0, 1), (0, 2), (1, 2)],
@@ -110,6 +110,18 @@ static SHARED: [Row; 9] = [
         pairs: &[(0, 1), (1, 2)],
         text: "xyz",
         shown: &[(0, 1)],
+    },
+    Row {
+        lines: "(((a|b)*)*)*c\n((((ba)+)*)?)*bc",
+        pairs: &[(0, 1)],
+        text: "bc",
+        shown: &[(0, 1)],
+    },
+    Row {
+        lines: "((a?b)*)*c\n(((b*)*a)*)*aac",
+        pairs: &[(0, 1)],
+        text: "",
+        shown: &[],
     },
 ];
 

@@ -14,6 +14,7 @@ use Rattle.wb_automata.specs.Automata.{Path, IsEarlier}
 use Rattle.wb_automata.specs.Order.{IsAtMost}
 use Rattle.wb_automata.specs.Paths.{paths_of}
 use Rattle.wb_automata.specs.Inner.Found.{on}
+use Rattle.wb_automata.specs.Inner.Stuck.{are_stuck}
 
 -- what is at a place
 abbrev pub place_at : List Place → ℕ → Place
@@ -45,10 +46,35 @@ both_steps m left right Still steps = right_steps (left * m) steps
 both_steps m left right (One q) steps = One (q * m + right)
 both_steps m left right (Two q r) steps = Two (q * m + right) (r * m + right)
 
+-- both places of the pair wait, and not for the same
+abbrev pub is_stuck : List Place → ℕ → Bool
+is_stuck places c = are_stuck (place_at places (left_of places c)) (place_at places (right_of places c))
+
+-- the step to a number, unless it is stuck
+abbrev pub step_to : Bool → ℕ → Steps
+step_to true q = Still
+step_to false q = One q
+
+-- the steps to two numbers, but for those of them that are stuck
+abbrev pub steps_to : Bool → Bool → ℕ → ℕ → Steps
+steps_to true other q r = step_to other r
+steps_to false true q r = One q
+steps_to false false q r = Two q r
+
+-- the steps to pairs that aren't stuck
+abbrev pub unstuck : List Place → Steps → Steps
+unstuck places Still = Still
+unstuck places (One q) = step_to (is_stuck places q) q
+unstuck places (Two q r) = steps_to (is_stuck places q) (is_stuck places r) q r
+
+-- the pairs to which a pair goes on without reading, stuck or not
+abbrev pub bare_steps : List Place → ℕ → Steps
+bare_steps places c = both_steps (length places) (left_of places c) (right_of places c) (steps_of (place_at places (left_of places c)))
+    (steps_of (place_at places (right_of places c)))
+
 -- the pairs to which a pair goes on without reading
 abbrev pub pair_steps : List Place → ℕ → Steps
-pair_steps places c = both_steps (length places) (left_of places c) (right_of places c) (steps_of (place_at places (left_of places c)))
-    (steps_of (place_at places (right_of places c)))
+pair_steps places c = unstuck places (bare_steps places c)
 
 -- these steps lead to numbers below the count
 abbrev pub AreStepsBelow : ℕ → Steps → Type 0
@@ -68,13 +94,14 @@ pub record Any (numbers : List ℕ) (P : ℕ → ℕ → Type 0) (d : ℕ) : Typ
   pub has : Contains numbers one
   pub is : P one d
 
--- both places of the pair c read the byte, and d is the pair of where they go on
+-- both places of the pair c read the byte, and d is the pair of where they go on, which isn't stuck
 pub record IsAfter (places : List Place) (b c d : ℕ) : Type 0 where
   pub left : ℕ
   pub right : ℕ
   pub left_reads : ReadsTo (place_at places (left_of places c)) b left
   pub right_reads : ReadsTo (place_at places (right_of places c)) b right
   pub pair : d ≡ left * length places + right
+  pub goes_on : is_stuck places d ≡ false
 
 -- the two places are the ends of these expressions
 pub record AreEnds (places : List Place) (c i j : ℕ) : Type 0 where

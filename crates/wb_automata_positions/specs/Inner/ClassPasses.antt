@@ -20,3 +20,7 @@ pub record ClassPass (node : RegexNode) (old new firsts : List ℕ) (b : ℕ) : 
   pub holds : (c : ℕ) → c < b → node_holds node (slice_index firsts (slice_index new c)) ≡ node_holds node c
   pub small : (k : ℕ) → k < length firsts → slice_index firsts k < b
   pub rising : AreRising firsts
+
+-- the node holds each of the first b bytes exactly where it holds the first byte of its class
+abbrev pub KeepsClasses : RegexNode → List ℕ → List ℕ → ℕ → Type 0
+KeepsClasses node classes firsts b = (c : ℕ) → c < b → node_holds node c ≡ node_holds node (slice_index firsts (slice_index classes c))

@@ -8,7 +8,7 @@ use Rattle.wb_automata_positions.specs.declared.ends.Parts.{Parts}
 use Rattle.wb_automata_positions.specs.declared.ends.Parts.TheVariants.{Leaf, One, Two}
 use Rattle.wb_automata_positions.specs.Rows.{row}
 use Rattle.wb_automata_positions.specs.Inner.Nodes.{flag}
-use Rattle.wb_automata_positions.specs.Parts.{AreParts}
+use Rattle.wb_automata_positions.specs.Inner.Parts.{AreParts}
 
 -- the parts of nodes are before them, and for each node there is a flag
 pub record IsPostOrder (nodes : List RegexNode) (es : List Bool) : Type 0 where
