@@ -11,3 +11,5 @@ mod RunLemmas
 mod BoundLemmas
 pub mod OneLemmas
 mod TextLemmas
+mod LeastLemmas
+pub mod ExistLemmas
