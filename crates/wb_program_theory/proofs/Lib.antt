@@ -13,6 +13,9 @@ mod CompletenessLemmas
 mod TreeReports
 mod LineReports
 mod RunReports
+mod PrefixedExist
+mod ExpressionsExist
+mod GenerateReports
 mod ReportsExist
 mod WordLemmas
 mod ChainLemmas

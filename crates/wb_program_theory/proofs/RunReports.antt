@@ -26,6 +26,7 @@ use Rattle.wb_grammar_theory.specs.Trees.{Forest}
 use Rattle.wb_lemmas.proofs.NotNot.{bind, certain, decide, follows}
 use Rattle.wb_operations.specs.Operations.{Operations}
 use Rattle.wb_report.specs.Lines.{report_of}
+use Rattle.wb_report.specs.declared.done.Done.{Done}
 use Rattle.wb_report.specs.declared.done.Done.TheVariants as done
 use Rattle.wb_report.specs.declared.outcome.Outcome.TheVariants as o
 use Rattle.wb_scan_theory.proofs.ShownLemmas.{tree_fits}
@@ -84,7 +85,8 @@ module _ (b : AttributionParts) (operations : Operations) (top : Tree) (attribut
       bind (decide More) (λ steps_left. follows (either b operations top attribute steps evaluable asked) (λ one. by_steps steps_left one))
 
 module _ (operations : Operations) (r : ResolvedParts) (values : List ResolvedParts) (differ : Differ (names_of values))
-    (are : AreOperations operations) (text name : List ℕ) (steps : ℕ) (x : ComesToAnswer operations.signatures r values text) where
+    (are : AreOperations operations) (text name : List ℕ) (steps : ℕ) (line : List ℕ → Done)
+    (x : ComesToAnswer operations.signatures r values text) where
   abbrev its : AttributionParts
   its = attributes_in r operations.signatures values x.whole
 
@@ -123,7 +125,7 @@ module _ (operations : Operations) (r : ResolvedParts) (values : List ResolvedPa
       }
 
   abbrev Rest : Type 0
-  Rest = IsReported (TextValueReport operations r values name steps (λ printed. done.Value name printed) text) IsRunStatus
+  Rest = IsReported (TextValueReport operations r values name steps line text) IsRunStatus
 
   -- what comes of the tree is reported
   value_reported : (attribute : ℕ) → IsAskedIn r operations.signatures values x.whole name attribute → (forest : Forest)
@@ -131,7 +133,7 @@ module _ (operations : Operations) (r : ResolvedParts) (values : List ResolvedPa
       → IsTreeValue its operations top attribute steps value → Rest
   value_reported attribute asked forest parses top shows (t.Value printed) is = record {
     status = s.Done;
-    bytes = report_of (o.Done (done.Value name printed));
+    bytes = report_of (o.Done (line printed));
     such = tt;
     is = record {
       value = v.Tree (t.Value printed);
@@ -191,7 +193,7 @@ module _ (operations : Operations) (r : ResolvedParts) (values : List ResolvedPa
   }
 
   -- and so is what comes of the text
-  text_reported : (attribute : ℕ) → IsAskedIn r operations.signatures values x.whole name attribute → HasAnswer x.language text → ¬ ¬ Rest
+  pub text_reported : (attribute : ℕ) → IsAskedIn r operations.signatures values x.whole name attribute → HasAnswer x.language text → ¬ ¬ Rest
   text_reported attribute asked (a_tree forest parses) =
       let (top, shows) = one_shown forest x.language.grammar.start parses.is_tree.root in
       follows (value_comes its operations top attribute steps evaluable (is_asked attribute asked forest parses top shows))
@@ -235,7 +237,7 @@ module _ (operations : Operations) (files : Files) (file name : List ℕ) (steps
     );
   })
   asked_reported attribute asked (inr short) =
-      follows (text_reported operations r values differ are text name steps x attribute asked x.answer) (λ rest. record {
+      follows (text_reported operations r values differ are text name steps (λ printed. done.Value name printed) x attribute asked x.answer) (λ rest. record {
         status = rest.status;
         bytes = rest.bytes;
         such = rest.such;

@@ -8,6 +8,8 @@ pub mod RunLaws
 pub mod Certified
 -- that a text has an answer
 pub mod Existence
+-- that what is written matches some text
+pub mod Matching
 -- that words which ask for a command of certified files have a report
 pub mod Reported
 -- what a run writes that has a report, and `run` where the attribute has a value

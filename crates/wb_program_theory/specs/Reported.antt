@@ -16,6 +16,7 @@ use Rattle.wb_program_inputs.specs.declared.status.Status.TheVariants.{Done}
 use Rattle.wb_program.specs.Report.{IsReport}
 use Rattle.wb_program_theory.specs.Certified.{AreCertified}
 use Rattle.wb_program_theory.specs.Laws.{IsAnswerStatus}
+use Rattle.wb_program_theory.specs.Matching.{AllMatch}
 use Rattle.wb_program_theory.specs.RunLaws.{IsRunStatus}
 
 -- something is reported, with such a status
@@ -71,23 +72,35 @@ HaveRunReport = (operations : Operations) (words : List (List ℕ)) (files : Fil
     → Asks words (a.run text name steps host extensions) → AreCertified operations.signatures files host extensions r values
     → IsThere files text → ¬ ¬ HaveReport operations words files IsRunStatus
 
--- what is asked of these files: `check`, `certify`, `compose`, or `tree` or `run` where the text's file is there
-pub data IsAskedOf (files : Files) (host : List ℕ) (extensions : List (List ℕ)) : Asked → Type 0 where
-  of_check : IsAskedOf files host extensions (a.check host)
-  of_certify : IsAskedOf files host extensions (a.certify host extensions)
-  of_compose : IsAskedOf files host extensions (a.compose host extensions)
-  of_tree : {text : List ℕ} → IsThere files text → IsAskedOf files host extensions (a.tree text host extensions)
-  of_run : {text name : List ℕ} {steps : ℕ} → IsThere files text
-      → IsAskedOf files host extensions (a.run text name steps host extensions)
-
 -- any status
 abbrev pub IsAny : Status → Type 0
 IsAny status = Unit {0}
+
+-- where the words ask for `generate`, operations take and give plain values of their kinds, files are certified, and each of their terminals
+-- matches some text, they have a report of what the number makes and what comes of that: that they have none can't be
+abbrev pub HaveGenerateReport : Type 0
+HaveGenerateReport = (operations : Operations) (words : List (List ℕ)) (files : Files) (number size : ℕ) (name host : List ℕ)
+    (extensions : List (List ℕ)) (r : ResolvedParts) (values : List ResolvedParts) → AreOperations operations → AllMatch r values
+    → Asks words (a.generate number size name host extensions) → AreCertified operations.signatures files host extensions r values
+    → ¬ ¬ HaveReport operations words files IsAny
+
+-- what is asked of these files: `check`, `certify`, `compose`, or `tree` or `run` where the text's file is there, or `generate` where each
+-- of their terminals matches some text
+pub data IsAskedOf (files : Files) (host : List ℕ) (extensions : List (List ℕ)) (r : ResolvedParts) (values : List ResolvedParts)
+    : Asked → Type 0 where
+  of_check : IsAskedOf files host extensions r values (a.check host)
+  of_certify : IsAskedOf files host extensions r values (a.certify host extensions)
+  of_compose : IsAskedOf files host extensions r values (a.compose host extensions)
+  of_tree : {text : List ℕ} → IsThere files text → IsAskedOf files host extensions r values (a.tree text host extensions)
+  of_run : {text name : List ℕ} {steps : ℕ} → IsThere files text
+      → IsAskedOf files host extensions r values (a.run text name steps host extensions)
+  of_generate : {number size : ℕ} {name : List ℕ} → AllMatch r values
+      → IsAskedOf files host extensions r values (a.generate number size name host extensions)
 
 -- where operations take and give plain values of their kinds, files are certified, and the words ask for one of these commands of them,
 -- they have a report: that they have none can't be
 abbrev pub HaveReports : Type 0
 HaveReports = (operations : Operations) (words : List (List ℕ)) (files : Files) (host : List ℕ) (extensions : List (List ℕ))
     (r : ResolvedParts) (values : List ResolvedParts) (asked : Asked) → AreOperations operations
-    → AreCertified operations.signatures files host extensions r values → IsAskedOf files host extensions asked → Asks words asked
+    → AreCertified operations.signatures files host extensions r values → IsAskedOf files host extensions r values asked → Asks words asked
     → ¬ ¬ HaveReport operations words files IsAny

@@ -6,7 +6,7 @@ ghost use Rattle.wb_program_theory.specs.Certified.{AreCertified, HaveNoRefusal,
 ghost use Rattle.wb_program_theory.specs.Completeness.{HaveEnoughSteps, RunComesToValue, WriteAsReported};
 ghost use Rattle.wb_program_theory.specs.Existence.{ComesToAnswer};
 ghost use Rattle.wb_program_theory.specs.Reported.{HaveCertifyReport, HaveCheckReport, HaveComposeReport, HaveReports};
-ghost use Rattle.wb_program_theory.specs.Reported.{HaveRunReport, HaveTreeReport};
+ghost use Rattle.wb_program_theory.specs.Reported.{HaveGenerateReport, HaveRunReport, HaveTreeReport};
 ghost use Rattle.wb_syntax_resolved.specs.declared.resolved.ResolvedParts.{ResolvedParts};
 ghost use Rattle.wb_world.specs.Shelf.{Files};
 
@@ -84,8 +84,18 @@ pub fn run_report_law()
     header_law();
 }
 
-/// So words that ask for `check`, `certify`, `compose`, `tree` or `run` of certified files have a report, where a text's file is there:
-/// that they have none can't be.
+/// Where words ask for `generate` of such files, each of whose terminals matches some text, and operations take and give plain values of
+/// their kinds, they have a report: that the attribute may not be asked, that each text has more leaves, that the text is too long, or what
+/// comes of the text and the attribute. That they have none can't be.
+pub fn generate_report_law()
+    ensures { HaveGenerateReport }
+{
+    one_extension_answer_law();
+    header_law();
+}
+
+/// So words that ask for `check`, `certify`, `compose`, `tree`, `run` or `generate` of certified files have a report, where a text's file is
+/// there, or each terminal matches some text: that they have none can't be.
 pub fn report_law()
     ensures { HaveReports }
 {
