@@ -48,7 +48,7 @@ module _ {t u : NumberMap} (undone : AreNumbersUndoneBy t u) (p : ℕ) where
 
 module _ (t : NumberMap) (p : ℕ) where
   -- the vertex of a target
-  target_renamed : (to : Target) → target_vertex (new_target t p to) ≡ new_vertex t p (target_vertex to)
+  pub target_renamed : (to : Target) → target_vertex (new_target t p to) ≡ new_vertex t p (target_vertex to)
   target_renamed (target.Top y) = refl
   target_renamed (target.Place (place.Child k) y) = refl
   target_renamed (target.Place (place.Local k) y) = refl
@@ -113,7 +113,7 @@ module _ (t : NumberMap) (p : ℕ) where
   one_renamed (Some (e ∷ [])) = refl
   one_renamed (Some (e ∷ f ∷ read)) = refl
 
-  whole_renamed : (nodes : List Node) → expression_of (map (new_node t p) nodes) ≡ option_map (new_expression t p) (expression_of nodes)
+  pub whole_renamed : (nodes : List Node) → expression_of (map (new_node t p) nodes) ≡ option_map (new_expression t p) (expression_of nodes)
   unfolding expression_of
   whole_renamed nodes = ap only_one (more_renamed nodes (Some [])) ∙ one_renamed (read_more nodes (Some []))
 

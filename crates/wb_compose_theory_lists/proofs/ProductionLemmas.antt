@@ -162,7 +162,7 @@ module _ (host : Rows) (all : List Addition) (own : (l : ℕ) (y : Addition) →
         ap (λ z. local_number host all k x z y) (without_with host x m less)
         ∙ ap (λ z. place_after (length (locals_in z)) (block_of host all (λ (w : Addition). length (w.locals m)) k x) y) at
 
-    locals_seen : (y : ℕ) → slice_get host_row_there.locals (moved.local_in q y)
+    pub locals_seen : (y : ℕ) → slice_get host_row_there.locals (moved.local_in q y)
         ≡ option_map (new_local moved q o) (slice_get host_row.locals y)
     locals_seen y =
         ap (slice_get host_row_there.locals) (local_place y)

@@ -45,11 +45,11 @@ module _ (host : Rows) (all : List Addition) (own : (l : ℕ) (y : Addition) →
   mine = length x.rows.productions
 
   -- the productions where the owner is alone with the host, and there
-  abbrev row_of : Source → Production
+  abbrev pub row_of : Source → Production
   row_of (from_host m r) = host_production host (x ∷ []) m r
   row_of (from_own p r) = own_production host (x ∷ []) 0 x p r
 
-  abbrev there_of : Source → Production
+  abbrev pub there_of : Source → Production
   there_of (from_host m r) = host_production host all m r
   there_of (from_own p r) = own_production host all k x p r
 
@@ -65,7 +65,7 @@ module _ (host : Rows) (all : List Addition) (own : (l : ℕ) (y : Addition) →
   abbrev fourth : List Source
   fourth = numbered from_own (before_abstract host x) x.rows.abstract_productions
 
-  abbrev sources : List Source
+  abbrev pub sources : List Source
   sources = first ++ second ++ third ++ fourth
 
   rows_are : map row_of sources ≡ united_productions host (x ∷ [])
@@ -111,10 +111,10 @@ module _ (host : Rows) (all : List Addition) (own : (l : ℕ) (y : Addition) →
       (numbered_map from_own there_of (before_abstract host x) x.rows.abstract_productions))))))
 
   -- the production at a number, and that at the new number
-  row_at : (i : ℕ) → slice_get (united_productions host (x ∷ [])) i ≡ option_map row_of (slice_get sources i)
+  pub row_at : (i : ℕ) → slice_get (united_productions host (x ∷ [])) i ≡ option_map row_of (slice_get sources i)
   row_at i = ap (λ z. slice_get z i) (sym rows_are) ∙ slice_get-map row_of sources i
 
-  there_at : (i : ℕ) → slice_get (united_productions host all) (moved.production i) ≡ option_map there_of (slice_get sources i)
+  pub there_at : (i : ℕ) → slice_get (united_productions host all) (moved.production i) ≡ option_map there_of (slice_get sources i)
   there_at i =
       grouped_placed host all lead_rows follow_rows (λ (r : Production). r.owner) (λ (y : Addition). length y.rows.productions)
       (λ (y : Addition). length y.rows.abstract_productions) (lead_are host all own)
@@ -124,7 +124,7 @@ module _ (host : Rows) (all : List Addition) (own : (l : ℕ) (y : Addition) →
       ∙ (ap (λ z. slice_get z i) (sym there_are) ∙ slice_get-map there_of sources i)
 
   -- what a source has to do with its place
-  abbrev IsAt : ℕ → Source → Type 0
+  abbrev pub IsAt : ℕ → Source → Type 0
   IsAt i (from_host m r) = (i ≡ number_with host x m) × (slice_get (host.productions ++ host.abstract_productions) m ≡ Some r)
       × (m < lead + follow)
   IsAt i (from_own p r) = (i ≡ p) × (number_without host x p ≡ None) × (o ≡ suc k)
@@ -200,7 +200,7 @@ module _ (host : Rows) (all : List Addition) (own : (l : ℕ) (y : Addition) →
       let two = numbered_length from_host lead host.abstract_productions in
       omega (arith, sum, one, two)
 
-  source_at : (i : ℕ) (s : Source) → slice_get sources i ≡ Some s → IsAt i s
+  pub source_at : (i : ℕ) (s : Source) → slice_get sources i ≡ Some s → IsAt i s
   source_at i s at = elim (at_append (first ++ second ++ third) fourth s i at) [
     | inl here ↦ elim (at_append (first ++ second) third s i here) [
       | inl near ↦ elim (at_append first second s i near) [
