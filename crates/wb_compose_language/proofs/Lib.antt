@@ -9,6 +9,7 @@ pub mod SharingLemmas
 pub mod OpenedLemmas
 mod TableLemmas
 mod RowLemmas
+mod OwnLemmas
 mod PreferenceLemmas
 mod SetLemmas
 mod UnionLemmas

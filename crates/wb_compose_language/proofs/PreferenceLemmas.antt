@@ -1,10 +1,11 @@
 -- Preferences of the union, as they are gathered extension by extension.
-use Rattle.std.proofs.Common.{◌≡◌, ◌∙◌, ◌≤◌, ◌+◌, ◌++◌, ◌∷◌, [], ℕ, suc, List, Some, Contains, length, map, slice_get}
+use Rattle.std.proofs.Common.{◌≡◌, ◌∙◌, ◌≤◌, ◌⊎◌, ◌+◌, ◌++◌, ◌∷◌, [], ℕ, suc, List, Some, Contains, length, map, slice_get}
 use Rattle.std.proofs.Common.{refl, sym, ap, subst, inl, inr, arith}
 use Rattle.std.proofs.lemmas.Bool.{cases_lt}
 use Rattle.std.proofs.lemmas.List.{length-map}
 use Rattle.std.proofs.lemmas.Option.{slice_get_within}
-use Rattle.wb_lemmas.proofs.Members.{append_contains_left, append_contains_right, contains_append, contains_at, place_of}
+use Rattle.wb_lemmas.proofs.Elements.{all_at}
+use Rattle.wb_lemmas.proofs.Members.{contains_at, place_of}
 use Rattle.wb_lemmas.proofs.Places.{at_once}
 use Rattle.wb_syntax_resolved.specs.declared.terminal.Preference.{Preference}
 use Rattle.wb_compose_theory_grammar.proofs.FactLemmas.{at_map, map_at, size_at}
@@ -12,14 +13,15 @@ use Rattle.wb_compose_theory_grammar.proofs.PlaceLemmas.{within_total}
 use Rattle.wb_compose_theory_grammar.specs.Places.{count_before}
 use Rattle.wb_compose_theory_grammar.specs.Unions.{added_terminals}
 use Rattle.wb_compose_theory_language.specs.Rows.{by_extension, by_host, host_row, piece_row}
-use Rattle.wb_compose_theory_language.specs.Written.{WrittenPiece, pieces_of}
-use Rattle.wb_compose_theory_language.proofs.RowLemmas.{more, piece_there}
+use Rattle.wb_compose_theory_language.specs.Apart.{IsPieceApart}
+use Rattle.wb_compose_theory_language.specs.Written.{IsHostPreference, IsOwnRow, WrittenPiece, pieces_of, row_up}
+use Rattle.wb_compose_theory_language.proofs.RowLemmas.{more, piece_there, up_row}
 use Rattle.wb_compose_language.specs.declared.addition.Addition.{Addition}
 use Rattle.wb_compose_language.specs.declared.addition.Lent.{Lent}
 use Rattle.wb_compose_language.specs.Lents.{IsUnitable, all_in, own_in, written_in}
 use Rattle.wb_compose_language.specs.declared.row.Block.{Block}
-use Rattle.wb_compose_language.specs.Inner.Rows.{AreGathered, ArePreferences, IsPreferred, IsPreferredBefore, pair_in, row_in, sizes_of}
-use Rattle.wb_compose_language.specs.Inner.Rows.{total}
+use Rattle.wb_compose_language.specs.Inner.Rows.{AreGathered, AreOwnAdded, ArePreferences, IsInBlock, IsOwnPair, IsPreferred, IsPreferredBefore}
+use Rattle.wb_compose_language.specs.Inner.Rows.{pair_in, row_in, sizes_of, total}
 use Rattle.wb_compose_language.specs.Inner.Rows as before
 use Rattle.wb_compose_language.proofs.RowLemmas.{count_next, row_is}
 
@@ -145,11 +147,21 @@ module _ (lent : Lent) where
     pub block_fits : count_before (sizes_of lent) k + added_terminals lent.grammar.now x.grammar.now ≤ total lent
     block_fits = within_total (sizes_of lent) k (added_terminals lent.grammar.now x.grammar.now) size_there
 
+    -- a preference that names no terminal of the extension is the host's
+    of_host : (t u : ℕ) → Contains (map pair_of x.preferences.now) (t, u) →
+        IsHostPreference lent.grammar.now (own_in lent) (written_in x) t u
+        ⊎ (IsOwnRow lent.grammar.now (own_in lent) (written_in x) t ⊎ IsOwnRow lent.grammar.now (own_in lent) (written_in x) u)
+    of_host t u has = (all_at (IsPieceApart lent.grammar.now lent.extensible.now (own_in lent)) (all_in lent) k (written_in x)
+        ok.apart.of_extensions listed).beside.preferences t u has
+
+    row_of_host : (t : ℕ) → piece_row_in k (written_in x) (row_up lent.grammar.now (own_in lent) (written_in x) t) ≡ host_row_in t
+    row_of_host = up_row lent.grammar.now lent.extensible.now (own_in lent) (all_in lent) ok.certified.are_pieces k (written_in x) listed
+
     -- one extension more
     pub gathered_more : (own size all count : ℕ) (old new : List (ℕ × ℕ)) → own ≡ lent.grammar.now.terminals →
         size ≡ added_terminals lent.grammar.now x.grammar.now → all ≡ total lent → AreGathered lent k count old →
-        new ≡ old ++ map (pair_in (block_of own count size all)) x.preferences.now → AreGathered lent (k + 1) (count + size) new
-    gathered_more own size all count old new own_is size_is all_is was is = record {
+        AreOwnAdded (block_of own count size all) x.preferences.now old new → AreGathered lent (k + 1) (count + size) new
+    gathered_more own size all count old new own_is size_is all_is was are = record {
       before_is =
           (let next = count_next (sizes_of lent) k (added_terminals lent.grammar.now x.grammar.now) size_there in
           let here = was.before_is in
@@ -166,8 +178,8 @@ module _ (lent : Lent) where
         same = row_is block lent.grammar.now.terminals (count_before (sizes_of lent) k) (added_terminals lent.grammar.now x.grammar.now)
             (total lent) own_is was.before_is size_is all_is
 
-        added : List (ℕ × ℕ)
-        added = map (pair_in block) x.preferences.now
+        in_block : (t : ℕ) → IsOwnRow lent.grammar.now (own_in lent) (written_in x) t → IsInBlock block t
+        in_block t (low, high) = let le = no_fewer in (omega (arith, low, own_is), omega (arith, high, size_is, own_is, le))
 
         up : (one other : ℕ) → IsPreferredBefore lent k one other → IsPreferredBefore lent (k + 1) one other
         up one other (before.by_host t u one_is other_is has) = before.by_host t u one_is other_is has
@@ -175,16 +187,40 @@ module _ (lent : Lent) where
             before.by_extension l y t u (omega (arith, less)) there one_is other_is has
 
         there : (one other : ℕ) → Contains new (one, other) → IsPreferredBefore lent (k + 1) one other
-        there one other has = elim (contains_append old added (one, other) (subst (λ zs. Contains zs (one, other)) is has)) [
+        there one other has = elim (are.only (one, other) has) [
           | inl early ↦ up one other ((was.each one other).0 early)
-          | inr late ↦
-              let p = pair_there block x.preferences.now one other late in
-              before.by_extension k (written_in x) p.t p.u (omega arith) listed (p.one_is ∙ same p.t) (p.other_is ∙ same p.u) p.listed
+          | inr (p, preferred, is) ↦
+              before.by_extension k (written_in x) p.first p.second (omega arith) listed
+              (ap (λ (z : ℕ × ℕ). z.0) is ∙ same p.first) (ap (λ (z : ℕ × ℕ). z.1) is ∙ same p.second)
+              (map_contains pair_of x.preferences.now p preferred)
         ]
 
         early : (one other : ℕ) → IsPreferredBefore lent k one other → Contains new (one, other)
-        early one other p = subst (λ zs. Contains zs (one, other)) (sym is)
-            (append_contains_left old added (one, other) ((was.each one other).1 p))
+        early one other p = are.kept (one, other) ((was.each one other).1 p)
+
+        own_pair : (p : Preference) → Contains x.preferences.now p → IsOwnPair block p → (one other : ℕ) →
+            one ≡ piece_row_in k (written_in x) p.first → other ≡ piece_row_in k (written_in x) p.second → Contains new (one, other)
+        own_pair p preferred own one other one_is other_is =
+            let first : row_in block p.first ≡ one = same p.first ∙ sym one_is in
+            let second : row_in block p.second ≡ other = same p.second ∙ sym other_is in
+            subst (Contains new) (λ j. (first j, second j)) (are.added p preferred own)
+
+        -- a preference of the extension: one that the host has is there already
+        mine : (one other t u : ℕ) → one ≡ piece_row_in k (written_in x) t → other ≡ piece_row_in k (written_in x) u →
+            Contains (map pair_of x.preferences.now) (t, u) → Contains new (one, other)
+        mine one other t u one_is other_is has =
+            let (p, preferred, is) = mapped pair_of x.preferences.now (t, u) has in
+            let first : t ≡ p.first = ap (λ (z : ℕ × ℕ). z.0) is in
+            let second : u ≡ p.second = ap (λ (z : ℕ × ℕ). z.1) is in
+            let one_there = one_is ∙ ap (piece_row_in k (written_in x)) first in
+            let other_there = other_is ∙ ap (piece_row_in k (written_in x)) second in
+            elim (of_host t u has) [
+              | inl h ↦ early one other (before.by_host h.first h.second
+                  (one_is ∙ (ap (piece_row_in k (written_in x)) h.first_is ∙ row_of_host h.first))
+                  (other_is ∙ (ap (piece_row_in k (written_in x)) h.second_is ∙ row_of_host h.second)) h.listed)
+              | inr (inl o) ↦ own_pair p preferred (inl (subst (IsInBlock block) first (in_block t o))) one other one_there other_there
+              | inr (inr o) ↦ own_pair p preferred (inr (subst (IsInBlock block) second (in_block u o))) one other one_there other_there
+            ]
 
         back : (one other : ℕ) → IsPreferredBefore lent (k + 1) one other → Contains new (one, other)
         back one other (before.by_host t u one_is other_is has) = early one other (before.by_host t u one_is other_is has)
@@ -197,8 +233,6 @@ module _ (lent : Lent) where
             last e =
                 let here = subst (λ z. slice_get (all_in lent) z ≡ Some y) e there in
                 let y_is : y ≡ written_in x = at_once (all_in lent) k y (written_in x) here listed in
-                let one_there = one_is ∙ (ap (λ z. piece_row_in z y t) e ∙ (ap (λ z. piece_row_in k z t) y_is ∙ sym (same t))) in
-                let other_there = other_is ∙ (ap (λ z. piece_row_in z y u) e ∙ (ap (λ z. piece_row_in k z u) y_is ∙ sym (same u))) in
-                subst (λ zs. Contains zs (one, other)) (sym is) (append_contains_right old added (one, other)
-                (pair_back block x.preferences.now one other t u one_there other_there
-                (subst (λ (z : WrittenPiece). Contains z.lexicon.preferences (t, u)) y_is has)))
+                mine one other t u (one_is ∙ (ap (λ z. piece_row_in z y t) e ∙ ap (λ z. piece_row_in k z t) y_is))
+                (other_is ∙ (ap (λ z. piece_row_in z y u) e ∙ ap (λ z. piece_row_in k z u) y_is))
+                (subst (λ (z : WrittenPiece). Contains z.lexicon.preferences (t, u)) y_is has)

@@ -1,8 +1,8 @@
-//! Lists the preferences of the union: those of the host, and those of each extension with it, by the numbers of the union.
+//! Lists the preferences of the union: those of the host, and those that each extension adds, by the numbers of the union.
 
-ghost use Rattle.std.specs.Prelude.{◌≡◌, ◌≤◌, ◌++◌, IfOk, OnOk, map};
+ghost use Rattle.std.specs.Prelude.{◌≡◌, ◌≤◌, ◌↔◌, ◌++◌, IfOk, IsTrue, OnOk, map};
 ghost use Rattle.wb_compose_language.specs.Lents.{IsUnitable};
-ghost use Rattle.wb_compose_language.specs.Inner.Rows.{ArePreferences, pair_in, total};
+ghost use Rattle.wb_compose_language.specs.Inner.Rows.{AreOwnAdded, ArePreferences, IsAddedIfOwn, IsInBlock, pair_in, total};
 
 use crate::Lent;
 use crate::row::{Block, row};
@@ -39,13 +39,13 @@ pub(crate) fn united_preferences(
             size,
             total: all,
         };
-        add_pairs(&mut pairs, block, extension.preferences)?;
+        add_own_pairs(&mut pairs, block, extension.preferences)?;
         before += size;
     }
     Ok(pairs)
 }
 
-// Adds preferences by the numbers of the union.
+// Adds the host's preferences by the numbers of the union.
 fn add_pairs(
     pairs: &mut Vec<(usize, usize)>,
     block: Block,
@@ -60,4 +60,42 @@ fn add_pairs(
         push(pairs, (first, second))?;
     }
     Ok(())
+}
+
+// Adds the preferences that name a terminal of the extension. All others are the host's, and listed before.
+fn add_own_pairs(
+    pairs: &mut Vec<(usize, usize)>,
+    block: Block,
+    preferences: &[Preference],
+) -> Result<(), AllocError>
+    requires { block.size ≤ block.total }
+    ensures { OnOk result (AreOwnAdded block preferences.now pairs.old.items pairs.new.items) }
+{
+    'preferences: for preference in preferences {
+        add_own_pair(pairs, block, *preference)?;
+    }
+    Ok(())
+}
+
+fn add_own_pair(
+    pairs: &mut Vec<(usize, usize)>,
+    block: Block,
+    preference: Preference,
+) -> Result<(), AllocError>
+    requires { block.size ≤ block.total }
+    ensures { OnOk result (IsAddedIfOwn block preference pairs.old.items pairs.new.items) }
+{
+    if !is_in_block(block, preference.first) && !is_in_block(block, preference.second) {
+        return Ok(());
+    }
+    let first = row(block, preference.first)?;
+    let second = row(block, preference.second)?;
+    push(pairs, (first, second))
+}
+
+// Whether the terminal is one of the block.
+fn is_in_block(block: Block, number: usize) -> bool
+    ensures { IsTrue result ↔ IsInBlock block number }
+{
+    number >= block.own && number - block.own < block.size
 }

@@ -21,7 +21,7 @@ use Rattle.wb_compose_theory_lists.proofs.ProductionLemmas.{own_seen, host_seen}
 use Rattle.wb_compose_theory_lists.proofs.MadeLemmas.{lead_are, follow_are}
 
 -- a production of the host, or an extension's own, with its number there
-data Source : Type 0 where
+pub data Source : Type 0 where
   from_host : ℕ → Production → Source
   from_own : ℕ → Production → Source
 

@@ -1,5 +1,5 @@
 -- Numbers in the union, and preferences as they are gathered.
-use Rattle.std.specs.Prelude.{◌≡◌, ◌<◌, ◌↔◌, ℕ, List, Some, Contains, slice_get}
+use Rattle.std.specs.Prelude.{◌≡◌, ◌<◌, ◌≤◌, ◌+◌, ◌⊎◌, ◌↔◌, ◌++◌, ◌∷◌, [], ℕ, List, Some, Contains, slice_get}
 use Rattle.wb_base.specs.Grammar.{GrammarView}
 use Rattle.wb_syntax_resolved.specs.declared.terminal.Preference.{Preference}
 use Rattle.wb_compose_theory.specs.Blocks.{spread}
@@ -18,6 +18,24 @@ row_in block t = spread block.own block.before block.size block.total t
 -- a preference by the numbers of the union
 abbrev pub pair_in : Block → Preference → ℕ × ℕ
 pair_in block p = (row_in block p.first, row_in block p.second)
+
+-- the terminal is one of the block
+abbrev pub IsInBlock : Block → ℕ → Type 0
+IsInBlock block t = (block.own ≤ t) × (t < block.own + block.size)
+
+-- the preference names a terminal of the block
+abbrev pub IsOwnPair : Block → Preference → Type 0
+IsOwnPair block p = IsInBlock block p.first ⊎ IsInBlock block p.second
+
+-- the preference is listed after the others, or it names no terminal of the block
+abbrev pub IsAddedIfOwn : Block → Preference → List (ℕ × ℕ) → List (ℕ × ℕ) → Type 0
+IsAddedIfOwn block p old new = (new ≡ old ++ pair_in block p ∷ []) ⊎ ((¬ IsOwnPair block p) × (new ≡ old))
+
+-- each preference that names a terminal of the block is listed besides, and nothing that is no preference
+pub record AreOwnAdded (block : Block) (ps : List Preference) (old new : List (ℕ × ℕ)) : Type 0 where
+  pub kept : (q : ℕ × ℕ) → Contains old q → Contains new q
+  pub added : (p : Preference) → Contains ps p → IsOwnPair block p → Contains new (pair_in block p)
+  pub only : (q : ℕ × ℕ) → Contains new q → Contains old q ⊎ ((p : Preference) × Contains ps p × (q ≡ pair_in block p))
 
 module _ (lent : Lent) where
   -- the union's grammar

@@ -18,8 +18,8 @@ overflow_sub-size c =
     let more = no_fewer c.args.lent.now c.requires.unitable c.extensions.number x at in
     omega (arith, own, here, more)
 
-pub add_pairs-requires-in-extensions : goal.add_pairs-requires-in-extensions
-add_pairs-requires-in-extensions c =
+pub add_own_pairs-requires : goal.add_own_pairs-requires
+add_own_pairs-requires c =
     let xs = c.args.lent.now.extensions.now in
     let x = get_or xs c.extensions.number c.index-lent-number.result in
     let at = slice_get-get_or xs c.extensions.number c.index-lent-number.result (omega arith) in
@@ -51,8 +51,8 @@ extensions-preserved c =
     let here = c.terminals.ensures in
     gathered_more c.args.lent.now c.requires.unitable c.extensions.number x at c.terminals-own.result
     (c.terminals.result - c.terminals-own.result) c.args.all c.extensions.before c.extensions.pairs.items
-    c.add_pairs-in-extensions.new.pairs.items own (omega (arith, own, here)) c.requires.all c.extensions.invariant
-    c.in_ok-add_pairs-2.ensures
+    c.add_own_pairs.new.pairs.items own (omega (arith, own, here)) c.requires.all c.extensions.invariant
+    c.in_ok-add_own_pairs.ensures
 
 pub returns : goal.returns
 returns c =
