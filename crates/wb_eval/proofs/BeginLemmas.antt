@@ -18,7 +18,7 @@ use Rattle.wb_eval.specs.Inner.Machines.{HasTree, AreNamed, IsNode, IsMachine, I
 use Rattle.wb_eval_memo.specs.Memos.{count, path_in, numbered, recall, IsWhole}
 use Rattle.wb_eval.specs.Inner.Piles.{Wait, waits, IsPiled}
 use Rattle.wb_eval.specs.Inner.State.{start}
-use Rattle.wb_eval_memo.specs.Rows.{at}
+use Rattle.wb_eval_rows.specs.Sparse.{number_at}
 use Rattle.wb_eval.specs.declared.machine.Key.TheVariants as key
 use Rattle.wb_eval.specs.declared.machine.Machine.{Machine}
 use Rattle.wb_eval_memo.specs.declared.memo.Memo.{Memo}
@@ -39,8 +39,8 @@ module _ (a : AttributionParts) (operations : Operations) (trees : List Tree) (m
   only_root (suc i) id has = absurd (let h = sym (ap (λ ts. slice_get ts (suc i)) its_trees) ∙ has in cc h)
 
   nothing_known : (i x : ℕ) → recall m.memo i x ≡ None
-  nothing_known i x = by_number (at m.memo.cells i x) refl where
-    by_number : (n : ℕ) → at m.memo.cells i x ≡ n → recall m.memo i x ≡ None
+  nothing_known i x = by_number (number_at m.memo.cells i x) refl where
+    by_number : (n : ℕ) → number_at m.memo.cells i x ≡ n → recall m.memo i x ≡ None
     by_number zero is = ap (numbered m.memo.values.items) is
     by_number (suc n) is =
         absurd (let lt = whole.numbers i x n is in let l = ap length values in omega (arith, lt, l))

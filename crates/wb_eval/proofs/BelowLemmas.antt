@@ -90,7 +90,7 @@ module _ (a : AttributionParts) (operations : Operations) (trees : List Tree) (m
       → IsVisiting a operations trees (with_memo m new) site nodes tasks values e
   grown new t below whole more (tree, given, is_below) =
       let runs = grown_runs a operations trees m _ new site below t tree v.runs whole more is_below v.there (v.id, v.has)
-      (given_of t tree given) in
+      (λ fresh. given_of t tree (given fresh)) in
       let path = more.paths site v.there in
       record {
         id = v.id;

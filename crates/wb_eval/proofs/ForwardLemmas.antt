@@ -1,5 +1,5 @@
 -- One instance whose value is that of another, also through the forwarded tree.
-use Rattle.std.proofs.Common.{◌≡◌, ◌≢◌, ◌∙◌, ℕ, List, Option, Some, None, length, sym, ap, subst, arith, slice_get, get_or}
+use Rattle.std.proofs.Common.{◌≡◌, ◌≢◌, ◌∙◌, ◌<◌, ℕ, List, Option, Some, None, length, sym, ap, subst, arith, slice_get, get_or}
 use Rattle.wb_flow_theory.specs.Vertices.{made, forward}
 use Rattle.wb_operations.specs.Operations.{Operations}
 use Rattle.wb_syntax_resolved.specs.declared.attribution.AttributionParts.{AttributionParts}
@@ -12,7 +12,7 @@ use Rattle.wb_eval_theory.specs.Walks.{value, read, done, finish, Walk}
 use Rattle.std.proofs.lemmas.Option.{slice_get-get_or}
 use Rattle.wb_eval.proofs.RunLemmas.{runs_on, not_entered, grown_runs, IsGiven}
 use Rattle.wb_eval.specs.Inner.Machines.{tree_named, tree_value, named, IsKey, known, Runs, Wants, with_memo}
-use Rattle.wb_eval_memo.specs.Memos.{path_in, IsWhole, IsGrown}
+use Rattle.wb_eval_memo.specs.Memos.{count, path_in, IsWhole, IsGrown}
 use Rattle.wb_eval.specs.Inner.Reached.{IsReached}
 use Rattle.wb_eval.specs.Inner.Starts.{IsAlone, IsForwarding}
 use Rattle.wb_eval.specs.declared.machine.Key.{Key}
@@ -59,8 +59,9 @@ module _ {a : AttributionParts} {operations : Operations} {trees : List Tree} {m
 
     forward_runs : Runs a operations trees after forward_walk
     forward_runs =
-        let given : IsGiven a operations trees f.runs.machine.top (path_in m.memo site) step.Forward reached.0 = record {
-          child_node = λ other same. absurd (let h = sym reached.1 ∙ same in cc h);
+        let given : count m.memo < count after.memo → IsGiven a operations trees f.runs.machine.top (path_in m.memo site) step.Forward reached.0 =
+        λ fresh. record {
+          child_node = λ other same. absurd (let h = sym (reached.1 fresh) ∙ same in cc h);
           child_has = λ k same. absurd (cc same);
         } in
         let runs = grown_runs a operations trees m _ after.memo site below step.Forward reached.0 f.runs whole grown reached.2 f.there

@@ -31,7 +31,7 @@ use Rattle.wb_eval.specs.Inner.Machines.{IsKeptIn, AreSuspended}
 use Rattle.wb_eval.specs.Inner.Machines.{Runs}
 use Rattle.wb_eval_memo.specs.Memos.{count, path_in, numbered, recall, IsWhole}
 use Rattle.wb_eval_memo.specs.Sites.{path_at, paths_of, IsSites}
-use Rattle.wb_eval_memo.specs.Rows.{at}
+use Rattle.wb_eval_rows.specs.Sparse.{number_at, IsForest}
 use Rattle.wb_eval.specs.Inner.Piles.{waits, IsPiled}
 use Rattle.wb_eval.specs.Inner.State.{IsState}
 use Rattle.wb_eval.specs.declared.machine.Key.{Key}
@@ -163,7 +163,7 @@ module _ (a : AttributionParts) (operations : Operations) (trees : List Tree) (m
 
     same_recall : (i y : ℕ) → recall new i y ≡ recall m.memo i y
     same_recall i y =
-        ap (λ vs. numbered vs.items (at new.cells i y)) values ∙ ap (λ cs. numbered m.memo.values.items (at cs i y)) cells
+        ap (λ vs. numbered vs.items (number_at new.cells i y)) values ∙ ap (λ cs. numbered m.memo.values.items (number_at cs i y)) cells
 
     within : site < length m.memo.trees.items
     within = let t = r.memo.whole.trees in omega (arith, le, t)
@@ -198,9 +198,10 @@ module _ (a : AttributionParts) (operations : Operations) (trees : List Tree) (m
         whole = record {
           sites = subst IsSites (sym sites) r.memo.whole.sites;
           trees = ap length set ∙ length-set m.memo.trees.items site (Some id) ∙ r.memo.whole.trees ∙ ap suc (sym same_count);
-          rows = let c = ap length cells in let l = r.memo.whole.rows in omega (arith, c, l, same_count);
+          cells = subst IsForest (sym cells) r.memo.whole.cells;
+          past = λ i y lt. ap (λ cs. number_at cs i y) cells ∙ r.memo.whole.past i y (omega (arith, lt, same_count));
           numbers = λ i y n is. subst (λ vs. n < length vs.items) (sym values)
-              (r.memo.whole.numbers i y n (sym (ap (λ cs. at cs i y) cells) ∙ is));
+              (r.memo.whole.numbers i y n (sym (ap (λ cs. number_at cs i y) cells) ∙ is));
         };
         nodes = λ i other has. subst (λ (p : Path). IsNode a operations trees r.top p other) (sym (same_path i))
             (elim (tree_cases i other has) [

@@ -39,15 +39,8 @@ use Rattle.wb_eval_memo.specs.declared.memo.Memo.{Memo}
 use Rattle.wb_eval_memo.specs.declared.sites.Step.{Step}
 
 -- nothing is known of a site that isn't there
-past_rows : {X : Type 0} (xs : List (List X)) (i : ℕ) → length xs ≤ i → get_or xs i [] ≡ []
-past_rows [] i le = refl
-past_rows (x ∷ xs) zero le = absurd (omega arith)
-past_rows (x ∷ xs) (suc i) le = past_rows xs i (omega (arith, le))
-
 none_past : (m : Memo) (i x : ℕ) → IsWhole m → count m < i → recall m i x ≡ None
-none_past m i x whole lt =
-    let r = whole.rows in
-    ap (λ (row : List ℕ). numbered m.values.items (get_or row x 0)) (past_rows m.cells i (omega (arith, r, lt)))
+none_past m i x whole lt = ap (numbered m.values.items) (whole.past i x lt)
 
 module _ (a : AttributionParts) (operations : Operations) (trees : List Tree) where
   abbrev pub Runs_ : Machine → Walk → Type 0
@@ -63,7 +56,7 @@ module _ (a : AttributionParts) (operations : Operations) (trees : List Tree) wh
       (is : IsMemo a operations trees top all old) (whole : IsWhole new) (grown : IsGrown old new)
       (below : IsBelow old new parent step its_tree site)
       (there : parent ≤ count old) (parent_has : (id : TreeId) × HasTree old parent id)
-      (given : IsGiven top (path_in old parent) step its_tree) where
+      (given : count old < count new → IsGiven top (path_in old parent) step its_tree) where
     within : (i : ℕ) (id : TreeId) → HasTree new i id → i ≤ count new
     within i id has = let lt = slice_get_within new.trees.items i (Some id) has in let t = whole.trees in omega (arith, lt, t)
 
@@ -103,7 +96,7 @@ module _ (a : AttributionParts) (operations : Operations) (trees : List Tree) wh
           (λ le h. subst (λ (q : Path). IsNode a operations trees top q id) (sym (grown.paths i le)) (is.nodes i id (old_tree i id le h)))
           (λ lt t p h.
           let same : its_tree ≡ Some id = same_Some its_tree (Some id) (sym t ∙ h) in
-          let (k, step_is, is_node) = given.child_node id same in
+          let (k, step_is, is_node) = (given (let w = within i id has in omega (arith, lt, w))).child_node id same in
           subst (λ (q : Path). IsNode a operations trees top q id)
           (ap (down (path_in old parent)) (sym step_is) ∙ sym p) is_node) has;
       made_trees = λ i id q k has path. by_site (λ i. HasTree new i id → path_in new i ≡ down q (made k) → Contains all (tree_at q k)) i
@@ -111,7 +104,7 @@ module _ (a : AttributionParts) (operations : Operations) (trees : List Tree) wh
           (λ le h e. is.made_trees i id q k (old_tree i id le h) (sym (grown.paths i le) ∙ e))
           (λ lt t p h e.
           let same : its_tree ≡ Some id = same_Some its_tree (Some id) (sym t ∙ h) in
-          let (c, step_is, is_node) = given.child_node id same in
+          let (c, step_is, is_node) = (given (let w = within i id has in omega (arith, lt, w))).child_node id same in
           let g : down (path_in old parent) (child c) ≡ down q (made k) = ap (down (path_in old parent)) (sym step_is) ∙ sym p ∙ e in
           absurd (cc g)) has path;
       child_trees = λ i q k le path. by_site (λ i. path_in new i ≡ down q (child k) → (id : TreeId) × HasTree new i id) i le
@@ -119,7 +112,7 @@ module _ (a : AttributionParts) (operations : Operations) (trees : List Tree) wh
           (λ lt t p e.
           let g : down (path_in old parent) (step_of step) ≡ down q (child k) = sym p ∙ e in
           let step_is : step_of step ≡ child k = cc g in
-          let (id, has) = given.child_has k step_is in (id, t ∙ ap Some has)) path;
+          let (id, has) = (given (omega (arith, lt, le))).child_has k step_is in (id, t ∙ ap Some has)) path;
       root_tree = let (id, has) = is.root_tree in (id, new_tree 0 id (omega arith) has);
       parents = λ k o at. elim (cases_lt k (count old)) [
         | inl lt ↦ let (id, has) = is.parents k o (grown.origins k o lt at) in (id, new_tree o.parent id (in_old o.parent id has) has)
@@ -162,7 +155,8 @@ module _ (a : AttributionParts) (operations : Operations) (trees : List Tree) wh
   -- a machine whose memo has grown
   pub grown_runs : (m : Machine) (w : Walk) (new : Memo) (parent site : ℕ) (step : Step) (its_tree : Option TreeId) (runs : Runs_ m w)
       → IsWhole new → IsGrown m.memo new → IsBelow m.memo new parent step its_tree site → parent ≤ count m.memo
-      → (id : TreeId) × HasTree m.memo parent id → IsGiven runs.machine.top (path_in m.memo parent) step its_tree
+      → (id : TreeId) × HasTree m.memo parent id
+      → (count m.memo < count new → IsGiven runs.machine.top (path_in m.memo parent) step its_tree)
       → Runs_ (with_memo m new) w
   grown_runs m w new parent site step its_tree runs whole grown below there has given =
       let r = runs.machine in

@@ -6,6 +6,7 @@ ghost use Rattle.std.specs.Prelude.{◌≡◌, ◌≤◌, ◌<◌, ◌+◌, ◌^
 ghost use Rattle.wb_eval.specs.Inner.Machines.{HasMore, HasTree, IsBlank, IsKey, IsTreeKnown, known, with_memo};
 ghost use Rattle.wb_eval.specs.Inner.Piles.{IsPiled};
 ghost use Rattle.wb_eval_memo.specs.Memos.{count, IsWhole, IsGrown};
+ghost use Rattle.wb_eval_memo.specs.Sites.{link};
 ghost use Rattle.wb_eval.specs.Inner.Reached.{IsReady, IsGivenTree, IsReached};
 
 use crate::frames::Frames;
@@ -97,8 +98,27 @@ impl<'a> Machine<'a> {
         ensures grown { OnOk result (IsGrown self.old.memo self.new.memo) }
         ensures site { IfOk result (IsReached store.now self.old.memo self.new.memo site step) }
     {
+        let found = self.memo.find(site, step);
+        if found == 0 {
+            self.add_below(store, site, step)
+        } else {
+            Ok(found)
+        }
+    }
+
+    // Adds the site one step down from another, which isn't there.
+    fn add_below(&mut self, store: &TreeStore, site: usize, step: Step) -> Result<usize, AllocError>
+        requires whole { IsWhole self.old.memo }
+        requires there { site ≤ count self.old.memo }
+        requires ready { IsReady store.now self.old.memo site step }
+        requires new { link self.old.memo.sites site step ≡ 0 }
+        ensures same { OnOk result (self.new ≡ with_memo self.old self.new.memo) }
+        ensures whole { OnOk result (IsWhole self.new.memo) }
+        ensures grown { OnOk result (IsGrown self.old.memo self.new.memo) }
+        ensures site { IfOk result (IsReached store.now self.old.memo self.new.memo site step) }
+    {
         let tree = self.tree_below(store, site, step);
-        self.memo.below(site, step, tree)
+        self.memo.add(site, step, tree)
     }
 
     // The tree of the site one step down, where that is a child.

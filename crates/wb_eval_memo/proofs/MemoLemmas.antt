@@ -11,7 +11,8 @@ use Rattle.wb_eval_theory.specs.Instances.{Path, down}
 use Rattle.wb_eval_memo.proofs.SitesLemmas.{site_path, kept_path}
 use Rattle.wb_eval_memo.specs.Memos.{count, path_in, numbered, recall, IsWhole, IsGrown, IsBelow}
 use Rattle.wb_eval_memo.specs.Sites.{step_of, link, path_at, paths_of, IsSites}
-use Rattle.wb_eval_memo.specs.Rows.{at}
+use Rattle.wb_eval_rows.specs.Sparse.{number_at, IsForest}
+use Rattle.wb_eval_rows.specs.declared.sparse.SparseRows.{SparseRows}
 use Rattle.wb_eval_memo.specs.declared.memo.Memo.{Memo}
 use Rattle.wb_eval_memo.specs.declared.sites.Origin.{Origin}
 use Rattle.wb_eval_memo.specs.declared.sites.Sites.{Sites}
@@ -23,19 +24,19 @@ still_numbered : (values : List Value) (value : Value) (n : ℕ) → ((k : ℕ) 
 still_numbered values value zero within = refl
 still_numbered values value (suc k) within = push_before values value k (within k refl)
 
-module _ (old : Memo) (cells : List (List ℕ)) (values : Vec Value Global) (site attribute : ℕ) (value : Value) (whole : IsWhole old)
-    (pushed : values.items ≡ old.values.items ++ value ∷ []) (len : (length cells ≡ length old.cells) ⊎ (length cells ≤ suc site)) (there : site ≤ count old)
-    (set : at cells site attribute ≡ suc (length old.values.items))
-    (columns : (other : ℕ) → other ≢ attribute → at cells site other ≡ at old.cells site other)
-    (rows : (i other : ℕ) → i ≢ site → at cells i other ≡ at old.cells i other) where
+module _ (old : Memo) (cells : SparseRows) (values : Vec Value Global) (site attribute : ℕ) (value : Value) (whole : IsWhole old)
+    (pushed : values.items ≡ old.values.items ++ value ∷ []) (forest : IsForest cells) (there : site ≤ count old)
+    (set : number_at cells site attribute ≡ suc (length old.values.items))
+    (columns : (other : ℕ) → other ≢ attribute → number_at cells site other ≡ number_at old.cells site other)
+    (rows : (i other : ℕ) → i ≢ site → number_at cells i other ≡ number_at old.cells i other) where
   abbrev pub with_value : Memo
   with_value = record { sites = old.sites; trees = old.trees; cells = cells; values = values }
 
-  cell_cases : (i x : ℕ) → ((i ≡ site) × (x ≡ attribute)) ⊎ (at cells i x ≡ at old.cells i x)
+  cell_cases : (i x : ℕ) → ((i ≡ site) × (x ≡ attribute)) ⊎ (number_at cells i x ≡ number_at old.cells i x)
   cell_cases i x = elim (cases_eq i site) [
     | inl e ↦ elim (cases_eq x attribute) [
       | inl f ↦ inl (e, f)
-      | inr d ↦ inr (subst (λ (z : ℕ). at cells z x ≡ at old.cells z x) (sym e) (columns x d))
+      | inr d ↦ inr (subst (λ (z : ℕ). number_at cells z x ≡ number_at old.cells z x) (sym e) (columns x d))
     ]
     | inr d ↦ inr (rows i x d)
   ]
@@ -47,11 +48,12 @@ module _ (old : Memo) (cells : List (List ℕ)) (values : Vec Value Global) (sit
   whole_after = record {
     sites = whole.sites;
     trees = whole.trees;
-    rows = elim len [ inl same ↦ let r = whole.rows in omega (arith, same, r) | inr le ↦ omega (arith, le, there) ];
+    cells = forest;
+    past = λ i x lt. rows i x (λ e. omega (arith, lt, there, e)) ∙ whole.past i x lt;
     numbers = λ i x n is. elim (cell_cases i x) [
       | inl (e, f) ↦
-          let g : at cells i x ≡ suc (length old.values.items) =
-          ap (λ (z : ℕ). at cells z x) e ∙ ap (at cells site) f ∙ set in
+          let g : number_at cells i x ≡ suc (length old.values.items) =
+          ap (λ (z : ℕ). number_at cells z x) e ∙ ap (number_at cells site) f ∙ set in
           let h = sym g ∙ is in omega (arith, h, values_len)
       | inr same ↦ let h = whole.numbers i x n (sym same ∙ is) in omega (arith, h, values_len)
     ];
@@ -64,13 +66,13 @@ module _ (old : Memo) (cells : List (List ℕ)) (values : Vec Value Global) (sit
 
   pub kept_after : (i other : ℕ) → (i ≢ site) ⊎ (other ≢ attribute) → recall with_value i other ≡ recall old i other
   kept_after i other differs =
-      let same : at cells i other ≡ at old.cells i other = elim (cell_cases i other) [
+      let same : number_at cells i other ≡ number_at old.cells i other = elim (cell_cases i other) [
         | inl (e, f) ↦ absurd (elim differs [ inl d ↦ d e | inr d ↦ d f ])
         | inr g ↦ g
       ] in
       ap (numbered values.items) same
-      ∙ ap (λ (l : List Value). numbered l (at old.cells i other)) pushed
-      ∙ still_numbered old.values.items value (at old.cells i other) (λ k is. whole.numbers i other k is)
+      ∙ ap (λ (l : List Value). numbered l (number_at old.cells i other)) pushed
+      ∙ still_numbered old.values.items value (number_at old.cells i other) (λ k is. whole.numbers i other k is)
 
 module _ (old : Memo) (parent : ℕ) (step : Step) (tree : Option TreeId) (whole : IsWhole old) where
   -- a site that is there
@@ -101,7 +103,8 @@ module _ (old : Memo) (parent : ℕ) (step : Step) (tree : Option TreeId) (whole
     site_whole = record {
       sites = is;
       trees = ap length pushed ∙ (let l = length-append old.trees.items (tree ∷ []) in omega (arith, l, whole.trees, count_after));
-      rows = let r = whole.rows in omega (arith, r, count_after);
+      cells = whole.cells;
+      past = λ i x lt. whole.past i x (let c = count_after in omega (arith, lt, c));
       numbers = whole.numbers;
     }
 

@@ -7,7 +7,7 @@ use Rattle.std.proofs.lemmas.List.{get_or_append_left}
 use Rattle.wb_lemmas.proofs.Places.{at_push, push_keeps, push_last, at_within, default_at}
 use Rattle.wb_eval_theory.specs.Instances.{Path, root, down}
 use Rattle.wb_eval_memo.specs.Inner.Steps.{IsOther}
-use Rattle.wb_eval_memo.specs.Sites.{step_of, link, path_at, paths_from, paths_of, IsSites}
+use Rattle.wb_eval_memo.specs.Sites.{step_of, link, path_at, paths_from, paths_of, AreFound, IsSites}
 use Rattle.wb_eval_memo.specs.declared.sites.Origin.{Origin}
 use Rattle.wb_eval_memo.specs.declared.sites.Sites.{Sites}
 use Rattle.wb_eval_memo.specs.declared.sites.Step.{Step}
@@ -49,13 +49,14 @@ same_origin i parent t s = elim (cases_eq i parent) [
 pub added : (old new : Sites) (parent : ℕ) (s : Step) → IsSites old → parent ≤ length old.origins.items → link old parent s ≡ 0
     → new.origins.items ≡ old.origins.items ++ origin parent s ∷ []
     → link new parent s ≡ suc (length old.origins.items) → ((i : ℕ) (t : Step) → IsOther parent s i t → link new i t ≡ link old i t)
-    → IsSites new
-added old new parent s is there fresh pushed set kept =
+    → AreFound new → IsSites new
+added old new parent s is there fresh pushed set kept found =
     let xs = old.origins.items in
     let last = push_last xs (origin parent s) in
     let count : length new.origins.items ≡ suc (length xs) =
     ap length pushed ∙ (let l = length-append xs (origin parent s ∷ []) in omega (arith, l)) in
     record {
+      found = found;
       to = λ i t k linked. elim (same_origin i parent t s) [
         | inl (e, f) ↦
             let h : link new i t ≡ suc (length xs) = ap (λ (z : ℕ). link new z t) e ∙ ap (link new parent) f ∙ set in

@@ -1,3 +1,2 @@
 -- Words of private functions.
-pub mod Lists
 pub mod Steps

@@ -4,7 +4,7 @@ use Rattle.wb_values.specs.declared.value.TreeId.{TreeId}
 use Rattle.wb_values.specs.declared.value.Value.{Value}
 use Rattle.wb_eval_theory.specs.Instances.{down}
 use Rattle.wb_eval_memo.specs.Sites.{step_of, path_at, paths_of, IsSites}
-use Rattle.wb_eval_memo.specs.Rows.{at}
+use Rattle.wb_eval_rows.specs.Sparse.{number_at, IsForest}
 use Rattle.wb_eval_memo.specs.declared.memo.Memo.{Memo}
 use Rattle.wb_eval_memo.specs.declared.sites.Origin.{Origin}
 use Rattle.wb_eval_memo.specs.declared.sites.Step.{Step}
@@ -24,14 +24,15 @@ numbered values (suc n) = slice_get values n
 
 -- the value of an attribute of a site, where it is known
 abbrev pub recall : Memo → ℕ → ℕ → Option Value
-recall m site attribute = numbered m.values.items (at m.cells site attribute)
+recall m site attribute = numbered m.values.items (number_at m.cells site attribute)
 
--- each site has a tree or none, no other has a row of numbers, and each number is that of a value
+-- each site has a tree or none, no other has numbers, and each number is that of a value
 pub record IsWhole (m : Memo) : Type 0 where
   pub sites : IsSites m.sites
   pub trees : length m.trees.items ≡ suc (count m)
-  pub rows : length m.cells ≤ suc (count m)
-  pub numbers : (i x n : ℕ) → at m.cells i x ≡ suc n → n < length m.values.items
+  pub cells : IsForest m.cells
+  pub past : (i x : ℕ) → count m < i → number_at m.cells i x ≡ 0
+  pub numbers : (i x n : ℕ) → number_at m.cells i x ≡ suc n → n < length m.values.items
 
 -- one memo has more sites than another, and else knows the same
 pub record IsGrown (old new : Memo) : Type 0 where

@@ -4,9 +4,7 @@
 #![tactic(auto)]
 
 mod memo;
-mod rows;
 mod sites;
 
 pub use memo::Memo;
-pub use rows::Rows;
 pub use sites::{Origin, Sites, Step};

@@ -2,13 +2,14 @@
 //!
 //! The tree of each, and the values of its attributes. What they stand for is said where they are used.
 
-ghost use Rattle.std.specs.Prelude.{◌≡◌, ◌≢◌, ◌⊎◌, ◌≤◌, ◌<◌, ℕ, suc, [], ◌∷◌, ◌++◌, Some, None, length, slice_get, OnOk, IfOk};
+ghost use Rattle.std.specs.Prelude.{◌≡◌, ◌≢◌, ◌⊎◌, ◌≤◌, ◌<◌, ℕ, suc, [], ◌∷◌, ◌++◌, Option, Some, None, length, slice_get, OnOk, IfOk};
+ghost use Rattle.wb_values.specs.declared.value.TreeId.{TreeId};
 ghost use Rattle.wb_eval_memo.specs.Sites.{link, step_of, path_at, paths_of};
 ghost use Rattle.wb_eval_memo.specs.Memos.{recall, IsWhole, IsGrown, IsBelow};
 
-use crate::rows::Rows;
 use crate::sites::{Sites, Step};
 use std::alloc::{AllocError, Global};
+use wb_eval_rows::SparseRows;
 use wb_values::{TreeId, Value};
 
 /// The sites, their trees and the values of their attributes, as far as they are known.
@@ -18,7 +19,7 @@ pub struct Memo {
     /// The tree of each site, where it is known.
     pub trees: Vec<Option<TreeId>>,
     /// The numbers of values from 1 on, by site and attribute.
-    pub cells: Rows,
+    pub cells: SparseRows,
     /// The values.
     pub values: Vec<Value>,
 }
@@ -36,7 +37,7 @@ impl Memo {
         Ok(Memo {
             sites: Sites::new(alloc),
             trees,
-            cells: Rows::new(alloc, room),
+            cells: SparseRows::new(alloc, room),
             values: Vec::new(alloc),
         })
     }
@@ -81,29 +82,22 @@ impl Memo {
         Ok(())
     }
 
-    /// The site one step down from another, with its tree where that is known; it is added where it isn't there.
-    pub fn below(
+    /// The site one step down from another, or 0 where it isn't there.
+    pub fn find(&self, parent: usize, step: Step) -> usize
+        requires { IsWhole self.now }
+        ensures none { result ≡ 0 → link self.now.sites parent step ≡ 0 }
+        ensures site { result ≢ 0 → (tree : Option TreeId) → IsBelow self.now self.now parent step tree result }
+    {
+        self.sites.find(parent, step)
+    }
+
+    /// Adds the site one step down from another, which isn't there, with its tree where that is known.
+    pub fn add(
         &mut self,
         parent: usize,
         step: Step,
         tree: Option<TreeId>,
     ) -> Result<usize, AllocError>
-        requires whole { IsWhole self.old }
-        requires there { parent ≤ length self.old.sites.origins.items }
-        ensures whole { OnOk result (IsWhole self.new) }
-        ensures grown { OnOk result (IsGrown self.old self.new) }
-        ensures site { IfOk result (λ site. IsBelow self.old self.new parent step tree site) }
-    {
-        let site = self.sites.find(parent, step);
-        if site == 0 {
-            self.add(parent, step, tree)
-        } else {
-            Ok(site)
-        }
-    }
-
-    // Adds a site that isn't there.
-    fn add(&mut self, parent: usize, step: Step, tree: Option<TreeId>) -> Result<usize, AllocError>
         requires whole { IsWhole self.old }
         requires there { parent ≤ length self.old.sites.origins.items }
         requires new { link self.old.sites parent step ≡ 0 }

@@ -3,11 +3,11 @@
 //! A site is a node by its path: site 0 is the root, and each other site has an origin. Trees are in `memo`.
 
 ghost use Rattle.std.specs.Prelude.{◌≡◌, ◌≢◌, ◌≤◌, ℕ, suc, [], ◌∷◌, ◌++◌, length, OnOk, IfOk};
-ghost use Rattle.wb_eval_memo.specs.Sites.{link, IsSites};
+ghost use Rattle.wb_eval_memo.specs.Sites.{link, AreFound, IsSites};
 ghost use Rattle.wb_eval_memo.specs.Inner.Steps.{IsOther};
 
-use crate::rows::Rows;
 use std::alloc::{AllocError, Global};
+use wb_eval_rows::{Rows, SparseRows};
 
 /// A step down from a node.
 #[derive(Clone, Copy)]
@@ -34,9 +34,9 @@ pub struct Sites {
     /// How each is reached, but for the root.
     pub origins: Vec<Origin>,
     /// The sites of children, by site and child.
-    pub children: Rows,
+    pub children: SparseRows,
     /// Those of the trees of locals, by site and local.
-    pub locals: Rows,
+    pub locals: SparseRows,
     /// Those of forwarded trees, by site.
     pub forwards: Rows,
 }
@@ -49,8 +49,8 @@ impl Sites {
     {
         Sites {
             origins: Vec::new(alloc),
-            children: Rows::new(alloc, 0),
-            locals: Rows::new(alloc, 0),
+            children: SparseRows::new(alloc, 0),
+            locals: SparseRows::new(alloc, 0),
             forwards: Rows::new(alloc, 0),
         }
     }
@@ -84,6 +84,8 @@ impl Sites {
 
     // Writes which site is one step down from another.
     fn set_link(&mut self, parent: usize, step: Step, site: usize) -> Result<(), AllocError>
+        requires found { AreFound self.old }
+        ensures found { OnOk result (AreFound self.new) }
         ensures origins { OnOk result (self.new.origins ≡ self.old.origins) }
         ensures set { OnOk result (link self.new parent step ≡ site) }
         ensures kept { OnOk result ((i : ℕ) (other : Step) → IsOther parent step i other → link self.new i other ≡ link self.old i other) }

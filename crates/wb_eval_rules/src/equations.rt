@@ -6,22 +6,22 @@ ghost use Rattle.std.specs.Prelude.{◌≡◌, ◌≢◌, ◌<◌, ◌≤◌, []
 ghost use Rattle.wb_flow_theory.specs.Rules.{IsRule, HasRule, target_vertex};
 ghost use Rattle.wb_flow_theory.specs.Vertices.{local, forward, tree_of};
 ghost use Rattle.wb_syntax_resolved.specs.declared.equation.Target.{Target};
-ghost use Rattle.wb_eval_rules.specs.Indexes.{number_for, IsIndexOf};
+ghost use Rattle.wb_eval_rules.specs.Indexes.{number_for, AreFound, IsIndexOf};
 
-use crate::table::{Table, number_in, write};
 use std::alloc::{AllocError, Global};
+use wb_eval_rows::SparseRows;
 use wb_syntax_resolved::{Node, Place, Production, Target};
 
 /// The equations of a production by what they are for, as numbers from 1 on.
 pub struct Equations {
-    /// Those for attributes of the top, by attribute.
-    pub tops: Vec<usize>,
-    /// Those for attributes of the forwarded tree, by attribute.
-    pub forwards: Vec<usize>,
+    /// Those for attributes of the top, in row 0, by attribute.
+    pub tops: SparseRows,
+    /// Those for attributes of the forwarded tree, in row 0, by attribute.
+    pub forwards: SparseRows,
     /// Those for attributes of children, by child and attribute.
-    pub children: Table,
+    pub children: SparseRows,
     /// Those for attributes of locals, by local and attribute.
-    pub locals: Table,
+    pub locals: SparseRows,
 }
 
 /// A production, with its equations by what they are for.
@@ -88,13 +88,14 @@ pub(crate) fn equations_of(alloc: Global, production: &Production) -> Result<Equ
 impl Equations {
     // None.
     fn new(alloc: Global) -> Equations
-        ensures { (target : Target) → number_for result target ≡ 0 }
+        ensures found { AreFound result }
+        ensures none { (target : Target) → number_for result target ≡ 0 }
     {
         Equations {
-            tops: Vec::new(alloc),
-            forwards: Vec::new(alloc),
-            children: Table::new(alloc),
-            locals: Table::new(alloc),
+            tops: SparseRows::new(alloc, 0),
+            forwards: SparseRows::new(alloc, 0),
+            children: SparseRows::new(alloc, 0),
+            locals: SparseRows::new(alloc, 0),
         }
     }
 
@@ -103,8 +104,8 @@ impl Equations {
         ensures { result ≡ number_for self.now target }
     {
         match target {
-            Target::Top(attribute) => number_in(&self.tops, attribute),
-            Target::Forward(attribute) => number_in(&self.forwards, attribute),
+            Target::Top(attribute) => self.tops.get(0, attribute),
+            Target::Forward(attribute) => self.forwards.get(0, attribute),
             Target::Place { place, attribute } => match place {
                 Place::Child(k) => self.children.get(k, attribute),
                 Place::Local(x) => self.locals.get(x, attribute),
@@ -114,12 +115,14 @@ impl Equations {
 
     // Writes the number of the equation for a target.
     fn set(&mut self, target: Target, number: usize) -> Result<(), AllocError>
+        requires { AreFound self.old }
+        ensures found { OnOk result (AreFound self.new) }
         ensures set { OnOk result (number_for self.new target ≡ number) }
         ensures kept { OnOk result ((other : Target) → other ≢ target → number_for self.new other ≡ number_for self.old other) }
     {
         match target {
-            Target::Top(attribute) => write(&mut self.tops, attribute, number)?,
-            Target::Forward(attribute) => write(&mut self.forwards, attribute, number)?,
+            Target::Top(attribute) => self.tops.put(0, attribute, number)?,
+            Target::Forward(attribute) => self.forwards.put(0, attribute, number)?,
             Target::Place { place, attribute } => match place {
                 Place::Child(k) => self.children.put(k, attribute, number)?,
                 Place::Local(x) => self.locals.put(x, attribute, number)?,

@@ -4,7 +4,7 @@ use Rattle.wb_values.specs.declared.value.TreeId.{TreeId}
 use Rattle.wb_values.specs.Tree.{Tree, Value, tree, children_of, value_at}
 use Rattle.wb_values.specs.ValuesIn.{tree_in}
 use Rattle.wb_eval.specs.Inner.Machines.{HasTree}
-use Rattle.wb_eval_memo.specs.Memos.{IsBelow}
+use Rattle.wb_eval_memo.specs.Memos.{count, IsBelow}
 use Rattle.wb_eval_memo.specs.declared.memo.Memo.{Memo}
 use Rattle.wb_eval_memo.specs.declared.sites.Step.{Step}
 use Rattle.wb_eval_memo.specs.declared.sites.Step.TheVariants as step
@@ -33,6 +33,7 @@ IsGivenTree trees m site (step.Child k) given =
     (id : TreeId) × (child : TreeId) × HasTree m site id × IsChild trees id k child × (given ≡ Some child)
 IsGivenTree trees m site other given = given ≡ None
 
--- the site is one step down from the other
+-- the site is one step down from the other, and has the tree that it is to be given where it is new
 abbrev pub IsReached : List Tree → Memo → Memo → ℕ → Step → ℕ → Type 0
-IsReached trees old new parent s site = (given : Option TreeId) × IsGivenTree trees old parent s given × IsBelow old new parent s given site
+IsReached trees old new parent s site =
+    (given : Option TreeId) × (count old < count new → IsGivenTree trees old parent s given) × IsBelow old new parent s given site

@@ -15,7 +15,7 @@ equations-preserved c =
     let at : slice_get xs i ≡ Some e = read_at xs c.as_slice-equation-items.result.now i e (search rules) within (search rules) in
     let number : c.equations.number + 1 ≡ suc i = omega (arith, counted) in
     let it = one_more xs i e c.equations.made c.set.new.self c.equations.invariant.index at (c.in_ok-set.ensures.set ∙ number) c.in_ok-set.ensures.kept in
-    record { counted = omega (arith, counted); index = subst (λ n. IsIndexOf xs n c.set.new.self) (omega arith) it }
+    record { counted = omega (arith, counted); found = c.in_ok-set.ensures.found; index = subst (λ n. IsIndexOf xs n c.set.new.self) (omega arith) it }
 
 pub returns : goal.returns
 returns c =

@@ -1,25 +1,11 @@
-use Rattle.std.proofs.Common.{refl}
-use Rattle.std.proofs.lemmas.Result.{IfOk-weaker, on_ok_weaker}
+use Rattle.std.proofs.Common.{rules, None, arith}
+use Rattle.wb_eval_memo.proofs.MemoLemmas.{grown_same}
 use Rattle.wb_eval.proofs.machine.Machine.below.Goals as goal
 
-pub tree_below-tree-requires : goal.tree_below-tree-requires
-tree_below-tree-requires c = c.requires.ready
+pub returns-else-found-eq0-clause-grown : goal.returns-else-found-eq0-clause-grown
+returns-else-found-eq0-clause-grown c =
+    grown_same c.args.self.now.memo c.args.site c.args.step None c.requires.whole
 
-pub below-requires-clause-whole : goal.below-requires-clause-whole
-below-requires-clause-whole c = c.requires.whole
-
-pub below-requires-clause-there : goal.below-requires-clause-there
-below-requires-clause-there c = c.requires.there
-
-pub returns-clause-same : goal.returns-clause-same
-returns-clause-same c = on_ok_weaker c.below.result (λ whole. refl) c.below.ensures.whole
-
-pub returns-clause-whole : goal.returns-clause-whole
-returns-clause-whole c = c.below.ensures.whole
-
-pub returns-clause-grown : goal.returns-clause-grown
-returns-clause-grown c = c.below.ensures.grown
-
-pub returns-clause-site : goal.returns-clause-site
-returns-clause-site c =
-    IfOk-weaker c.below.result _ _ (λ site below. (c.tree_below-tree.result, c.tree_below-tree.ensures, below)) c.below.ensures.site
+pub returns-else-found-eq0-clause-site : goal.returns-else-found-eq0-clause-site
+returns-else-found-eq0-clause-site c =
+    (None, (λ more. absurd (omega (arith, more))), c.find-found.ensures.site (search rules) None)

@@ -2,15 +2,15 @@ use Rattle.std.proofs.Common.{rules, ◌≡◌, ◌≢◌, ◌∙◌, ◌-◌, �
 use Rattle.std.proofs.lemmas.Option.{slice_get-get_or}
 use Rattle.wb_values.specs.declared.value.Value.{Value}
 use Rattle.wb_eval_memo.specs.Memos.{IsWhole, numbered, recall}
-use Rattle.wb_eval_memo.specs.Rows.{at}
+use Rattle.wb_eval_rows.specs.Sparse.{number_at}
 use Rattle.wb_eval_memo.specs.declared.memo.Memo.{Memo}
 use Rattle.wb_eval_memo.proofs.memo.Memo.attribute.Goals as goal
 
-within : (m : Memo) (site attribute n : ℕ) → IsWhole m → n ≡ at m.cells site attribute → n ≢ 0 → n - 1 < length m.values.items
+within : (m : Memo) (site attribute n : ℕ) → IsWhole m → n ≡ number_at m.cells site attribute → n ≢ 0 → n - 1 < length m.values.items
 within m site attribute zero whole is some = absurd (some refl)
 within m site attribute (suc n) whole is some = let h = whole.numbers site attribute n (sym is) in omega (arith, h)
 
-found : (m : Memo) (site attribute n : ℕ) (v : Value) → IsWhole m → n ≡ at m.cells site attribute → n ≢ 0
+found : (m : Memo) (site attribute n : ℕ) (v : Value) → IsWhole m → n ≡ number_at m.cells site attribute → n ≢ 0
     → v ≡ get_or m.values.items (n - 1) v → Some v ≡ recall m site attribute
 found m site attribute zero v whole is some same = absurd (some refl)
 found m site attribute (suc n) v whole is some same =

@@ -12,4 +12,4 @@ returns-clause-whole c =
       locals = c.set_link.new.self.locals;
       forwards = c.set_link.new.self.forwards;
     }) c.args.parent c.args.step c.requires.whole c.requires.there c.requires.new (search rules)
-    (search rules) two.kept
+    (search rules) two.kept two.found

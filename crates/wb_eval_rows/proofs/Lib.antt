@@ -1,0 +1,4 @@
+pub mod RowsLemmas
+mod DigitLemmas
+mod NodeLemmas
+mod SparseLemmas
