@@ -24,14 +24,15 @@ use Rattle.wb_scan_theory.proofs.StepLemmas.{first_keeps, shift_keeps, accept_gi
 use Rattle.wb_scan_theory.proofs.FactLemmas.{parsable}
 use Rattle.wb_scan_theory.proofs.TokenLemmas.{taken}
 use Rattle.wb_scan.specs.Views.{LanguageParts}
-use Rattle.wb_parser.specs.declared.step.Outcome.{Outcome}
-use Rattle.wb_parser.specs.declared.step.Outcome.TheVariants.{Shifts, Accepts, Stops}
+use Rattle.wb_parser_states.specs.declared.outcome.Outcome.{Outcome}
+use Rattle.wb_parser_states.specs.declared.outcome.Outcome.TheVariants.{Shifts, Accepts, Stops}
 use Rattle.wb_parser.specs.declared.parsed.Parsed.{Parsed}
 use Rattle.wb_parser.specs.declared.parsed.Parsed.TheVariants as parsed
 use Rattle.wb_parser.specs.Parses.{IsParsed}
-use Rattle.wb_parser.specs.Inner.Stacks.{AreStates, last_or}
+use Rattle.wb_parser_states.specs.Stacks.{AreStates, last_or}
 use Rattle.wb_parser.specs.Inner.Steps.{IsAt, IsReady, CanGo, IsWhole, IsOutcome}
-use Rattle.wb_parser.proofs.StateLemmas.{at_top, leaf_push}
+use Rattle.wb_parser_states.proofs.ReadyLemmas.{scanned}
+use Rattle.wb_parser_states.proofs.StateLemmas.{leaf_push}
 use Rattle.wb_parser.proofs.ValueLemmas.{appended, values_in_append, values_of_joined}
 
 module _ (parts : LanguageParts) (ok : IsLanguage parts.language) (source : List ℕ) where
@@ -42,8 +43,7 @@ module _ (parts : LanguageParts) (ok : IsLanguage parts.language) (source : List
       NextToken parts.language source prefix at next) →
       (r : IsReady parts source states vs trees at) → NextToken parts.language source r.0 at next
   scanned_at of states slice vs trees at top next top_is slice_is found (prefix, is, same) =
-      found prefix (subst (λ z. IsPrefixOf parts.language.grammar parts.tables z prefix) (sym (top_is ∙ ap (last_or 0) slice_is))
-      (subst (IsPrefixOf parts.language.grammar parts.tables (last_or 0 states)) (sym same) (at_top of states is.stack is.states_are)))
+      scanned parts source of states slice is.stack prefix is.states_are same at top next top_is slice_is found
 
   pub nothing_leaf : (states : List ℕ) (vs : List Value) (trees : List Tree) (prefix : List Symbol) (at place : ℕ) →
       IsAt parts source states vs trees prefix at → NextToken parts.language source prefix at (missing place) →

@@ -8,7 +8,6 @@ mod leaf;
 mod parsed;
 mod parser;
 mod reduce;
-mod rules;
 mod stack;
 mod step;
 

@@ -7,9 +7,9 @@ ghost use Rattle.wb_parser.specs.Parses.{Extends, IsParsed, KeepsStore, FitsSign
 
 use crate::Parsed;
 use crate::leaf::{Round, take_leaf};
-use crate::rules::rules_of;
 use crate::stack::Stack;
 use std::alloc::{AllocError, Global};
+use wb_parser_states::rules_of;
 use wb_scan::Language;
 use wb_values::TreeStore;
 

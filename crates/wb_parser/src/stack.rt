@@ -1,7 +1,6 @@
 //! What is on the parser's stack? A state and a value for each root, in two lists.
 
-ghost use Rattle.std.specs.Prelude.{◌≡◌, ◌<◌, [], All, length};
-ghost use Rattle.wb_parser.specs.Inner.Stacks.{last_or};
+ghost use Rattle.std.specs.Prelude.{◌≡◌, []};
 
 use std::alloc::Global;
 use wb_values::PackedValues;
@@ -24,14 +23,4 @@ impl Stack {
             values: PackedValues::new(alloc),
         }
     }
-}
-
-// The last of the states, or 0.
-pub(crate) fn top(states: &[usize]) -> usize
-    ensures { result ≡ last_or 0 states.now }
-{
-    if states.len() == 0 {
-        return 0;
-    }
-    states[states.len() - 1]
 }

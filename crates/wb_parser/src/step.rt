@@ -4,27 +4,17 @@ ghost use Rattle.std.specs.Prelude.{◌≡◌, ◌<◌, ◌≤◌, ◌+◌, ◌^
 ghost use Rattle.wb_lookahead.specs.Contents.{size_of};
 ghost use Rattle.wb_values.specs.ValuesIn.{IsIn};
 ghost use Rattle.wb_parser.specs.Parses.{Extends};
-ghost use Rattle.wb_parser.specs.Inner.Rules.{AreRules};
-ghost use Rattle.wb_parser.specs.Inner.Steps.{HasOutcome, ShiftsBelow, IsSound};
+ghost use Rattle.wb_parser_states.specs.Rules.{AreRules};
+ghost use Rattle.wb_parser_states.specs.Steps.{ShiftsBelow};
+ghost use Rattle.wb_parser.specs.Inner.Steps.{HasOutcome, IsSound};
 
 use crate::reduce::reduce;
-use crate::rules::Rule;
-use crate::stack::{Stack, top};
+use crate::stack::Stack;
 use std::alloc::AllocError;
 use wb_lookahead::Action;
+use wb_parser_states::{Outcome, Rule, top};
 use wb_scan::Language;
 use wb_values::TreeStore;
-
-// What can be done on the terminal that is ahead, once reductions are made.
-#[derive(Clone, Copy)]
-pub(crate) enum Outcome {
-    // It can be shifted, and then the state is this one.
-    Shifts(usize),
-    // The text can be accepted.
-    Accepts,
-    // There is no action.
-    Stops,
-}
 
 // Reduces while that is the action on the terminal, or on the end of the text. The state on top is kept beside the stack, since each action
 // waits for it.

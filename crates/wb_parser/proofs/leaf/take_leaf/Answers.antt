@@ -1,9 +1,10 @@
 use Rattle.std.proofs.Common.{subst, sym, refl, ◌∙◌, ap, ◌<◌, slice_range}
 use Rattle.wb_lookahead.specs.Contents.{size_of}
 use Rattle.wb_scan_theory.specs.Tokens.{token, over, missing}
-use Rattle.wb_parser.specs.Inner.Stacks.{last_or}
+use Rattle.wb_parser_states.specs.Stacks.{last_or}
 use Rattle.wb_parser.specs.Inner.Steps.{IsOutcome}
-use Rattle.wb_parser.proofs.StateLemmas.{last_below, zero_below}
+use Rattle.wb_parser_states.proofs.TableLemmas.{zero_below}
+use Rattle.wb_parser_states.proofs.StateLemmas.{last_below}
 use Rattle.wb_parser.proofs.LeafLemmas.{scanned_at, nothing_leaf, token_shift, token_stops}
 use Rattle.wb_parser.proofs.leaf.take_leaf.Goals as goal
 

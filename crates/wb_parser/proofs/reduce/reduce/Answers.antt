@@ -1,8 +1,8 @@
 use Rattle.std.proofs.Common.{rules, ◌∙◌, ap, subst, length}
 use Rattle.std.specs.Prelude.{min, slice_index_or}
 use Rattle.wb_lookahead.specs.Contents.{TablesView}
-use Rattle.wb_parser.specs.Inner.Stacks.{IsMoved}
-use Rattle.wb_parser.proofs.RuleLemmas.{left_below, no_rule, rule_at}
+use Rattle.wb_parser_states.specs.Stacks.{IsMoved}
+use Rattle.wb_parser_states.proofs.RuleLemmas.{left_below, no_rule, rule_at}
 use Rattle.wb_parser.proofs.reduce.reduce.Goals as goal
 
 pub move_states-requires-clause-left : goal.move_states-requires-clause-left

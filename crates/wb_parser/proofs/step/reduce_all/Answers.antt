@@ -2,9 +2,10 @@ use Rattle.std.proofs.Common.{◌<◌, subst, sym, refl}
 use Rattle.wb_lookahead.specs.Contents.{size_of}
 use Rattle.wb_lookahead.specs.declared.action.Action.TheVariants as act
 use Rattle.wb_lookahead.specs.declared.action.Action.TheVariants.{Shift, Reduce, Accept}
-use Rattle.wb_parser.specs.Inner.Stacks.{last_or}
+use Rattle.wb_parser_states.specs.Stacks.{last_or}
 use Rattle.wb_parser.proofs.ExtendLemmas.{extends_more}
-use Rattle.wb_parser.proofs.StateLemmas.{last_below, zero_below, acted, action_below, IsActionBelow}
+use Rattle.wb_parser_states.proofs.TableLemmas.{zero_below, action_below, IsActionBelow}
+use Rattle.wb_parser_states.proofs.StateLemmas.{last_below, acted}
 use Rattle.wb_parser.proofs.StepLemmas.{shift_case, accept_case, stuck_case, reduce_case}
 use Rattle.wb_parser.proofs.step.reduce_all.Goals as goal
 

@@ -3,7 +3,7 @@ use Rattle.wb_base.specs.declared.symbol.Symbol.{Symbol}
 use Rattle.wb_scan_theory.specs.Tokens.{Next, NextToken}
 use Rattle.wb_scan_theory.specs.Readings.{Gives}
 use Rattle.wb_parser.specs.Parses.{Extends}
-use Rattle.wb_parser.specs.Inner.Stacks.{last_or}
+use Rattle.wb_parser_states.specs.Stacks.{last_or}
 use Rattle.wb_parser.specs.Inner.Steps.{IsAt, IsSound}
 use Rattle.wb_parser.proofs.step.reduce_all.Given as goal
 

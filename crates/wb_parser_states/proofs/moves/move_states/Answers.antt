@@ -1,6 +1,7 @@
-use Rattle.wb_parser.proofs.StateLemmas.{top_below, top_pushed, pushed_below, zero_below}
+use Rattle.wb_parser_states.proofs.StateLemmas.{top_below, top_pushed, pushed_below}
+use Rattle.wb_parser_states.proofs.TableLemmas.{zero_below}
 use Rattle.wb_lookahead.specs.Contents.{size_of}
-use Rattle.wb_parser.proofs.reduce.move_states.Goals as goal
+use Rattle.wb_parser_states.proofs.moves.move_states.Goals as goal
 
 pub target_of-target-requires-clause-state : goal.target_of-target-requires-clause-state
 target_of-target-requires-clause-state c =

@@ -3,7 +3,7 @@ use Rattle.std.specs.Prelude.{◌≡◌, ◌<◌, ℕ, List, Some, length, slice
 use Rattle.wb_base.specs.declared.symbol.Symbol.{Symbol}
 use Rattle.wb_base.specs.Grammar.{GrammarView}
 use Rattle.wb_grammar_theory.specs.Productions.{IsProduction}
-use Rattle.wb_parser.specs.declared.rules.Rule.{Rule}
+use Rattle.wb_parser_states.specs.declared.rules.Rule.{Rule}
 
 -- the left side of the production, and how many symbols are on its right
 pub record IsRule (g : GrammarView) (p : ℕ) (rule : Rule) : Type 0 where

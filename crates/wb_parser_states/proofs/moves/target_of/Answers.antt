@@ -1,6 +1,6 @@
 use Rattle.std.proofs.Common.{◌<◌, sym, subst, ℕ}
-use Rattle.wb_parser.proofs.StateLemmas.{goto_below, nonterminals_of}
-use Rattle.wb_parser.proofs.reduce.target_of.Goals as goal
+use Rattle.wb_parser_states.proofs.TableLemmas.{goto_below, nonterminals_of}
+use Rattle.wb_parser_states.proofs.moves.target_of.Goals as goal
 
 pub returns-in-Some-clause-below : goal.returns-in-Some-clause-below
 returns-in-Some-clause-below c g of =

@@ -1,8 +1,9 @@
 use Rattle.std.proofs.Common.{rules, ◌≡◌, ◌∙◌, ◌-◌, length, take, ap, refl}
 use Rattle.wb_lookahead.specs.Contents.{size_of}
-use Rattle.wb_parser.specs.Inner.Stacks.{last_or}
-use Rattle.wb_parser.proofs.StateLemmas.{top_below, top_moved, top_pushed, top_set, pushed_below, zero_below}
-use Rattle.wb_parser.proofs.reduce.replace_top.Goals as goal
+use Rattle.wb_parser_states.specs.Stacks.{last_or}
+use Rattle.wb_parser_states.proofs.StateLemmas.{top_below, top_moved, top_pushed, top_set, pushed_below}
+use Rattle.wb_parser_states.proofs.TableLemmas.{zero_below}
+use Rattle.wb_parser_states.proofs.moves.replace_top.Goals as goal
 
 pub target_of-target-requires-clause-state : goal.target_of-target-requires-clause-state
 target_of-target-requires-clause-state c =

@@ -1,8 +1,8 @@
 use Rattle.std.proofs.Common.{◌≡◌, ℕ, length, Some}
 use Rattle.std.specs.Prelude.{slice_get}
-use Rattle.wb_parser.specs.declared.rules.Rule.{Rule}
-use Rattle.wb_parser.specs.Inner.Rules.{IsRule}
-use Rattle.wb_parser.proofs.rules.rules_of.Given as goal
+use Rattle.wb_parser_states.specs.declared.rules.Rule.{Rule}
+use Rattle.wb_parser_states.specs.Rules.{IsRule}
+use Rattle.wb_parser_states.proofs.rules.rules_of.Given as goal
 
 abbrev pub invariant-productions : goal.invariant-productions
 invariant-productions l = record {

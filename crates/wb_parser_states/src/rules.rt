@@ -1,20 +1,22 @@
 //! Keeps the left side of each production, and the number of symbols on its right. In one short list, since a reduction asks for both.
 
 ghost use Rattle.std.specs.Prelude.{◌<◌, IfOk, length};
-ghost use Rattle.wb_parser.specs.Inner.Rules.{AreRules, IsRule};
+ghost use Rattle.wb_parser_states.specs.Rules.{AreRules, IsRule};
 
 use std::alloc::{AllocError, Global};
 use wb_base::{Grammar, push};
 
-// The left side of a production, and how many symbols are on its right.
+/// The left side of a production, and how many symbols are on its right.
 #[derive(Clone, Copy)]
-pub(crate) struct Rule {
-    pub(crate) left: usize,
-    pub(crate) width: usize,
+pub struct Rule {
+    /// The number of the nonterminal.
+    pub left: usize,
+    /// The number of symbols.
+    pub width: usize,
 }
 
-// Those of all productions, in order.
-pub(crate) fn rules_of(alloc: Global, grammar: &Grammar) -> Result<Vec<Rule>, AllocError>
+/// Those of all productions, by number. The only error is out of memory.
+pub fn rules_of(alloc: Global, grammar: &Grammar) -> Result<Vec<Rule>, AllocError>
     ensures { IfOk result (λ rules. AreRules grammar.now rules.items) }
 {
     let mut rules = Vec::new(alloc);

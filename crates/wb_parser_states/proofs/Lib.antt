@@ -1,0 +1,5 @@
+pub mod TableLemmas
+pub mod StateLemmas
+pub mod RuleLemmas
+pub mod StepLemmas
+pub mod ReadyLemmas

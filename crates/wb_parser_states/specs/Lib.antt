@@ -1,0 +1,6 @@
+-- left sides and widths of productions
+pub mod Rules
+-- the states of a stack of trees, and what a reduction does to them
+pub mod Stacks
+-- what states stand for on a text, and what can be done on the terminal that is next
+pub mod Steps

@@ -1,0 +1,16 @@
+//! The states of an LR parser: what reductions make of them, and what can be done on the terminal that is ahead.
+//!
+//! `wb_parser` keeps values beside states and builds trees. What only reads a text wants the states alone.
+#![tactic(auto)]
+
+mod moves;
+mod outcome;
+mod rules;
+mod stack;
+mod step;
+
+pub use moves::move_states;
+pub use outcome::Outcome;
+pub use rules::{Rule, rules_of};
+pub use stack::top;
+pub use step::reduce_states;
