@@ -1,5 +1,5 @@
-mod TableLemmas
-mod NameLemmas
+pub mod TableLemmas
+pub mod NameLemmas
 pub mod AnswerLemmas
 pub mod ComposedLemmas
 pub mod WithdrawnLemmas

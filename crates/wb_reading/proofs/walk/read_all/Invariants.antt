@@ -1,0 +1,13 @@
+use Rattle.std.proofs.Common.{◌-◌, ◌≤◌, length}
+use Rattle.wb_reading.specs.Inner.Walks.{AreSound, HasRead}
+use Rattle.wb_reading.proofs.walk.read_all.Given as goal
+
+abbrev pub invariant-leaves : goal.invariant-leaves
+invariant-leaves l = record {
+  within : l.at ≤ length l.text;
+  sound : AreSound l.language l.states.items;
+  read : HasRead l.language l.markers l.text l.states.items l.at;
+}
+
+abbrev pub decreases-leaves : goal.decreases-leaves
+decreases-leaves l = length l.text - l.at

@@ -1,0 +1,2 @@
+-- what a walk over a text finds and keeps
+pub mod Walks

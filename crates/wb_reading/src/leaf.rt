@@ -1,0 +1,60 @@
+//! How is one leaf read? It is scanned at the state after the leaf before it, and shifted after the reductions that it asks for.
+
+ghost use Rattle.std.specs.Prelude.{◌≤◌, IfOk, length};
+ghost use Rattle.wb_parser_states.specs.Rules.{AreRules};
+ghost use Rattle.wb_reading.specs.Inner.Walks.{AreSound, HasRead, IsRound, StaysSound};
+
+use crate::HostReading;
+use crate::ahead::{Ahead, ahead_of};
+use std::alloc::AllocError;
+use wb_parser_states::{Outcome, Rule, reduce_states, top};
+use wb_scan::{Language, scan};
+use wb_termset::TermSet;
+
+// What became of one leaf.
+#[derive(Clone, Copy)]
+pub(crate) enum Round {
+    // It was shifted, and the text goes on at this place.
+    Goes(usize),
+    // A marker is next, or no leaf is.
+    Done(HostReading),
+}
+
+// Takes the next leaf of the text, from a place on.
+pub(crate) fn take_leaf(
+    language: &Language,
+    rules: &[Rule],
+    markers: &TermSet,
+    text: &[u8],
+    states: &mut Vec<usize>,
+    at: usize,
+) -> Result<Round, AllocError>
+    requires rules { AreRules language.now.language.grammar rules.now }
+    requires at { at ≤ length text.now }
+    requires sound { AreSound language.now states.old.items }
+    requires read { HasRead language.now markers.now text.now states.old.items at }
+    ensures round { IfOk result (IsRound language.now markers.now text.now states.new.items) }
+    ensures sound { IfOk result (StaysSound language.now (length text.now) at states.new.items) }
+{
+    match ahead_of(markers, scan(language, top(states), text, at)) {
+        Ahead::Marker {
+            at: place,
+            terminal,
+        } => {
+            Ok(Round::Done(HostReading::MarkerAt {
+                at: place,
+                terminal,
+            }))
+        }
+        Ahead::NoLeaf => Ok(Round::Done(HostReading::Same)),
+        Ahead::Leaf { terminal, end } => {
+            match reduce_states(language, rules, states, terminal)? {
+                Outcome::Shifts(target) => {
+                    states.push(target)?;
+                    Ok(Round::Goes(end))
+                }
+                _ => Ok(Round::Done(HostReading::Same)),
+            }
+        }
+    }
+}

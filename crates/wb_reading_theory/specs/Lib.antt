@@ -1,0 +1,18 @@
+-- a grammar that begins with another
+pub mod Grammars
+-- a language that extends another
+pub mod Languages
+-- an attribution that extends another
+pub mod Attributions
+-- a language with attributes that extends another
+pub mod Extends
+-- the first marker of a text
+pub mod Markers
+-- trees and stops of a text without markers
+pub mod Laws
+-- attributes of a tree
+pub mod Attributes
+-- what a text without markers means
+pub mod HostReading
+-- the markers of the union of a host and extensions
+pub mod MarkingTerminals
