@@ -6,7 +6,7 @@ pub mod WithdrawnLemmas
 pub mod AgreesLemmas
 mod AddedLemmas
 -- two languages of a union have the same answers
-mod SameLanguage
+pub mod SameLanguage
 -- the union of no extensions has the answers of the host's own language
 mod HostLemmas
 -- two unions of the same extensions are one

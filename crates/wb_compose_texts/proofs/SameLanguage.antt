@@ -24,7 +24,7 @@ pub still : {X : Type 0} (xs : List X) → IsReordering (λ k. k) (λ k. k) xs x
 still xs = record { there = λ k x at. at; back = λ k x at. at; undone = λ k. refl; redone = λ k. refl }
 
 -- numbers stay
-same_number : (own : ℕ) (sizes : List ℕ) (x : ℕ) → number_to own sizes sizes (λ k. k) x ≡ x
+pub same_number : (own : ℕ) (sizes : List ℕ) (x : ℕ) → number_to own sizes sizes (λ k. k) x ≡ x
 same_number own sizes x = go (located own sizes x)
   where
     go : Located own sizes x → number_to own sizes sizes (λ k. k) x ≡ x

@@ -145,7 +145,7 @@ name_next r whole old now new from k name above below was is pushed =
     ap (λ z. old ++ z) (sym (part_next (grammar_terminals r) from k (terminal_shown r k) above (name_is r whole k below)))))
 
 -- one extension more
-resolved_next : (es : List ExtensionView) (i : ℕ) (e : ExtensionView) (r : ResolvedParts) → i < length es → e ≡ get_or es i e →
+pub resolved_next : (es : List ExtensionView) (i : ℕ) (e : ExtensionView) (r : ResolvedParts) → i < length es → e ≡ get_or es i e →
     r ≡ e.resolved → all_resolved (take (i + 1) es) ≡ all_resolved (take i es) ++ r ∷ []
 resolved_next es i e r less is resolved =
     map_next (λ (e : ExtensionView). e.resolved) es i e (slice_get_read es (length es) i e refl less is) ∙

@@ -30,6 +30,6 @@ pub use root::root_attribute;
 pub use signatures::united_signatures;
 pub use text_answer::TextAnswer;
 pub use text_values::text_value;
-pub use trees::{united_stop, united_text_answer};
+pub use trees::{united_name, united_stop, united_text_answer};
 pub use value::TextValue;
 pub use withdrawn::withdrawn_names;

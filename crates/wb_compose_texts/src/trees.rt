@@ -61,6 +61,19 @@ pub fn united_stop(
     }
 }
 
+/// The name of a terminal of the union, or of the end of a text.
+pub fn united_name(
+    alloc: Global,
+    host: &CertifiedHost,
+    extensions: &[CertifiedExtension],
+    terminal: usize,
+) -> Result<Bytes, AllocError>
+    ensures { IfOk result (λ name. name ≡ name_at (terminals_of host.now.resolved (all_resolved extensions.now)) terminal) }
+{
+    let names = united_terminals(alloc, host, extensions)?;
+    name_of(alloc, names.as_slice(), terminal)
+}
+
 // The answer for what a text was parsed to.
 fn answer_of(
     alloc: Global,
@@ -99,17 +112,4 @@ fn printed(
         Err(PrintRefusal::TooLong) => Ok(TextAnswer::TooLong),
         Err(PrintRefusal::NoMemory(error)) => Err(error),
     }
-}
-
-// The name of a terminal of the union, or of the end of a text.
-fn united_name(
-    alloc: Global,
-    host: &CertifiedHost,
-    extensions: &[CertifiedExtension],
-    terminal: usize,
-) -> Result<Bytes, AllocError>
-    ensures { IfOk result (λ name. name ≡ name_at (terminals_of host.now.resolved (all_resolved extensions.now)) terminal) }
-{
-    let names = united_terminals(alloc, host, extensions)?;
-    name_of(alloc, names.as_slice(), terminal)
 }

@@ -9,7 +9,7 @@ use Rattle.wb_report.specs.Lines.{report_of}
 use Rattle.wb_report.specs.declared.outcome.Outcome.TheVariants as o
 use Rattle.wb_program_words.specs.Asked.{Asked}
 use Rattle.wb_program_words.specs.Words.{Asks, Given, Says, Verb, says_value, says_show, says_check, says_certify, says_compose, says_tree}
-use Rattle.wb_program_words.specs.Words.{says_run, says_generate}
+use Rattle.wb_program_words.specs.Words.{says_run, says_generate, says_reading}
 use Rattle.wb_world.specs.Shelf.{Files}
 use Rattle.wb_program.specs.Inner.Answered.{HasFewLeaves, Replies}
 use Rattle.wb_program.specs.Report.{InCommandSet, IsReportOf}
@@ -29,6 +29,7 @@ few_leaves words asked asks = said asks.says where
   said (says_tree known text) = tt
   said (says_run known text attribute steps) = tt
   said (says_generate known number size attribute) = size.high
+  said (says_reading known text) = tt
 
 -- the answer to a command is the report of the words that ask for it
 pub replies : (operations : Operations) (words : List (List ℕ)) (known : Option Files) (asked : Asked) (answer : Answer) → Asks words asked

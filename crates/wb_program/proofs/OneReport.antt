@@ -23,9 +23,9 @@ use Rattle.wb_program_inputs.proofs.OneHostReport.{AreAlike}
 use Rattle.wb_program_runs.proofs.OneReport.{RunAnswers, one_run_report, one_generate_report}
 use Rattle.wb_program.specs.Laws.{HasOneRefusal, show_refuses, HaveOneStatus, HaveOneText, EndAsReported}
 use Rattle.wb_program.specs.Report.{InCommandSet, IsReportOf, IsAnswered, IsReport, value_report, show_report, check_report, certify_report}
-use Rattle.wb_program.specs.Report.{compose_report, tree_report, run_report, generate_report}
+use Rattle.wb_program.specs.Report.{compose_report, tree_report, run_report, generate_report, reading_report}
 use Rattle.wb_program.specs.ShowReport.{RefusesSpec, ShowReport}
-use Rattle.wb_program.proofs.OneComposeReport.{Answers, one_compose_report, one_tree_report}
+use Rattle.wb_program.proofs.OneComposeReport.{Answers, one_compose_report, one_reading_report, one_tree_report}
 use Rattle.wb_program.proofs.OneExtensionReport.{one_certify_report}
 use Rattle.wb_program.proofs.OneHostReport.{one_check_report}
 use Rattle.wb_program.proofs.OneValueReport.{one_value_report}
@@ -117,6 +117,10 @@ one_report_of answers operations files s t bytes others asked
     (generate_report {number = number} {size = size} {attribute = attribute} {host = host} {extensions = extensions} x) (generate_report y) =
     when_alike (a.generate number size attribute host extensions) s t bytes others tt
     (one_generate_report (runs_of answers) operations files number size attribute host extensions s t bytes others x y)
+one_report_of answers operations files s t bytes others asked (reading_report {text = text} {host = host} {extensions = extensions} x)
+    (reading_report y) =
+    when_alike (a.reading text host extensions) s t bytes others tt
+    (one_reading_report answers operations.signatures files text host extensions s t bytes others x y)
 
 -- words with a report are in the command set
 in_set : (operations : Operations) (known : Option Files) (s : Status) (bytes : List ℕ) (words : List (List ℕ))

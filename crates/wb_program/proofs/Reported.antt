@@ -13,6 +13,8 @@ use Rattle.wb_eval_root.specs.declared.answer.RootAnswer.TheVariants as answered
 use Rattle.wb_syntax.specs.Canonical.{IsCanonical}
 use Rattle.wb_compose_texts.specs.declared.text_answer.TextAnswer.{TextAnswer}
 use Rattle.wb_compose_texts.specs.declared.text_answer.TextAnswer.TheVariants as text
+use Rattle.wb_reading_compose.specs.declared.answer.TextReading.{TextReading}
+use Rattle.wb_reading_compose.specs.declared.answer.TextReading.TheVariants as reading
 use Rattle.wb_program_words.specs.Asked.{Asked}
 use Rattle.wb_world.specs.Shelf.{Files}
 use Rattle.wb_program_inputs.specs.Checks.{Ends, Check}
@@ -24,9 +26,10 @@ use Rattle.wb_program.specs.CertifyReport.{ExtensionsReport, CertifyReport}
 use Rattle.wb_program.specs.CheckReport.{CheckReport}
 use Rattle.wb_program.specs.ComposeReport.{ComposeReport, ComposedLines}
 use Rattle.wb_program_runs.proofs.Reported.{run_reported, generate_reported}
-use Rattle.wb_program.specs.Report.{run_report, generate_report}
+use Rattle.wb_program.specs.Report.{run_report, generate_report, reading_report}
 use Rattle.wb_program.specs.Report.{IsReportOf, value_report, show_report, check_report, certify_report, compose_report, tree_report}
 use Rattle.wb_program.specs.ShowReport.{RefusesSpec, ShowReport}
+use Rattle.wb_program.specs.ReadingReport.{ReadingReport, ShownReading, TextReadingReport}
 use Rattle.wb_program.specs.TreeReport.{ShownText, TextReport, TreeReport}
 use Rattle.wb_program.specs.ValueReport.{RootReport, TermReport, ValueReport}
 use Rattle.wb_program.specs.Written.{WritesNothing}
@@ -113,6 +116,20 @@ tree_reported operations known file host all s bytes =
     (λ r values. by_text known file (λ (contents : List ℕ). TextReport operations r values contents) s bytes
     (λ contents report. shown_reported report.answer s bytes report.shown))
 
+-- the reading of a text
+reading_shown : (read : TextReading) (s : Status) (bytes : List ℕ) → ShownReading read s bytes → IsReported s
+reading_shown reading.Host s bytes (same, line) = subst IsReported (sym same) tt
+reading_shown (reading.MarkerAt place marker) s bytes (same, line) = subst IsReported (sym same) tt
+
+-- a report of `reading`
+reading_reported : (operations : List OperationSignature) (known : Option Files) (file host : List ℕ) (all : List (List ℕ)) (s : Status)
+    (bytes : List ℕ) → ReadingReport operations known file host all s bytes → IsReported s
+reading_reported operations known file host all s bytes =
+    several_reported operations known all s bytes host (λ r values. Check TextTooLong (IsTooLongText known file) (IsText known file)
+    (λ (contents : List ℕ). TextReadingReport operations r values contents))
+    (λ r values. by_text known file (λ (contents : List ℕ). TextReadingReport operations r values contents) s bytes
+    (λ contents report. reading_shown report.reading s bytes report.shown))
+
 -- the report of what is asked
 pub is_reported : (operations : Operations) (known : Option Files) (s : Status) (bytes : List ℕ) (asked : Asked)
     → IsReportOf operations known s bytes asked → IsReported s
@@ -133,3 +150,5 @@ is_reported operations known s bytes asked
 is_reported operations known s bytes asked
     (generate_report {number = number} {size = size} {attribute = attribute} {host = host} {extensions = extensions} report) =
     generate_reported operations known number size attribute host extensions s bytes report
+is_reported operations known s bytes asked (reading_report {text = text} {host = host} {extensions = extensions} report) =
+    reading_reported operations.signatures known text host extensions s bytes report

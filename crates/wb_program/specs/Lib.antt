@@ -6,6 +6,8 @@ pub mod CheckReport
 pub mod CertifyReport
 -- the report of `tree`
 pub mod TreeReport
+-- the report of `reading`
+pub mod ReadingReport
 -- the report of `value`
 pub mod ValueReport
 -- the report of `compose`

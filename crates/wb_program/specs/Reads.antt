@@ -26,6 +26,7 @@ StopsSeveral operations known (a.tree text host extensions) P = StopsComposed op
 StopsSeveral operations known (a.run text attribute steps host extensions) P = RunStops operations known text attribute host extensions P
 StopsSeveral operations known (a.generate number size attribute host extensions) P =
     StopsComposed operations known host extensions P (λ r values. ⊥)
+StopsSeveral operations known (a.reading text host extensions) P = StopsComposed operations known host extensions P (λ r values. P text)
 StopsSeveral operations known other P = ⊥
 
 -- another command comes to read a file that meets this

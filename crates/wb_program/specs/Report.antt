@@ -14,6 +14,7 @@ use Rattle.wb_program_runs.specs.RunReport.{RunReport}
 use Rattle.wb_program.specs.CertifyReport.{CertifyReport}
 use Rattle.wb_program.specs.CheckReport.{CheckReport}
 use Rattle.wb_program.specs.ComposeReport.{ComposeReport}
+use Rattle.wb_program.specs.ReadingReport.{ReadingReport}
 use Rattle.wb_program.specs.ShowReport.{ShowReport}
 use Rattle.wb_program.specs.TreeReport.{TreeReport}
 use Rattle.wb_program.specs.ValueReport.{ValueReport}
@@ -38,6 +39,9 @@ pub data IsReportOf (operations : Operations) (known : Option Files) (status : S
   generate_report : {number size : ℕ} {attribute host : List ℕ} {extensions : List (List ℕ)}
       → GenerateReport operations known number size attribute host extensions status bytes
       → IsReportOf operations known status bytes (a.generate number size attribute host extensions)
+  reading_report : {text host : List ℕ} {extensions : List (List ℕ)}
+      → ReadingReport operations.signatures known text host extensions status bytes
+      → IsReportOf operations known status bytes (a.reading text host extensions)
 
 -- the words ask for a command
 pub record InCommandSet (words : List (List ℕ)) : Type 0 where

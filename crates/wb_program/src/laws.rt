@@ -7,6 +7,7 @@ ghost use Rattle.wb_program.specs.ShownAgain.{IsStable};
 
 use wb_compose_texts::tree_laws::{one_answer_law, withdrawn_law};
 use wb_compose_texts::value_laws::{one_root_law, one_value_law};
+use wb_reading_compose::laws::one_reading_law;
 
 /// Words and files have at most one status that is reported.
 pub fn one_status_law()
@@ -16,6 +17,7 @@ pub fn one_status_law()
     wb_certify_files::header_law();
     withdrawn_law();
     one_answer_law();
+    one_reading_law();
     one_root_law();
     one_value_law();
     wb_compose_texts::generated_laws::one_text_law();
@@ -29,6 +31,7 @@ pub fn one_text_law()
     wb_certify_files::header_law();
     withdrawn_law();
     one_answer_law();
+    one_reading_law();
     one_root_law();
     one_value_law();
     wb_compose_texts::generated_laws::one_text_law();
@@ -43,6 +46,7 @@ pub fn complete_law()
     wb_certify_files::header_law();
     withdrawn_law();
     one_answer_law();
+    one_reading_law();
     one_root_law();
     one_value_law();
     wb_compose_texts::generated_laws::one_text_law();

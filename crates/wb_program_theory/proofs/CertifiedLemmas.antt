@@ -12,6 +12,8 @@ use Rattle.wb_eval_root.specs.declared.value.TreeValue.TheVariants as t
 use Rattle.wb_generate.specs.declared.generated.Generated.{Generated}
 use Rattle.wb_generate.specs.declared.generated.Generated.TheVariants as g
 use Rattle.wb_operations.specs.Operations.{OperationSignature, Operations}
+use Rattle.wb_reading_compose.specs.declared.answer.TextReading.{TextReading}
+use Rattle.wb_reading_compose.specs.declared.answer.TextReading.TheVariants as reading
 use Rattle.wb_report.specs.declared.done.Done.{Done}
 use Rattle.wb_report.specs.declared.done.Done.TheVariants as done
 use Rattle.wb_syntax_resolved.specs.declared.resolved.ResolvedParts.{ResolvedParts}
@@ -26,16 +28,17 @@ use Rattle.wb_program_inputs.proofs.OneSeveralReport.{one_values, refused_or_all
 use Rattle.wb_program_runs.specs.GenerateReport.{GenerateChecks, ShownMade}
 use Rattle.wb_program_runs.specs.RunReport.{RunChecks}
 use Rattle.wb_program_runs.specs.Values.{ShownTextValue, ShownTreeValue}
+use Rattle.wb_program.specs.ReadingReport.{ShownReading}
 use Rattle.wb_program.specs.TreeReport.{ShownText}
 use Rattle.wb_program_theory.specs.Certified.{AreCertified, ComposeChecks, HaveNoRefusal, HaveOneValue, IsItsRest, IsRefusalStatus}
-use Rattle.wb_program_theory.specs.Certified.{TreeChecks}
+use Rattle.wb_program_theory.specs.Certified.{ReadingChecks, TreeChecks}
 use Rattle.wb_program_theory.proofs.FileLemmas.{all_differ}
 
 module _ (extensions : ExcludesExtensions) (headers : ExcludesHeaders) (operations : List OperationSignature) (files : Files)
     (host : List ℕ) (all : List (List ℕ)) (r : ResolvedParts) (values : List ResolvedParts)
     (are : AreCertified operations files host all r values) where
   -- the host's file has one value
-  one_host_value : (q : ResolvedParts) → KnownFile (Some files) host (λ contents. IsHostText operations contents q) → q ≡ r
+  pub one_host_value : (q : ResolvedParts) → KnownFile (Some files) host (λ contents. IsHostText operations contents q) → q ≡ r
   one_host_value q is = on_file (files host) (λ contents. IsHostText operations contents q) (λ contents. IsHostText operations contents r)
       (q ≡ r) (λ contents x y. (one_host operations contents).one q r x y) is are.is_host
 
@@ -88,6 +91,11 @@ tree_value_well shows steps t.MoreSteps s bytes (ends, line) refused = subst IsR
 tree_value_well shows steps t.TooLong s bytes (ends, line) refused = subst IsRefusalStatus ends refused
 tree_value_well shows steps (t.Value printed) s bytes (ends, line) refused = subst IsRefusalStatus ends refused
 
+-- nor is what is read of a text
+read_well : (read : TextReading) (s : Status) (bytes : List ℕ) → ShownReading read s bytes → ¬ IsRefusalStatus s
+read_well reading.Host s bytes (ends, line) refused = subst IsRefusalStatus ends refused
+read_well (reading.MarkerAt place marker) s bytes (ends, line) refused = subst IsRefusalStatus ends refused
+
 -- nor is what comes of a text
 text_value_well : (shows : List ℕ → Done) (steps : ℕ) (value : TextValue) (s : Status) (bytes : List ℕ)
     → ShownTextValue shows steps value s bytes → ¬ IsRefusalStatus s
@@ -110,6 +118,12 @@ module _ (operations : Operations) (files : Files) (r : ResolvedParts) (values :
       → ¬ IsRefusalStatus s
   tree_well text s bytes (inl (ends, x)) refused = subst IsRefusalStatus ends refused
   tree_well text s bytes (inr (contents, is, report)) refused = answer_well report.answer s bytes report.shown refused
+
+  -- nor those of `reading`
+  pub reading_well : (text : List ℕ) (s : Status) (bytes : List ℕ) → ReadingChecks operations.signatures (Some files) text r values s bytes
+      → ¬ IsRefusalStatus s
+  reading_well text s bytes (inl (ends, x)) refused = subst IsRefusalStatus ends refused
+  reading_well text s bytes (inr (contents, is, report)) refused = read_well report.reading s bytes report.shown refused
 
   -- nor those of `run`
   pub run_well : (text name : List ℕ) (steps : ℕ) (s : Status) (bytes : List ℕ)
@@ -145,6 +159,7 @@ no_refusal extensions headers operations files host all r values are = record {
       (run_well operations files r values text name steps);
   generate = λ number size name. rest_of (GenerateChecks operations number size name)
       (generate_well operations files r values number size name);
+  reading = λ text. rest_of (ReadingChecks operations.signatures (Some files) text) (reading_well operations files r values text);
 }
   where
     rest_of : (rest : ResolvedParts → List ResolvedParts → Report)

@@ -21,13 +21,13 @@ use Rattle.wb_program_words.proofs.OneAsked.{one_asked}
 use Rattle.wb_program_words.specs.Asked.{Asked}
 use Rattle.wb_program.specs.Laws.{HaveOneStatus}
 use Rattle.wb_program.specs.Report.{IsReportOf, certify_report, check_report, compose_report, generate_report, run_report, show_report}
-use Rattle.wb_program.specs.Report.{tree_report, value_report}
+use Rattle.wb_program.specs.Report.{reading_report, tree_report, value_report}
 use Rattle.wb_program.specs.ShowReport.{ShowReport}
 use Rattle.wb_program.specs.ValueReport.{RootReport, ValueReport}
-use Rattle.wb_program_theory.specs.Certified.{ComposeChecks, IsRefusalStatus, TreeChecks}
+use Rattle.wb_program_theory.specs.Certified.{ComposeChecks, IsRefusalStatus, ReadingChecks, TreeChecks}
 use Rattle.wb_program_theory.specs.Codes.{HaveOneCode, IsCodeStatus, ShowOneCode}
 use Rattle.wb_program_theory.proofs.AlikeLemmas.{IsTold, told_alike, written_alike}
-use Rattle.wb_program_theory.proofs.CertifiedLemmas.{compose_well, generate_well, run_well, tree_well}
+use Rattle.wb_program_theory.proofs.CertifiedLemmas.{compose_well, generate_well, reading_well, run_well, tree_well}
 use Rattle.wb_program_theory.proofs.FileLemmas.{file_is}
 use Rattle.wb_program_theory.proofs.HostCodes.{IsWellDefinedShown, attributes_shown, well_defined_alike, written_shown}
 use Rattle.wb_program_theory.proofs.MarkerCodes.{RefusalsExclude}
@@ -136,6 +136,14 @@ module _ (extensions : ExcludesExtensions) (headers : ExcludesHeaders) (marks : 
           (several_refused extensions headers marks operations.signatures files t others code' host all
           (GenerateChecks operations number size name)
           (λ r values report. generate_well operations files r values number size name t others report (refuses t code')) y)
+      asked_code asked (reading_report {text = text} {host = host} {extensions = all} x) (reading_report y) =
+          one_file_code extensions headers marks operations.signatures files host all bytes others
+          (several_refused extensions headers marks operations.signatures files s bytes code host all
+          (ReadingChecks operations.signatures (Some files) text)
+          (λ r values report. reading_well operations files r values text s bytes report (refuses s code)) x)
+          (several_refused extensions headers marks operations.signatures files t others code' host all
+          (ReadingChecks operations.signatures (Some files) text)
+          (λ r values report. reading_well operations files r values text t others report (refuses t code')) y)
 
 -- words and known files have one code
 pub one_code : ExcludesExtensions → ExcludesHeaders → RefusalsExclude → HaveOneStatus → HaveOneCode

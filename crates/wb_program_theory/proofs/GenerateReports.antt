@@ -55,6 +55,7 @@ small_enough w.says_certify number size name host extensions is = absurd (cc)
 small_enough w.says_compose number size name host extensions is = absurd (cc)
 small_enough (w.says_tree among given) number size name host extensions is = absurd (cc)
 small_enough (w.says_run among given attribute steps) number size name host extensions is = absurd (cc)
+small_enough (w.says_reading among given) number size name host extensions is = absurd (cc)
 
 module _ (operations : Operations) (r : ResolvedParts) (values : List ResolvedParts) (differ : Differ (names_of values))
     (are : AreOperations operations) (match : AllMatch r values) (name : List ℕ) (number size : ℕ) (small : size ≤ 100000)

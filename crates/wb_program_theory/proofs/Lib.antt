@@ -16,6 +16,9 @@ mod RunReports
 mod PrefixedExist
 mod ExpressionsExist
 mod GenerateReports
+mod ReadingReports
+mod ReadingLemmas
+mod HostWords
 mod ReportsExist
 mod WordLemmas
 mod ChainLemmas

@@ -10,6 +10,7 @@ use Rattle.wb_program_inputs.specs.SeveralChecks.{RefusesEach, RefusesNext, Seve
 use Rattle.wb_program_inputs.specs.declared.status.Status.{Status}
 use Rattle.wb_program_inputs.specs.declared.status.Status.TheVariants.{DuplicateExtension, NotCertified, SpecRefused, TooManyExtensions}
 use Rattle.wb_program_inputs.specs.declared.status.Status.TheVariants.{WrongHost}
+use Rattle.wb_program_theory.specs.Certified.{AreCertified}
 use Rattle.wb_program_theory.proofs.FileLemmas.{AreReordered, names_differ, no_fewer, reordered_are}
 
 -- no status that meets this refuses the host or an extension
@@ -57,3 +58,18 @@ module _ (P : Status → Type 0) (none : RefusesNone P) (operations : List Opera
           omega (arith, few, as_few),
           inr (inr (r, is, inr (x.in_order, x.each, goes_on r values x.in_order x.reordering differ report))),
         )
+
+-- a report with such a status is of files that hold a certified host and certified extensions, and is the rest of theirs
+pub several_certified : (P : Status → Type 0) → RefusesNone P → (operations : List OperationSignature) (files : Files) (status : Status)
+    (bytes : List ℕ) → P status → (rest : ResolvedParts → List ResolvedParts → Report) (host : List ℕ) (all : List (List ℕ))
+    → SeveralChecks operations (Some files) host all rest status bytes
+    → (r : ResolvedParts) × (values : List ResolvedParts) × AreCertified operations files host all r values × rest r values status bytes
+several_certified P none operations files status bytes meets rest host all (inl (ends, x)) = absurd (none.many (subst P ends meets))
+several_certified P none operations files status bytes meets rest host all (inr (few, inl (ends, x))) =
+    absurd (none.specification (subst P ends meets))
+several_certified P none operations files status bytes meets rest host all (inr (few, inr (inl (ends, x)))) =
+    absurd (none.certification (subst P ends meets))
+several_certified P none operations files status bytes meets rest host all (inr (few, inr (inr (r, is, inl refused)))) =
+    absurd (not_refused P none operations files status bytes meets r all [] refused)
+several_certified P none operations files status bytes meets rest host all (inr (few, inr (inr (r, is, inr (values, each, report))))) =
+    (r, values, record { is_host = is; few = few; each = each }, report)

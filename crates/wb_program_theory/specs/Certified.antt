@@ -15,6 +15,7 @@ use Rattle.wb_program_inputs.specs.declared.status.Status.TheVariants.{TooManyEx
 use Rattle.wb_program_runs.specs.GenerateReport.{GenerateChecks, GenerateReport}
 use Rattle.wb_program_runs.specs.RunReport.{RunChecks, RunReport}
 use Rattle.wb_program.specs.ComposeReport.{ComposeReport, ComposedLines}
+use Rattle.wb_program.specs.ReadingReport.{ReadingReport, TextReadingReport}
 use Rattle.wb_program.specs.TreeReport.{TextReport, TreeReport}
 
 -- the files hold a certified host of this value, and at most 64 extensions of these values, each certified with the host and with another
@@ -33,6 +34,11 @@ ComposeChecks operations host extensions = Ends Done (ComposedLines operations h
 abbrev pub TreeChecks : List OperationSignature → Option Files → (text : List ℕ) → ResolvedParts → List ResolvedParts → Report
 TreeChecks operations known file host extensions =
     Check TextTooLong (IsTooLongText known file) (IsText known file) (λ (text : List ℕ). TextReport operations host extensions text)
+
+-- what `reading` reports of them: that the text is too long, or the text's reading in their language
+abbrev pub ReadingChecks : List OperationSignature → Option Files → (text : List ℕ) → ResolvedParts → List ResolvedParts → Report
+ReadingChecks operations known file host extensions =
+    Check TextTooLong (IsTooLongText known file) (IsText known file) (λ (text : List ℕ). TextReadingReport operations host extensions text)
 
 -- a status that says that a host or an extension is refused, or that there are too many extensions: 3, 4, 14, 15 or 16
 abbrev pub IsRefusalStatus : Status → Type 0
@@ -62,6 +68,9 @@ pub record HaveNoRefusal (operations : Operations) (files : Files) (host : List 
   pub generate : (number size : ℕ) (name : List ℕ)
       → IsItsRest (GenerateReport operations (Some files) number size name host extensions)
       (GenerateChecks operations number size name r values)
+  pub reading : (text : List ℕ)
+      → IsItsRest (ReadingReport operations.signatures (Some files) text host extensions)
+      (ReadingChecks operations.signatures (Some files) text r values)
 
 -- the files hold no other certified host and extensions than these, whose names differ
 pub record HaveOneValue (operations : List OperationSignature) (files : Files) (host : List ℕ) (extensions : List (List ℕ))

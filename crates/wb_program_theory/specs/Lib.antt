@@ -4,6 +4,10 @@ pub mod ValueLaws
 pub mod Laws
 -- reports of `run` with extensions in two orders
 pub mod RunLaws
+-- reports of texts without markers
+pub mod ReadingLaws
+-- and of words that ask for a command with extensions and without, of such a text
+pub mod ReadingWords
 -- reports of files that hold a certified host and certified extensions
 pub mod Certified
 -- that a text has an answer

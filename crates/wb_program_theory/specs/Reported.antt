@@ -60,6 +60,14 @@ HaveComposeReport = (operations : Operations) (words : List (List ℕ)) (files :
     (r : ResolvedParts) (values : List ResolvedParts) → Asks words (a.compose host extensions)
     → AreCertified operations.signatures files host extensions r values → ¬ ¬ HaveReport operations words files IsDone
 
+-- where they ask for `reading`, files are certified, and the text's file is known and isn't too long, they have one with status 0: that
+-- they have none can't be
+abbrev pub HaveReadingReport : Type 0
+HaveReadingReport = (operations : Operations) (words : List (List ℕ)) (files : Files) (text host : List ℕ) (extensions : List (List ℕ))
+    (r : ResolvedParts) (values : List ResolvedParts) (contents : List ℕ) → Asks words (a.reading text host extensions)
+    → AreCertified operations.signatures files host extensions r values → IsText (Some files) text contents
+    → ¬ ¬ HaveReport operations words files IsDone
+
 -- the file is there
 abbrev pub IsThere : Files → List ℕ → Type 0
 IsThere files file = (contents : List ℕ) × (files file ≡ Some contents)
@@ -84,8 +92,8 @@ HaveGenerateReport = (operations : Operations) (words : List (List ℕ)) (files 
     → Asks words (a.generate number size name host extensions) → AreCertified operations.signatures files host extensions r values
     → ¬ ¬ HaveReport operations words files IsAny
 
--- what is asked of these files: `check`, `certify`, `compose`, or `tree` or `run` where the text's file is there, or `generate` where each
--- of their terminals matches some text
+-- what is asked of these files: `check`, `certify`, `compose`, or `tree`, `run` or `reading` where the text's file is there, or `generate`
+-- where each of their terminals matches some text
 pub data IsAskedOf (files : Files) (host : List ℕ) (extensions : List (List ℕ)) (r : ResolvedParts) (values : List ResolvedParts)
     : Asked → Type 0 where
   of_check : IsAskedOf files host extensions r values (a.check host)
@@ -96,6 +104,7 @@ pub data IsAskedOf (files : Files) (host : List ℕ) (extensions : List (List �
       → IsAskedOf files host extensions r values (a.run text name steps host extensions)
   of_generate : {number size : ℕ} {name : List ℕ} → AllMatch r values
       → IsAskedOf files host extensions r values (a.generate number size name host extensions)
+  of_reading : {text : List ℕ} → IsThere files text → IsAskedOf files host extensions r values (a.reading text host extensions)
 
 -- where operations take and give plain values of their kinds, files are certified, and the words ask for one of these commands of them,
 -- they have a report: that they have none can't be

@@ -13,9 +13,9 @@ ghost use Rattle.wb_world.specs.Shelf.{Files};
 use wb_certify_files::{header_law, one_extension_answer_law};
 use wb_program::{one_status_law, one_text_law};
 
-/// Where files hold a certified host and at most 64 extensions, each certified with it and named apart, `compose`, `tree`, `run` and
-/// `generate` refuse nothing: no report of theirs has status 3, 4, 14, 15 or 16. What they report is what comes after these checks, of the
-/// one host and the extensions that the files hold.
+/// Where files hold a certified host and at most 64 extensions, each certified with it and named apart, `compose`, `tree`, `run`,
+/// `generate` and `reading` refuse nothing: no report of theirs has status 3, 4, 14, 15 or 16. What they report is what comes after these
+/// checks, of the one host and the extensions that the files hold.
 pub fn no_refusal_law()
     ensures accepted { (operations : Operations) (files : Files) (host : List ℕ) (extensions : List (List ℕ)) (r : ResolvedParts) (values : List ResolvedParts) → AreCertified operations.signatures files host extensions r values → HaveNoRefusal operations files host extensions r values }
     ensures one { (operations : List OperationSignature) (files : Files) (host : List ℕ) (extensions : List (List ℕ)) (r : ResolvedParts) (values : List ResolvedParts) → AreCertified operations files host extensions r values → HaveOneValue operations files host extensions r values }
@@ -94,8 +94,8 @@ pub fn generate_report_law()
     header_law();
 }
 
-/// So words that ask for `check`, `certify`, `compose`, `tree`, `run` or `generate` of certified files have a report, where a text's file is
-/// there, or each terminal matches some text: that they have none can't be.
+/// So words that ask for `check`, `certify`, `compose`, `tree`, `run`, `generate` or `reading` of certified files have a report, where a
+/// text's file is there, or each terminal matches some text: that they have none can't be.
 pub fn report_law()
     ensures { HaveReports }
 {

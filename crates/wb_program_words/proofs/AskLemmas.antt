@@ -8,7 +8,7 @@ use Rattle.wb_program_words.specs.Asked.{Asked}
 use Rattle.wb_program_words.specs.Commands.{asked_by}
 use Rattle.wb_program_words.specs.Words.{Asks, AreOptions, Given, Says, Splits, Verb, verb_text, says_value, says_show, says_check}
 use Rattle.wb_program_words.specs.Words.{says_certify}
-use Rattle.wb_program_words.specs.Words.{says_compose, says_tree, says_run, says_generate}
+use Rattle.wb_program_words.specs.Words.{says_compose, says_tree, says_run, says_generate, says_reading}
 use Rattle.wb_program_words.specs.declared.command.Command.{Command}
 use Rattle.wb_program_words.specs.Inner.Parts.{IsSplit, HasNoSplit}
 use Rattle.wb_program_words.specs.Inner.Sayings.{IsSaid, NeverSaid}
@@ -82,6 +82,8 @@ says_known verb options words asked (says_generate allowed first second named) =
     weaker_names (codes "number" ∷ codes "size" ∷ codes "attr" ∷ []) options
     (inside (codes "number") (codes "size" ∷ codes "attr" ∷ []) has_number
     (inside (codes "size") (codes "attr" ∷ []) has_size (inside (codes "attr") [] has_attribute outside))) allowed
+says_known verb options words asked (says_reading allowed has) =
+    weaker_names (codes "text" ∷ []) options (inside (codes "text") [] has_text outside) allowed
 
 -- no words ask nothing
 pub nothing_asks : (words : List (List ℕ)) (asked : Asked) → words ≡ [] → ¬ Asks words asked

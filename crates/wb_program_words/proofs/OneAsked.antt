@@ -13,8 +13,9 @@ use Rattle.wb_program_words.specs.Asked.{Asked}
 use Rattle.wb_program_words.specs.Laws.{AskOneThing}
 use Rattle.wb_program_words.specs.Words.{IsPositional, Given, Splits, HasOption, HasNumber, HasSteps, Verb, verb_text, Says, Value, Show}
 use Rattle.wb_program_words.specs.Words.{Check}
-use Rattle.wb_program_words.specs.Words.{Certify, Compose, Tree, Run, Generate, no_option, apart, joined, says_value, says_show, says_check}
-use Rattle.wb_program_words.specs.Words.{says_certify, says_compose, says_tree, says_run, says_generate}
+use Rattle.wb_program_words.specs.Words.{Certify, Compose, Tree, Run, Generate, Reading, no_option, apart, joined}
+use Rattle.wb_program_words.specs.Words.{says_value, says_show, says_check}
+use Rattle.wb_program_words.specs.Words.{says_certify, says_compose, says_tree, says_run, says_generate, says_reading}
 
 -- what no verbs have in common, from their first and third byte
 key : List ℕ → ℕ
@@ -28,7 +29,7 @@ verb_of : ℕ → Verb
 verb_of k =
     if k == 344 then Value else if k == 341 then Show else if k == 299 then Check else if k == 312 then Certify else if k == 307 then
     Compose
-    else if k == 333 then Tree else if k == 338 then Run else Generate
+    else if k == 333 then Tree else if k == 338 then Run else if k == 325 then Reading else Generate
 
 -- the verb of a verb's text is itself
 verb_back : (v : Verb) → verb_of (key (verb_text v)) ≡ v
@@ -41,6 +42,7 @@ verb_back Compose = refl
 verb_back Tree = refl
 verb_back Run = refl
 verb_back Generate = refl
+verb_back Reading = refl
 
 -- a text is of one verb
 pub verb_text-injective : (u v : Verb) → verb_text u ≡ verb_text v → u ≡ v
@@ -167,6 +169,9 @@ one_said Generate options words x y (says_generate {attribute = attribute} {numb
     let numbers : number ≡ number' = one_number options are.once (codes "number") 0 (2 ^ 64 - 1) number number' first first' in
     let sizes : size ≡ size' = one_number options are.once (codes "size") 0 100000 size size' second second' in
     let names_same : attribute ≡ attribute' = one_value options are.once (codes "attr") attribute attribute' named named' in
+    cc
+one_said Reading options words x y (says_reading {text = text} are has) (says_reading {text = other} are' has') =
+    let same : text ≡ other = one_value options are.once (codes "text") text other has has' in
     cc
 
 -- words ask one thing at most

@@ -10,10 +10,11 @@ use Rattle.wb_lemmas.proofs.Parts.{take_to_end}
 use Rattle.wb_program_words.specs.Asked.{Asked}
 use Rattle.wb_program_words.specs.Asked as a
 use Rattle.wb_program_words.specs.Words.{Given, HasOption, HasNumber, HasSteps, Says, Value, Show, Check, Certify, Compose, Tree, Run}
-use Rattle.wb_program_words.specs.Words.{Generate, texts}
-use Rattle.wb_program_words.specs.Words.{says_value, says_show, says_check, says_certify, says_compose, says_tree, says_run, says_generate}
+use Rattle.wb_program_words.specs.Words.{Generate, Reading, texts}
+use Rattle.wb_program_words.specs.Words.{says_value, says_show, says_check, says_certify, says_compose, says_tree, says_run}
+use Rattle.wb_program_words.specs.Words.{says_generate, says_reading}
 use Rattle.wb_program_words.specs.Inner.Numbers.{IsNumberFrom}
-use Rattle.wb_program_words.specs.Inner.Sayings.{GivesOnly, NeverSaid}
+use Rattle.wb_program_words.specs.Inner.Sayings.{AreTextWords, GivesOnly, NeverNameText, NeverSaid}
 use Rattle.wb_program_words.specs.Inner.Slots.{AreSlots, all_names, names_of}
 use Rattle.wb_program_words.proofs.OneAsked.{one_value}
 use Rattle.wb_program_words.proofs.SayingLemmas.{allowed_options, only_allowed, text_pairs, run_pairs, generate_pairs}
@@ -94,9 +95,9 @@ module _ (options : List Given) (words : List (List ℕ)) (none : options ≡ []
 
 module _ (slots : List Slot) (five : length slots ≡ 5) where
   -- with another option they say nothing
-  pub never_tree : (words : List (List ℕ)) → ¬ GivesOnly slots (0 ∷ []) → NeverSaid Tree slots words
-  never_tree words given_some options asked are (says_tree allowed has) =
-      given_some (only_allowed options slots are five (0 ∷ []) (codes "text" ∷ []) text_pairs allowed)
+  pub never_text : (words : List (List ℕ)) → ¬ GivesOnly slots (0 ∷ []) → NeverNameText slots words
+  never_text words given_some options text host extensions are named =
+      given_some (only_allowed options slots are five (0 ∷ []) (codes "text" ∷ []) text_pairs named.known)
 
   pub never_run : (words : List (List ℕ)) → ¬ GivesOnly slots (0 ∷ 1 ∷ 2 ∷ []) → NeverSaid Run slots words
   never_run words given_some options asked are (says_run allowed has named limit) =
@@ -114,8 +115,8 @@ module _ (slots : List Slot) (five : length slots ≡ 5) where
       (slice_get-map (λ (o : Given). o.name) options has.place ∙ ap (option_map (λ (o : Given). o.name)) has.given))
 
   -- and without one that they need neither
-  pub tree_wants_text : (words : List (List ℕ)) → slice_get slots 0 ≡ Some None → NeverSaid Tree slots words
-  tree_wants_text words free options asked are (says_tree {text = text} allowed has) = no_value options 0 (codes "text") text are refl free has
+  pub wants_text : (words : List (List ℕ)) → slice_get slots 0 ≡ Some None → NeverNameText slots words
+  wants_text words free options text host extensions are named = no_value options 0 (codes "text") text are refl free named.given
 
   pub run_wants_text : (words : List (List ℕ)) → slice_get slots 0 ≡ Some None → NeverSaid Run slots words
   run_wants_text words free options asked are (says_run {text = text} allowed has named limit) = no_value options 0 (codes "text") text are refl free has
@@ -187,13 +188,14 @@ module _ (slots : List Slot) (five : length slots ≡ 5) where
   }
 
   -- what they say
-  pub said_tree : (words : List (List ℕ)) → (options : List Given) (w : Bor (List ℕ)) (host : List ℕ) (extensions : List (List ℕ)) → AreSlots options slots
-      → GivesOnly slots (0 ∷ []) → slice_get slots 0 ≡ Some (Some w) → words ≡ host ∷ extensions
-      → Says Tree options words (a.tree w.now host extensions)
-  said_tree words options w host extensions are only there is =
-      subst (λ (ws : List (List ℕ)). Says Tree options ws (a.tree w.now host extensions)) (sym is)
-      (says_tree (allowed_options options slots are five (0 ∷ []) (codes "text" ∷ []) text_pairs only)
-      (slot_value options 0 (codes "text") w are refl there))
+  pub named_text : (words : List (List ℕ)) (options : List Given) (w : Bor (List ℕ)) (host : List ℕ) (extensions : List (List ℕ))
+      → AreSlots options slots → GivesOnly slots (0 ∷ []) → slice_get slots 0 ≡ Some (Some w) → words ≡ host ∷ extensions
+      → AreTextWords options words w.now host extensions
+  named_text words options w host extensions are only there is = record {
+    known = allowed_options options slots are five (0 ∷ []) (codes "text" ∷ []) text_pairs only;
+    given = slot_value options 0 (codes "text") w are refl there;
+    are = is;
+  }
 
   -- the limit of steps
   pub steps_given : (options : List Given) (w : Bor (List ℕ)) (steps : ℕ) → AreSlots options slots → slice_get slots 2 ≡ Some (Some w)
@@ -221,3 +223,23 @@ module _ (slots : List Slot) (five : length slots ≡ 5) where
       (has_number options 3 (codes "number") w 0 (2 ^ 64 - 1) number are refl at_number is_number)
       (has_number options 4 (codes "size") v 0 100000 size are refl at_size is_size)
       (slot_value options 1 (codes "attr") u are refl at_attribute))
+
+-- `tree` and `reading` say what the words of a text are
+module _ (options : List Given) (words : List (List ℕ)) (text host : List ℕ) (extensions : List (List ℕ))
+    (named : AreTextWords options words text host extensions) where
+  pub said_tree : Says Tree options words (a.tree text host extensions)
+  said_tree = subst (λ (ws : List (List ℕ)). Says Tree options ws (a.tree text host extensions)) (sym named.are)
+      (says_tree named.known named.given)
+
+  pub said_reading : Says Reading options words (a.reading text host extensions)
+  said_reading = subst (λ (ws : List (List ℕ)). Says Reading options ws (a.reading text host extensions)) (sym named.are)
+      (says_reading named.known named.given)
+
+-- and nothing of other words
+pub never_tree : (slots : List Slot) (words : List (List ℕ)) → NeverNameText slots words → NeverSaid Tree slots words
+never_tree slots words never options asked are (says_tree {text = text} {host = host} {extensions = extensions} allowed has) =
+    never options text host extensions are (record { known = allowed; given = has; are = refl })
+
+pub never_reading : (slots : List Slot) (words : List (List ℕ)) → NeverNameText slots words → NeverSaid Reading slots words
+never_reading slots words never options asked are (says_reading {text = text} {host = host} {extensions = extensions} allowed has) =
+    never options text host extensions are (record { known = allowed; given = has; are = refl })

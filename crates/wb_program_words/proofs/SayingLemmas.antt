@@ -12,7 +12,7 @@ use Rattle.wb_lemmas.proofs.Members.{contains_at, contains_cases, contains_first
 use Rattle.wb_lemmas.proofs.Places.{at_within, nothing_at}
 use Rattle.wb_program_words.specs.Asked.{Asked}
 use Rattle.wb_program_words.specs.Words.{Given, HasOption, AreOptions, Says, Verb, Value, Show, Check, Certify, Compose, Tree, Run}
-use Rattle.wb_program_words.specs.Words.{Generate}
+use Rattle.wb_program_words.specs.Words.{Generate, Reading}
 use Rattle.wb_program_words.specs.Words.{says_value, says_show, says_check, says_certify, says_compose}
 use Rattle.wb_program_words.specs.Inner.Sayings.{GivesOnly, NeverSaid, IsPlainVerb}
 use Rattle.wb_program_words.specs.Inner.Slots.{AreSlots, all_names, names_of}
@@ -153,6 +153,7 @@ says_no_options Compose options words asked plain says_compose = refl
 says_no_options Tree options words asked plain says = absurd plain
 says_no_options Run options words asked plain says = absurd plain
 says_no_options Generate options words asked plain says = absurd plain
+says_no_options Reading options words asked plain says = absurd plain
 
 -- such a verb says nothing where an option is given
 pub never_with_options : (verb : Verb) (slots : List Slot) (words : List (List ℕ)) → IsPlainVerb verb → length slots ≡ 5

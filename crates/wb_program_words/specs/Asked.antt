@@ -19,3 +19,5 @@ pub data Asked : Type 0 where
   run : (text attribute : List ℕ) (steps : ℕ) (host : List ℕ) (extensions : List (List ℕ)) → Asked
   -- make the text of this number with so many leaves at most, and evaluate an attribute at its root
   generate : (number size : ℕ) (attribute host : List ℕ) (extensions : List (List ℕ)) → Asked
+  -- say whether a text reads as in its host alone, or which marker is the first in it
+  reading : (text host : List ℕ) (extensions : List (List ℕ)) → Asked

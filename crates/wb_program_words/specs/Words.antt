@@ -70,6 +70,7 @@ pub data Verb : Type 0 where
   Tree : Verb
   Run : Verb
   Generate : Verb
+  Reading : Verb
 
 -- how the verb is written
 abbrev pub verb_text : Verb → List ℕ
@@ -81,6 +82,7 @@ verb_text Compose = codes "compose"
 verb_text Tree = codes "tree"
 verb_text Run = codes "run"
 verb_text Generate = codes "generate"
+verb_text Reading = codes "reading"
 
 -- a verb with these options and positional words asks this
 pub data Says : Verb → List Given → List (List ℕ) → Asked → Type 0 where
@@ -107,6 +109,9 @@ pub data Says : Verb → List Given → List (List ℕ) → Asked → Type 0 whe
       → AreOptions (codes "number" ∷ codes "size" ∷ codes "attr" ∷ []) options → HasNumber options (codes "number") 0 (2 ^ 64 - 1) number
       → HasNumber options (codes "size") 0 100000 size → HasOption options (codes "attr") attribute
       → Says Generate options (host ∷ extensions) (a.generate number size attribute host extensions)
+  -- reading --text FILE HOST EXT..
+  says_reading : {options : List Given} {text host : List ℕ} {extensions : List (List ℕ)} → AreOptions (codes "text" ∷ []) options
+      → HasOption options (codes "text") text → Says Reading options (host ∷ extensions) (a.reading text host extensions)
 
 -- the words ask this
 pub record Asks (words : List (List ℕ)) (asked : Asked) : Type 0 where

@@ -49,4 +49,10 @@ pub enum Command<'a> {
         host: &'a str,
         extensions: &'a [String],
     },
+    /// `reading --text FILE HOST EXT..`
+    Reading {
+        text: &'a str,
+        host: &'a str,
+        extensions: &'a [String],
+    },
 }

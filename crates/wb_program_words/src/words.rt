@@ -7,11 +7,19 @@ ghost use Rattle.wb_program_words.specs.Asked.{Asked};
 ghost use Rattle.wb_program_words.specs.Commands.{asked_by};
 ghost use Rattle.wb_program_words.specs.Words.{Asks, texts};
 ghost use Rattle.wb_program_words.specs.Words as w;
-ghost use Rattle.wb_program_words.specs.Inner.Sayings.{GivesOnly, IsSaid, NeverSaid};
+ghost use Rattle.wb_program_words.specs.Inner.Sayings.{GivesOnly, IsSaid, NameText, NeverNameText, NeverSaid};
 
 use crate::Command;
 use crate::numbers::number_in;
 use crate::options::{ATTRIBUTE, NUMBER, SIZE, STEPS, TEXT, options_of};
+
+// A text, and the host and the extensions in whose language it is.
+#[derive(Clone, Copy)]
+struct TextWords<'a> {
+    text: &'a str,
+    host: &'a str,
+    extensions: &'a [String],
+}
 
 /// The command that the words ask for, where they ask for one: the words are those after the name of the program.
 ///
@@ -36,6 +44,7 @@ pub fn command_of(words: &[String]) -> Option<Command<'_>>
         "tree" => tree_of(slots, positional),
         "run" => run_of(slots, positional),
         "generate" => generate_of(slots, positional),
+        "reading" => reading_of(slots, positional),
         _ => None,
     }
 }
@@ -123,18 +132,11 @@ fn tree_of<'a>(slots: &[Option<&'a str>; 5], positional: &'a [String]) -> Option
     ensures some { IfSome result (IsSaid w.Tree slots.now (texts positional.now)) }
     ensures none { IfNone result (NeverSaid w.Tree slots.now (texts positional.now)) }
 {
-    let [host, extensions @ ..] = positional else {
-        return None;
-    };
-    if !gives_only(slots, &[TEXT]) {
-        return None;
-    }
-    let text = slots[TEXT]?;
-    let host = host.as_str();
+    let words = text_words_of(slots, positional)?;
     Some(Command::Tree {
-        text,
-        host,
-        extensions,
+        text: words.text,
+        host: words.host,
+        extensions: words.extensions,
     })
 }
 
@@ -184,6 +186,42 @@ fn generate_of<'a>(slots: &[Option<&'a str>; 5], positional: &'a [String]) -> Op
         number,
         size,
         attribute,
+        host,
+        extensions,
+    })
+}
+
+// `reading --text FILE HOST EXT..`
+fn reading_of<'a>(slots: &[Option<&'a str>; 5], positional: &'a [String]) -> Option<Command<'a>>
+    ensures some { IfSome result (IsSaid w.Reading slots.now (texts positional.now)) }
+    ensures none { IfNone result (NeverSaid w.Reading slots.now (texts positional.now)) }
+{
+    let words = text_words_of(slots, positional)?;
+    Some(Command::Reading {
+        text: words.text,
+        host: words.host,
+        extensions: words.extensions,
+    })
+}
+
+// `--text FILE HOST EXT..`
+fn text_words_of<'a>(
+    slots: &[Option<&'a str>; 5],
+    positional: &'a [String],
+) -> Option<TextWords<'a>>
+    ensures some { IfSome result (NameText slots.now (texts positional.now)) }
+    ensures none { IfNone result (NeverNameText slots.now (texts positional.now)) }
+{
+    let [host, extensions @ ..] = positional else {
+        return None;
+    };
+    if !gives_only(slots, &[TEXT]) {
+        return None;
+    }
+    let text = slots[TEXT]?;
+    let host = host.as_str();
+    Some(TextWords {
+        text,
         host,
         extensions,
     })

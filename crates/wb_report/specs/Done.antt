@@ -18,6 +18,10 @@ extension_lines names = flat_map (λ name. codes "certified extension " ++ name 
 abbrev pub prefix_lines : List (List ℕ) → List ℕ
 prefix_lines markers = flat_map (λ marker. codes "prefix " ++ marker ++ codes "\n") markers
 
+-- the first marker of a text and its place
+abbrev pub marker_line : List ℕ → ℕ → List ℕ
+marker_line marker place = codes "marker " ++ marker ++ codes " at " ++ decimal place ++ codes "\n"
+
 -- the report of what a command shows that comes to its end
 abbrev pub done_lines : Done → List ℕ
 done_lines (d.Value attribute value) = value_line attribute value
@@ -28,3 +32,5 @@ done_lines (d.Composed host extensions prefixed) =
 done_lines (d.Tree text) = text ++ codes "\n"
 done_lines (d.Generated leaves bytes attribute value) =
     codes "leaves " ++ decimal leaves ++ codes "\nbytes " ++ decimal bytes ++ codes "\n" ++ value_line attribute value
+done_lines d.HostReading = codes "host reading\n"
+done_lines (d.MarkerAt marker place) = marker_line marker place

@@ -10,7 +10,7 @@ use Rattle.wb_report.specs.Reasons.{refusal_text}
 
 -- for words that are no command
 abbrev pub usage_line : List ℕ
-usage_line = codes "usage: workbench value|show|check|certify|compose|tree|run|generate ARGUMENTS\n"
+usage_line = codes "usage: workbench value|show|check|certify|compose|tree|run|generate|reading ARGUMENTS\n"
 
 -- the lines of an outcome
 abbrev pub report_of : Outcome → List ℕ

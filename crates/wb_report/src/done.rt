@@ -3,7 +3,7 @@
 ghost use Rattle.std.specs.Prelude.{◌≡◌, ◌++◌, OnOk};
 ghost use Rattle.std.specs.Fmt.{decimal};
 ghost use lib.Chars.{codes};
-ghost use Rattle.wb_report.specs.Done.{done_lines, extension_lines, prefix_lines, value_line};
+ghost use Rattle.wb_report.specs.Done.{done_lines, extension_lines, marker_line, prefix_lines, value_line};
 
 use crate::pieces::{Piece, push_line, push_pieces};
 use std::alloc::AllocError;
@@ -39,6 +39,13 @@ pub enum Done {
         attribute: Bytes,
         value: Sequence<u8>,
     },
+    /// A text means to a host with extensions what it means to the host.
+    HostReading,
+    /// The first marker of a text, which begins at this place, in bytes from its beginning.
+    MarkerAt {
+        marker: Bytes,
+        at: usize,
+    },
 }
 
 // Appends the lines of a command that comes to its end.
@@ -73,6 +80,8 @@ pub(crate) fn push_done(out: &mut Vec<u8>, done: &Done) -> Result<(), AllocError
             push_size(out, *leaves, *bytes)?;
             push_value(out, attribute, value)
         }
+        Done::HostReading => out.extend_from_slice(b"host reading\n"),
+        Done::MarkerAt { marker, at } => push_marker(out, marker, *at),
     }
 }
 
@@ -127,6 +136,22 @@ fn push_composed(out: &mut Vec<u8>, host: &Bytes, extensions: usize) -> Result<(
             Piece::Plain(b" with "),
             Piece::Number(extensions as u64),
             Piece::Plain(b" extensions\n"),
+        ],
+    )
+}
+
+// Appends the line of a marker at a place.
+fn push_marker(out: &mut Vec<u8>, marker: &Bytes, at: usize) -> Result<(), AllocError>
+    ensures { OnOk result (out.new.items ≡ out.old.items ++ marker_line marker.now at) }
+{
+    push_pieces(
+        out,
+        &[
+            Piece::Plain(b"marker "),
+            Piece::Plain(marker.as_slice()),
+            Piece::Plain(b" at "),
+            Piece::Number(at as u64),
+            Piece::Plain(b"\n"),
         ],
     )
 }

@@ -28,6 +28,10 @@ mod open_hosts;
 #[cfg(test)]
 mod prefixes;
 #[cfg(test)]
+mod reading;
+#[cfg(test)]
+mod reading_texts;
+#[cfg(test)]
 mod run;
 #[cfg(test)]
 mod runs;

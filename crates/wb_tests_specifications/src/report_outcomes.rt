@@ -45,7 +45,7 @@ fn wrong_host(alloc: Global) -> Outcome {
 
 // The line of each outcome without a refused file.
 static OTHERS: [&str; 12] = [
-    "usage: workbench value|show|check|certify|compose|tree|run|generate ARGUMENTS\n",
+    "usage: workbench value|show|check|certify|compose|tree|run|generate|reading ARGUMENTS\n",
     "stopped at 4 no token\n",
     "stopped at 2 unexpected end\n",
     "fault div 2\n",
@@ -72,7 +72,9 @@ pub(crate) fn done(alloc: Global, number: usize) -> Done {
         2 => certified(alloc),
         3 => composed(alloc),
         4 => Done::Tree(bytes(alloc, "none()")),
-        _ => generated(alloc),
+        5 => generated(alloc),
+        6 => Done::HostReading,
+        _ => marker(alloc),
     }
 }
 
@@ -111,14 +113,24 @@ fn generated(alloc: Global) -> Done {
     }
 }
 
+// The first marker of a text.
+fn marker(alloc: Global) -> Done {
+    Done::MarkerAt {
+        marker: text(alloc, "power:Square"),
+        at: 6,
+    }
+}
+
 // The lines of each result of a command.
-static ENDS: [&str; 6] = [
+static ENDS: [&str; 8] = [
     "count:leaves = 2\n",
     "format 1;\nhost t;\n",
     "certified host adj\ncertified extension first\ncertified extension second\n",
     "composed mini with 2 extensions\nprefix a:Sum\nprefix b:Sum\n",
     "none()\n",
     "leaves 3\nbytes 5\nvalue = 0\n",
+    "host reading\n",
+    "marker power:Square at 6\n",
 ];
 
 #[test]

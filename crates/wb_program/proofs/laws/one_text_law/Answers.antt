@@ -7,6 +7,7 @@ returns c = one_text (record {
   headers = c.header_law.ensures;
   withdrawn = c.withdrawn_law.ensures;
   texts = c.one_answer_law.ensures;
+  readings = c.one_reading_law.ensures;
   attributes = c.one_root_law.ensures;
   values = c.one_value_law.ensures;
   made = c.one_text_law.ensures;

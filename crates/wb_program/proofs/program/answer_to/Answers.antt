@@ -8,7 +8,7 @@ use Rattle.wb_program_inputs.specs.Stopped.{outside}
 use Rattle.wb_program_runs.specs.GenerateReport.{GenerateReport}
 use Rattle.wb_program_runs.specs.RunReport.{RunReport, RunStops}
 use Rattle.wb_program_inputs.specs.Makes.{Answers}
-use Rattle.wb_program.specs.Report.{run_report, generate_report}
+use Rattle.wb_program.specs.Report.{run_report, generate_report, reading_report}
 use Rattle.wb_program.specs.Report.{value_report, show_report, check_report, certify_report, compose_report, tree_report}
 use Rattle.wb_program.specs.Reads.{value_reads, show_reads, check_reads, certify_reads}
 use Rattle.wb_program.proofs.Answering.{of_command}
@@ -53,7 +53,7 @@ returns-in-Certify g c =
 pub returns-in-Tree : goal.returns-in-Tree
 returns-in-Tree g c =
     let operations : Operations = record { signatures = c.args.operations.now.signatures; meaning = g.M.Meaning.meaning } in
-    of_command operations c.answer_tree.result c.args.command c.in-Tree.is c.answer_tree.ensures
+    of_command operations c.answer_of_text.result c.args.command c.in-Tree.is c.answer_of_text.ensures
     (λ answer report. tree_report report)
     (λ P stops. inr stops)
 
@@ -98,4 +98,11 @@ returns-in-Generate g c =
     record { ok = c.answer_generate.ensures.ok; stopped = c.answer_generate.ensures.stopped; goes_on = c.answer_generate.ensures.goes_on } in
     of_command operations c.answer_generate.result c.args.command c.in-Generate.is made
     (λ answer report. generate_report report)
+    (λ P stops. inr stops)
+
+pub returns-in-Reading : goal.returns-in-Reading
+returns-in-Reading g c =
+    let operations : Operations = record { signatures = c.args.operations.now.signatures; meaning = g.M.Meaning.meaning } in
+    of_command operations c.answer_of_text-in-Reading.result c.args.command c.in-Reading.is c.answer_of_text-in-Reading.ensures
+    (λ answer report. reading_report report)
     (λ P stops. inr stops)

@@ -2,7 +2,7 @@ use Rattle.std.proofs.Common.{rules, ◌≡◌, ◌-◌, arith, ℕ, List, lengt
 use lib.Chars.{codes}
 use Rattle.wb_program_words.specs.Asked.{Asked}
 use Rattle.wb_program_words.specs.Commands.{asked_by}
-use Rattle.wb_program_words.specs.Words.{Asks, texts, Value, Show, Check, Certify, Compose, Tree, Run, Generate}
+use Rattle.wb_program_words.specs.Words.{Asks, texts, Value, Show, Check, Certify, Compose, Tree, Run, Generate, Reading}
 use Rattle.wb_program_words.specs.Inner.Parts.{IsSplit, HasNoSplit}
 use Rattle.wb_program_words.specs.Inner.Sayings.{IsSaid, NeverSaid}
 use Rattle.wb_program_words.proofs.AskLemmas.{asks_by, never_asks, unsplit_asks, on_some, on_nothing}
@@ -259,3 +259,35 @@ returns-in-generate-clause-none c =
     let line = more_texts c.args.words.now c.verb-item.result c.as_str.result.now (omega arith) c.verb-item.is c.as_str.ensures.value in
     on_nothing c.generate_of.result (NeverSaid Generate slots (texts later)) ((asked : Asked) → ¬ Asks words asked)
     (λ never. never_asks words c.as_str.result.now (texts rest) line slots (texts later) splits Generate verb never) c.generate_of.ensures.none
+
+pub returns-in-reading-clause-some : goal.returns-in-reading-clause-some
+returns-in-reading-clause-some c =
+    let words = texts c.args.words.now in
+    let rest = take (length c.args.words.now - 1) (drop 1 c.args.words.now) in
+    let slots = c.in_ok-options.options.slots in
+    let at = c.in_ok-options.options.rest in
+    let later = take (length rest - at) (drop at rest) in
+    let split : IsSplit (texts rest) (drop at (texts rest)) slots = search rules in
+    let splits : IsSplit (texts rest) (texts later) slots =
+    subst (λ (ws : List (List ℕ)). IsSplit (texts rest) ws slots) (sym (rest_texts rest at)) split in
+    let verb : c.as_str.result.now ≡ codes "reading" = search rules in
+    let line = more_texts c.args.words.now c.verb-item.result c.as_str.result.now (omega arith) c.verb-item.is c.as_str.ensures.value in
+    on_some c.reading_of.result (IsSaid Reading slots (texts later)) (λ command. Asks words (asked_by command))
+    (λ command said. asks_by words c.as_str.result.now (texts rest) line slots (texts later) splits Reading verb command said)
+    c.reading_of.ensures.some
+
+pub returns-in-reading-clause-none : goal.returns-in-reading-clause-none
+returns-in-reading-clause-none c =
+    let words = texts c.args.words.now in
+    let rest = take (length c.args.words.now - 1) (drop 1 c.args.words.now) in
+    let slots = c.in_ok-options.options.slots in
+    let at = c.in_ok-options.options.rest in
+    let later = take (length rest - at) (drop at rest) in
+    let split : IsSplit (texts rest) (drop at (texts rest)) slots = search rules in
+    let splits : IsSplit (texts rest) (texts later) slots =
+    subst (λ (ws : List (List ℕ)). IsSplit (texts rest) ws slots) (sym (rest_texts rest at)) split in
+    let verb : c.as_str.result.now ≡ codes "reading" = search rules in
+    let line = more_texts c.args.words.now c.verb-item.result c.as_str.result.now (omega arith) c.verb-item.is c.as_str.ensures.value in
+    on_nothing c.reading_of.result (NeverSaid Reading slots (texts later)) ((asked : Asked) → ¬ Asks words asked)
+    (λ never. never_asks words c.as_str.result.now (texts rest) line slots (texts later) splits Reading verb never)
+    c.reading_of.ensures.none

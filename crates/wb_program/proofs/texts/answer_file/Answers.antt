@@ -2,16 +2,17 @@
 use Rattle.std.proofs.Common.{ℕ, List}
 use Rattle.wb_compose_texts.specs.Unions.{all_resolved}
 use Rattle.wb_program_inputs.proofs.HostLemmas.{text_checks}
-use Rattle.wb_program.specs.TreeReport.{TextReport}
+use Rattle.wb_program.specs.Inner.OfTexts.{OfTextReport}
 use Rattle.wb_program_inputs.proofs.MakesLemmas.{answered, handed, exhausted}
-use Rattle.wb_program.proofs.tree.answer_text.Goals as goal
+use Rattle.wb_program.proofs.texts.answer_file.Goals as goal
 
 pub returns : goal.returns
 returns g c =
     let host = c.args.host.now in
     let answer = c.in_ok-answer_contents.field-0 in
     answered answer (text_checks (g.S.Shelf.files c.args.shelf.now) c.args.file.now
-    (λ (text : List ℕ). TextReport host.operations host.resolved (all_resolved c.args.extensions.now) text) c.in_ok-contents.contents
+    (λ (text : List ℕ). OfTextReport c.args.asked host.operations host.resolved (all_resolved c.args.extensions.now) text)
+    c.in_ok-contents.contents
     answer.status answer.report.items c.in_ok-contents.ensures.ok c.in_ok-answer_contents.ensures) c.read_file.ensures.goes_on
 
 pub returns-in_err-answer_contents : goal.returns-in_err-answer_contents

@@ -13,9 +13,9 @@ use Rattle.wb_program_inputs.specs.Texts.{IsText, IsTooLongText}
 use Rattle.wb_program_inputs.specs.declared.status.Status.TheVariants.{TextTooLong}
 use Rattle.wb_program_inputs.proofs.CauseLemmas.{err_of, ok_of}
 use Rattle.wb_program_inputs.proofs.ComposeLemmas.{composed_ended, several_ended, several_read}
-use Rattle.wb_program.specs.TreeReport.{TextReport}
+use Rattle.wb_program.specs.Inner.OfTexts.{OfTextReport}
 use Rattle.wb_program_inputs.proofs.MakesLemmas.{answered, handed, made_since}
-use Rattle.wb_program.proofs.tree.answer_tree.Goals as goal
+use Rattle.wb_program.proofs.texts.answer_of_text.Goals as goal
 
 pub returns-in-Ok : goal.returns-in-Ok
 returns-in-Ok g c =
@@ -31,10 +31,11 @@ returns-in-Ok g c =
     ok_of c.in_ok-all.field-0 all (AreRead signatures known host extensions) c.in-Ok.is c.in_ok-all.ensures.ok in
     let Shows : List OperationSignature → List ExtensionView → Option Files → Report = λ operations list told.
     Check TextTooLong (IsTooLongText told file) (IsText told file)
-    (λ (text : List ℕ). TextReport operations all.host.resolved (all_resolved list) text) in
+    (λ (text : List ℕ). OfTextReport c.args.asked operations all.host.resolved (all_resolved list) text) in
     let rest : ResolvedParts → List ResolvedParts → Report = λ r values.
-    Check TextTooLong (IsTooLongText known file) (IsText known file) (λ (text : List ℕ). TextReport signatures r values text) in
-    made_since c.answer_text-answer.result c.read_composable.ensures.goes_on c.answer_text-answer.ensures
+    Check TextTooLong (IsTooLongText known file) (IsText known file)
+    (λ (text : List ℕ). OfTextReport c.args.asked signatures r values text) in
+    made_since c.answer_file-answer.result c.read_composable.ensures.goes_on c.answer_file-answer.ensures
     (λ answer shown. several_read signatures host extensions known rest all answer.status answer.report.items are
     (subst (λ (told : Option Files). Shows signatures es told answer.status answer.report.items) c.read_composable.ensures.goes_on.files
     (subst (λ (operations : List OperationSignature). Shows operations es between answer.status answer.report.items) are.signatures
@@ -53,7 +54,7 @@ returns-in-Err g c =
     answered answer
     (several_ended signatures host extensions known
     (λ r values. Check TextTooLong (IsTooLongText known file) (IsText known file)
-    (λ (text : List ℕ). TextReport signatures r values text))
+    (λ (text : List ℕ). OfTextReport c.args.asked signatures r values text))
     answer.status answer.report.items
     (err_of c.in_ok-all.field-0 answer (λ made. RefusesAny signatures known host extensions made.status made.report.items) c.in-Err.is
     c.in_ok-all.ensures.refused))

@@ -1,0 +1,16 @@
+use Rattle.wb_program_words.specs.Words.{Reading, texts}
+use Rattle.wb_program_words.specs.Inner.Sayings.{NeverSaid}
+use Rattle.wb_program_words.proofs.SplitLemmas.{on_none}
+use Rattle.wb_program_words.proofs.SaidLemmas.{said_reading, never_reading}
+use Rattle.wb_program_words.proofs.words.reading_of.Goals as goal
+
+pub returns-in_err-words-clause-none : goal.returns-in_err-words-clause-none
+returns-in_err-words-clause-none c =
+    on_none c.from_residual.result (NeverSaid Reading c.args.slots.now (texts c.args.positional.now))
+    (never_reading c.args.slots.now (texts c.args.positional.now) c.in_err-words.ensures.none)
+
+pub returns-clause-some : goal.returns-clause-some
+returns-clause-some c =
+    let words = c.in_ok-words.words in
+    λ options are. said_reading options (texts c.args.positional.now) words.text.now words.host.now (texts words.extensions.now)
+    (c.in_ok-words.ensures.some options are)

@@ -1,0 +1,115 @@
+-- Flags of the terminals of a union as they are listed, and the set of them.
+use Rattle.std.proofs.Common.{◌≡◌, ◌<◌, ◌≤◌, ◌+◌, ◌-◌, ◌↔◌, ◌++◌, ◌∷◌, ◌∙◌, ◌⊎◌, inl, inr, [], ℕ, Bool, true}
+use Rattle.std.proofs.Common.{false, List, Some, drop, get_or, length}
+use Rattle.std.proofs.Common.{map, replicate, set, slice_get, take, ap, refl, subst, sym, arith}
+use Rattle.std.specs.Prelude.{option_map}
+use Rattle.std.proofs.lemmas.Bool.Decides.{eqb_tells}
+use Rattle.std.proofs.lemmas.Bool.{true≢false}
+use Rattle.std.proofs.lemmas.List.{length-map, length-replicate, length-take-le, map-append}
+use Rattle.std.proofs.lemmas.List.{length-set}
+use Rattle.std.proofs.lemmas.Option.{slice_get-map}
+use Rattle.wb_termset.specs.Sets.{IsMember}
+use Rattle.wb_termset.proofs.CallerLemmas.{IsEmpty-replicate, IsMember-insert, IsMember-insert_same, IsSubset-insert, has_below}
+use Rattle.wb_lemmas.proofs.Parts.{append_assoc}
+use Rattle.wb_lemmas.proofs.Places.{at_take, at_within}
+use Rattle.wb_certify.specs.Kept.{ExtensionView}
+use Rattle.wb_certify_shown.specs.Names.{terminals_in}
+use Rattle.wb_certify_shown.proofs.HoleLemmas.{few_terminals}
+use Rattle.wb_compose_texts.specs.Unions.{all_resolved}
+use Rattle.wb_compose_texts.proofs.TableLemmas.{all_next, part_next, resolved_next}
+use Rattle.wb_compose_theory_order.specs.Names.{all_of}
+use Rattle.wb_determinism.specs.Images.{is_marker_row, is_marking}
+use Rattle.wb_reading_compose_theory.specs.UnionMarkers.{added_markers, grammar_markers}
+use Rattle.wb_reading_compose.specs.Inner.Sets.{IsFilled}
+use Rattle.wb_syntax_resolved.specs.Resolved.{IsResolved}
+use Rattle.wb_syntax_resolved.specs.declared.resolved.ResolvedParts.{ResolvedParts}
+use Rattle.wb_syntax_resolved.specs.declared.terminal.Terminal.{Terminal}
+
+module _ (r : ResolvedParts) (whole : IsResolved r) where
+  -- each of the grammar's terminals has a flag
+  pub flags_len : length (grammar_markers r) ≡ terminals_in r.grammar
+  flags_len = length-map (take (terminals_in r.grammar) r.terminals) (λ (t : Terminal). is_marking t.kind) ∙
+      length-take-le (terminals_in r.grammar) r.terminals (few_terminals r whole)
+
+  -- its own
+  flag_is : (k : ℕ) → k < terminals_in r.grammar → slice_get (grammar_markers r) k ≡ Some (is_marker_row (slice_get r.terminals k))
+  flag_is k below =
+      let inside = length-take-le (terminals_in r.grammar) r.terminals (few_terminals r whole) in
+      let found = at_within (take (terminals_in r.grammar) r.terminals) k (omega (arith, below, inside)) in
+      let row = (at_take r.terminals (terminals_in r.grammar) k found.0 found.1).1 in
+      slice_get-map (λ (t : Terminal). is_marking t.kind) (take (terminals_in r.grammar) r.terminals) k ∙
+      (ap (option_map (λ (t : Terminal). is_marking t.kind)) found.1 ∙ ap Some (sym (ap is_marker_row row)))
+
+  -- one flag more
+  pub flag_next : (old now new : List Bool) (from k : ℕ) (flag : Bool) → from ≤ k → k < terminals_in r.grammar →
+      now ≡ old ++ take (k - from) (drop from (grammar_markers r)) → flag ≡ is_marker_row (slice_get r.terminals k) →
+      new ≡ now ++ flag ∷ [] → new ≡ old ++ take (k + 1 - from) (drop from (grammar_markers r))
+  flag_next old now new from k flag above below was is pushed =
+      pushed ∙ ((λ z. was z ++ is z ∷ []) ∙
+      (append_assoc old (take (k - from) (drop from (grammar_markers r))) (is_marker_row (slice_get r.terminals k) ∷ []) ∙
+      ap (λ z. old ++ z) (sym (part_next (grammar_markers r) from k (is_marker_row (slice_get r.terminals k)) above (flag_is k below)))))
+
+-- one extension more
+pub block_next : (host : ResolvedParts) (es : List ExtensionView) (i : ℕ) (e : ExtensionView) (r : ResolvedParts) (own : ℕ)
+    (old now new : List Bool) → i < length es → e ≡ get_or es i e → r ≡ e.resolved → own ≡ terminals_in host.grammar →
+    now ≡ old ++ all_of (map (added_markers host) (all_resolved (take i es))) → new ≡ now ++ drop own (grammar_markers r) →
+    new ≡ old ++ all_of (map (added_markers host) (all_resolved (take (i + 1) es)))
+block_next host es i e r own old now new less is resolved own_is was more =
+    let rs = all_resolved (take i es) in
+    let blocks : map (added_markers host) (all_resolved (take (i + 1) es)) ≡ map (added_markers host) rs ++ added_markers host r ∷ [] =
+    ap (map (added_markers host)) (resolved_next es i e r less is resolved) ∙ map-append (added_markers host) rs (r ∷ []) in
+    more ∙ ((λ z. was z ++ drop (own_is z) (grammar_markers r)) ∙
+    (append_assoc old (all_of (map (added_markers host) rs)) (added_markers host r) ∙
+    ap (λ z. old ++ z) (sym (ap all_of blocks ∙ all_next (map (added_markers host) rs) (added_markers host r)))))
+
+-- a set without members is filled by no flags
+pub none_filled : (flags : List Bool) (made : List Bool) → made ≡ replicate (length flags) false → IsFilled flags 0 made
+none_filled flags made is = record {
+  len = ap length is ∙ length-replicate (length flags) false;
+  each = λ t. (
+    λ has. absurd (IsEmpty-replicate (length flags) t (subst (λ s. IsMember s t) is has)),
+    λ both. absurd (omega (arith, both.0)),
+  );
+}
+
+-- with one flag more that is set
+pub filled_on : (flags : List Bool) (i : ℕ) (old new : List Bool) → i < length flags → IsFilled flags i old → IsMember flags i →
+    new ≡ set old i true → IsFilled flags (i + 1) new
+filled_on flags i old new within was flag is = record {
+  len = ap length is ∙ (length-set old i true ∙ was.len);
+  each = λ t. (
+    λ has. forth t (IsMember-insert old i t (subst (λ s. IsMember s t) is has)),
+    λ both. subst (λ s. IsMember s t) (sym is) (back t both),
+  );
+} where
+  forth : (t : ℕ) → (IsMember old t) ⊎ (t ≡ i) → (t < i + 1) × IsMember flags t
+  forth t (inl before) = let both = (was.each t).0 before in let low = both.0 in (omega (arith, low), both.1)
+  forth t (inr same) = (omega (arith, same), subst (IsMember flags) (sym same) flag)
+
+  back : (t : ℕ) → (t < i + 1) × IsMember flags t → IsMember (set old i true) t
+  back t (low, has) = elim (eqb_tells t i) [
+    | inl same ↦
+        let inside : i < length old = let len = was.len in omega (arith, within, len) in
+        subst (IsMember (set old i true)) (sym same.1) (IsMember-insert_same old i inside)
+    | inr differs ↦ (let other = differs.1 in IsSubset-insert old i t ((was.each t).1 (omega (arith, low, other), has)))
+  ]
+
+-- or that isn't
+pub filled_off : (flags : List Bool) (i : ℕ) (old : List Bool) → IsFilled flags i old → ¬ IsMember flags i → IsFilled flags (i + 1) old
+filled_off flags i old was off = record {
+  len = was.len;
+  each = λ t. (λ has. (let both = (was.each t).0 has in let low = both.0 in (omega (arith, low), both.1)), λ both. back t both);
+} where
+  back : (t : ℕ) → (t < i + 1) × IsMember flags t → IsMember old t
+  back t (low, has) = elim (eqb_tells t i) [
+    | inl same ↦ absurd (off (subst (IsMember flags) same.1 has))
+    | inr differs ↦ (let other = differs.1 in (was.each t).1 (omega (arith, low, other), has))
+  ]
+
+-- all are in
+pub all_filled : (flags : List Bool) (i : ℕ) (made : List Bool) → length flags ≤ i → IsFilled flags i made → (t : ℕ) →
+    IsMember made t ↔ IsMember flags t
+all_filled flags i made past was t = (
+  λ has. ((was.each t).0 has).1,
+  λ has. (let low = has_below flags t has in (was.each t).1 (omega (arith, low, past), has)),
+)
