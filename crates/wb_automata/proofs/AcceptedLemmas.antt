@@ -6,7 +6,8 @@ use Rattle.std.proofs.lemmas.List.{get_or_append_left, get_or_push, get_or_past}
 use Rattle.std.proofs.lemmas.Option.{same_Some}
 use Rattle.wb_automata_positions.specs.Rows.{row}
 use Rattle.wb_automata_positions.specs.Rising.{AreRising}
-use Rattle.wb_automata_positions.specs.Transitions.{Ahead}
+use Rattle.wb_automata_positions.specs.declared.tables.Tables.{Tables}
+use Rattle.wb_automata_positions.specs.Transitions.{EndsAfter}
 use Rattle.wb_automata.specs.Inner.Accepted.{AreAccepted, IsAccepted}
 use Rattle.wb_automata_positions.proofs.StartLemmas.{rising_none}
 
@@ -21,13 +22,13 @@ rising_more rows all rise before j = elim (cases_lt j (length rows)) [
   ]
 ]
 
-pub accepted_none : (ends sets : List (List ℕ)) → AreAccepted ends sets [] 0
-accepted_none ends sets = record { len = refl; rising = λ j. rising_none; each = λ j k set lt. absurd (omega arith) }
+pub accepted_none : (t : Tables) (sets : List (List ℕ)) → AreAccepted t sets [] 0
+accepted_none t sets = record { len = refl; rising = λ j. rising_none; each = λ j k set lt. absurd (omega arith) }
 
-pub accepted_step : (ends sets accepted : List (List ℕ)) (set all : List ℕ) (i : ℕ) → slice_get sets i ≡ Some set →
-    ((k : ℕ) → Contains all k ↔ Ahead ends set k) → AreRising all → AreAccepted ends sets accepted i → AreAccepted ends sets
+pub accepted_step : (t : Tables) (sets accepted : List (List ℕ)) (set all : List ℕ) (i : ℕ) → slice_get sets i ≡ Some set →
+    ((k : ℕ) → Contains all k ↔ EndsAfter t set k) → AreRising all → AreAccepted t sets accepted i → AreAccepted t sets
     (accepted ++ all ∷ []) (i + 1)
-accepted_step ends sets accepted set all i at exact rise h = record {
+accepted_step t sets accepted set all i at exact rise h = record {
   len = omega (arith, h.len, length-append accepted (all ∷ []));
   rising = rising_more accepted all rise h.rising;
   each = λ j k own lt here. elim (cases_lt j i) [
@@ -35,13 +36,13 @@ accepted_step ends sets accepted set all i at exact rise h = record {
     | inr past ↦
         let same : j ≡ i = omega arith in
         let is : set ≡ own = same_Some set own (sym at ∙ ap (slice_get sets) (sym same) ∙ here) in
-        subst (λ z. Contains (row (accepted ++ all ∷ []) z) k ↔ Ahead ends own k) (sym same)
-        (rw (get_or_push accepted all [] i h.len) (subst (λ z. Contains all k ↔ Ahead ends z k) is (exact k)))
+        subst (λ z. Contains (row (accepted ++ all ∷ []) z) k ↔ EndsAfter t own k) (sym same)
+        (rw (get_or_push accepted all [] i h.len) (subst (λ z. Contains all k ↔ EndsAfter t z k) is (exact k)))
   ];
 }
 
 -- the list of one set more
-pub accepted_push : {E : Type 0} (ends : List (List ℕ)) (set all : List ℕ) (old new : List (List ℕ)) (r : Result (Unit {0}) E) → IfOk r
-    (λ _. new ≡ old ++ all ∷ []) → AreRising all → ((k : ℕ) → Contains all k ↔ Ahead ends set k) → IfOk r (λ _. IsAccepted ends set old new)
-accepted_push ends set all old new (Ok _) last rise exact = record { all = all; last = last; rising = rise; exact = exact }
-accepted_push ends set all old new (Err e) last rise exact = tt
+pub accepted_push : {E : Type 0} (t : Tables) (set all : List ℕ) (old new : List (List ℕ)) (r : Result (Unit {0}) E) → IfOk r
+    (λ _. new ≡ old ++ all ∷ []) → AreRising all → ((k : ℕ) → Contains all k ↔ EndsAfter t set k) → IfOk r (λ _. IsAccepted t set old new)
+accepted_push t set all old new (Ok _) last rise exact = record { all = all; last = last; rising = rise; exact = exact }
+accepted_push t set all old new (Err e) last rise exact = tt

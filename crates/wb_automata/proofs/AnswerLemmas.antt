@@ -12,7 +12,7 @@ use Rattle.wb_automata_positions.specs.declared.places.Place.TheVariants as p
 use Rattle.wb_automata_positions.specs.Places.{ArePlacesBelow, GoesBelow, ReadsTo}
 use Rattle.wb_automata_positions.specs.Rows.{row}
 use Rattle.wb_automata_positions.specs.Leaves.{has_byte}
-use Rattle.wb_automata_positions.proofs.ErasingLemmas.{holds_has_byte}
+use Rattle.wb_automata_positions.proofs.ByteLemmas.{holds_has_byte}
 use Rattle.wb_automata_positions.proofs.MachineLemmas.{taken, none_taken}
 use Rattle.wb_automata.specs.declared.groups.Groups.{Groups}
 use Rattle.wb_automata.specs.declared.predecessor.Predecessor.{Predecessor}

@@ -17,7 +17,7 @@ use Rattle.std.proofs.lemmas.Slice.Eq.{slice_eq-Decides}
 use Rattle.wb_base.specs.Different.{Differ}
 use Rattle.wb_automata_positions.specs.declared.tables.Tables.{Tables}
 use Rattle.wb_automata_positions.specs.Rising.{AreRising}
-use Rattle.wb_automata_positions.specs.Transitions.{IsPlaceList}
+use Rattle.wb_automata_positions.specs.Transitions.{IsPlaceList, count_of}
 use Rattle.wb_automata.specs.Inner.Found.{Found, AreFound}
 
 -- all rising lists of numbers below m
@@ -143,5 +143,5 @@ few m sets different places =
     let at : slice_get sets i ≡ Some q = slice_get-get_or sets i q lt ∙ ap Some is in
     list_any-from_Contains nat_list_eq_equiv q (lists_below m) (listed m q (places i q at))))
 
-pub few_found : (t : Tables) (found : Found) → AreFound t found → Differ found.sets → length found.sets ≤ 2 ^ length t.follow
-few_found t found h different = few (length t.follow) found.sets different h.places
+pub few_found : (t : Tables) (found : Found) → AreFound t found → Differ found.sets → length found.sets ≤ 2 ^ count_of t
+few_found t found h different = few (count_of t) found.sets different h.places

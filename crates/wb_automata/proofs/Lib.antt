@@ -13,6 +13,7 @@ pub mod OrderLemmas
 pub mod PlaceLemmas
 pub mod PairLemmas
 pub mod PlainTextLemmas
+pub mod RunLemmas
 pub mod StateLemmas
 pub mod StuckLemmas
 pub mod TextLemmas

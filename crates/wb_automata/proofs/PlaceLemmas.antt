@@ -9,7 +9,7 @@ use Rattle.wb_automata.specs.declared.predecessor.Predecessor.{Predecessor}
 use Rattle.wb_automata_positions.specs.declared.tables.Tables.{Tables}
 use Rattle.wb_automata.specs.Automata.{Path, IsEarlier}
 use Rattle.wb_automata_positions.specs.Rows.{row}
-use Rattle.wb_automata_positions.specs.Transitions.{IsPlaceList}
+use Rattle.wb_automata_positions.specs.Transitions.{IsPlaceList, count_of}
 use Rattle.wb_automata.specs.Inner.Found.{Found, on, pushed, IsPlaced, AllBefore, IsSetStart, IsChild, AreFound, Extends}
 use Rattle.wb_automata.specs.Paths.{path_by, grown, paths_of}
 use Rattle.wb_automata.proofs.OrderLemmas.{IsLatest}
@@ -84,7 +84,7 @@ each_extends t old new j g (inr c) = inr (record {
 -- what a new state is found from
 pub record NewState (t : Tables) (old : Found) (own : List ℕ) (path : Path) : Type 0 where
   pub before : AllBefore old.paths path
-  pub places : IsPlaceList (length t.follow) own
+  pub places : IsPlaceList (count_of t) own
   pub each : IsSetStart t (pushed old own path) (length old.sets) ⊎ IsChild t (pushed old own path) (length old.sets)
 
 push_found : (t : Tables) (old : Found) (own : List ℕ) (path : Path) → NewState t old own path → AreFound t old → AreFound t
@@ -94,7 +94,7 @@ push_found t old own path s h = record {
   places = λ j set at. elim (at_push old.sets own set j at) [
     | inl e ↦ h.places j set e
     | inr (_, e) ↦ subst
-        (IsPlaceList (length t.follow)) e s.places
+        (IsPlaceList (count_of t)) e s.places
   ];
   each = λ j lt. elim (cases_lt j (length old.sets)) [
     | inl less ↦ each_extends t old (pushed old own path) j (pushed_extends old own path) (h.each j less)

@@ -10,7 +10,7 @@ use Rattle.wb_lemmas.proofs.Places.{append_keeps, at_push, push_last, nothing_at
 use Rattle.wb_automata_positions.specs.declared.tables.Tables.{Tables}
 use Rattle.wb_automata.specs.Automata.{Path, IsEarlier}
 use Rattle.wb_automata_positions.specs.Rows.{row}
-use Rattle.wb_automata_positions.specs.Transitions.{IsTable, IsPlaceList, Ahead}
+use Rattle.wb_automata_positions.specs.Transitions.{IsTable, IsPlaceList, Ahead, count_of}
 use Rattle.wb_automata.specs.Inner.Found.{Reads, Found, on, IsPlaced, IsMoved, AllBefore, AreFound, Extends}
 use Rattle.wb_automata_positions.specs.Rising.{AreRising}
 use Rattle.wb_automata.specs.Inner.Exploring.{IsMove, AreMoves, SetsBelow, RowPass, RowsPass, RowsFrom, StartsAt, AreExplored}
@@ -88,7 +88,7 @@ moves_push t bytes found moves i c set path o short at at_path h last = record {
 -- a row begins
 pub row_begin : (t : Tables) (bytes : List ℕ) (found : Found) (moves : List (Option ℕ)) (i : ℕ) (ahead : List ℕ)
     → RowsPass t bytes found moves i → i < length found.sets →
-    ((set : List ℕ) → slice_get found.sets i ≡ Some set → (q : ℕ) → Contains ahead q ↔ Ahead t.follow set q) → IsPlaceList
+    ((set : List ℕ) → slice_get found.sets i ≡ Some set → (q : ℕ) → Contains ahead q ↔ Ahead t set q) → IsPlaceList
     (length t.nodes.items) ahead → RowPass t bytes found found i ahead moves 0
 row_begin t bytes found moves i ahead h lt is places =
     let ready = h.ready lt in
@@ -140,7 +140,7 @@ row_step t bytes old mid new i ahead moves c (Some j) w table rising lt h e m =
       before = before;
       places = record {
         below = λ k d less.
-            (let b = m.places.below k d less in let long = table.len in omega arith);
+            (let b = m.places.below k d less in omega arith);
         rising = m.places.rising;
       };
       each = inr (record {
@@ -308,7 +308,7 @@ start_sets t bytes old new moves starts own s state h p k u at = elim p.change [
 -- one set more
 pub explored_more : (t : Tables) (bytes : List ℕ) (old mid new : Found) (moves moves' : List (Option ℕ)) (starts : List ℕ) (s state : ℕ)
     → AreExplored t bytes old moves starts s → IsPlaced old (row t.starts s) (record { set = s; text = [] }) mid state
-    → RowsFrom t bytes mid new moves' (length new.sets) → length new.sets ≤ 2 ^ length t.follow → AreExplored t bytes new moves'
+    → RowsFrom t bytes mid new moves' (length new.sets) → length new.sets ≤ 2 ^ count_of t → AreExplored t bytes new moves'
     (starts ++ state ∷ []) (s + 1)
 explored_more t bytes old mid new moves moves' starts s state h p r few =
     let path : Path = record { set = s; text = [] } in

@@ -1,7 +1,7 @@
 -- The steps over a text lead to a state whose path isn't later.
 use Rattle.std.proofs.Common.{◌≡◌, ℕ, ◌+◌, ◌*◌, ◌^◌, ◌≤◌, ◌<◌, Bool, List, [], ◌∷◌, ◌++◌, refl, sym, ◌∙◌, ap, subst, arith, inl, inr}
 use Rattle.std.proofs.Common.{Option, Some, None, length, get_or, append_assoc, append-nil}
-use Rattle.std.specs.Prelude.{slice_get, ◌↔◌, Contains, IfSome, IsNone}
+use Rattle.std.specs.Prelude.{slice_get, ◌↔◌, Contains, IfSome, IsNone, sum_by}
 use Rattle.std.proofs.lemmas.Bool.{cases_lt, true≢false}
 use Rattle.std.proofs.lemmas.List.{get_or_past}
 use Rattle.std.proofs.lemmas.Option.{slice_get-get_or, slice_get_within, same_Some}
@@ -19,8 +19,8 @@ use Rattle.wb_automata.specs.Inner.Accepted.{AreAccepted}
 use Rattle.wb_automata.specs.Automata.{AutomatonView, Path, MatchesIn, GoesOn, AreAlike, LeadsTo, IsFound, most_states}
 use Rattle.wb_automata_positions.specs.Tables.{AreTables}
 use Rattle.wb_automata.specs.Kept.{IsStepOf, IsAutomaton}
-use Rattle.wb_automata_positions.proofs.ErasingLemmas.{byte_within}
-use Rattle.wb_automata_positions.proofs.TableLemmas.{nodes_many}
+use Rattle.wb_automata_positions.proofs.ByteLemmas.{byte_within}
+use Rattle.wb_automata_positions.specs.Sizes.{size_of}
 use Rattle.wb_automata.proofs.OrderLemmas.{IsLatest, latest_next, latest_more, latest_last}
 use Rattle.wb_automata.proofs.WholeLemmas.{blank, Represents, move_step, represents, start_represents, alike, accepts_exact, not_empty}
 use Rattle.wb_automata.proofs.WholeLemmas.{filled}
@@ -136,7 +136,7 @@ pub record MadeAutomaton (trees : List Tree) (sets : List (List Bool)) (t : Tabl
   pub tables : AreTables trees sets t
   pub are_classes : AreClasses t.nodes.items classes firsts (length t.nodes.items)
   pub explored : AreExplored t firsts found moves starts (length t.starts)
-  pub are_accepted : AreAccepted t.ends found.sets accepted (length found.sets)
+  pub are_accepted : AreAccepted t found.sets accepted (length found.sets)
 
 module _ (trees : List Tree) (sets : List (List Bool)) (t : Tables) (classes firsts : List ℕ) (found : Found) (moves : List (Option ℕ))
     (starts : List ℕ) (accepted : List (List ℕ)) (h : MadeAutomaton trees sets t classes firsts found moves starts accepted) where
@@ -207,8 +207,8 @@ module _ (trees : List Tree) (sets : List (List Bool)) (t : Tables) (classes fir
     ordered = record { sorted = h.explored.rows.found_ok.sorted; every = every };
     sets_below = λ s path at. (let lt = h.explored.sets_below s path at in omega (arith, h.tables.starts_len));
     few = subst (λ z. z ≤ most_states trees) (sym h.explored.rows.found_ok.len)
-        (subst (λ z. length found.sets ≤ 2 ^ z) (h.tables.follow_len ∙ ap (λ z. z + length trees)
-        (nodes_many trees sets t h.tables)) h.explored.few);
+        (subst (λ z. length found.sets ≤ 2 ^ z) (ap (λ z. z + length t.roots.items) h.tables.size ∙ ap (λ z. sum_by size_of trees + z)
+        h.tables.roots_len) h.explored.few);
     not_empty = not_empty trees sets t h.tables;
     filled = filled trees sets t h.tables;
   }

@@ -7,7 +7,6 @@ ghost use Rattle.wb_automata.specs.Automata.{IsMatch, MatchesIn, GoesOn, LeadsTo
 ghost use Rattle.wb_automata_positions.specs.Rising.{AreRising};
 ghost use Rattle.wb_automata.specs.Inner.Accepted.{AreAccepted};
 ghost use Rattle.wb_automata.specs.Inner.Exploring.{AreExplored};
-ghost use Rattle.wb_automata_positions.specs.Rows.{AreBelow};
 ghost use Rattle.wb_automata_positions.specs.Tables.{AreTables};
 ghost use Rattle.wb_automata_positions.specs.Transitions.{IsTable};
 
@@ -72,7 +71,7 @@ impl Automaton {
         ensures sets { IfOk result (λ automaton. automaton.sets ≡ sets.now) }
     {
         let tables = tables_of(alloc, terminals, sets)?;
-        from_tables(alloc, terminals, sets, &tables)
+        from_tables(alloc, terminals, sets, tables)
     }
 
     /// The expressions of the terminals.
@@ -182,14 +181,15 @@ fn from_tables(
     alloc: Global,
     terminals: &[Regex],
     sets: &[TermSet],
-    tables: &Tables,
+    tables: Tables,
 ) -> Result<Automaton, AllocError>
-    requires { AreTables terminals.now sets.now tables.now }
+    requires { AreTables terminals.now sets.now tables }
     ensures terminals { IfOk result (λ automaton. automaton.terminals ≡ terminals.now) }
     ensures sets { IfOk result (λ automaton. automaton.sets ≡ sets.now) }
 {
     let classes = classes_of(alloc, tables.nodes.as_slice())?;
-    let found = found_of(alloc, tables, classes.firsts.as_slice(), terminals.len())?;
+    let found = found_of(alloc, &tables, classes.firsts.as_slice())?;
+    drop(tables);
     let kept = kept_of(alloc, terminals, sets)?;
     let FoundStates { explored, accepted } = found;
     Ok(Automaton {
@@ -211,21 +211,14 @@ struct FoundStates {
     accepted: FlatRows,
 }
 
-fn found_of(
-    alloc: Global,
-    tables: &Tables,
-    bytes: &[u8],
-    count: usize,
-) -> Result<FoundStates, AllocError>
+fn found_of(alloc: Global, tables: &Tables, bytes: &[u8]) -> Result<FoundStates, AllocError>
     requires table { IsTable tables.now }
     requires rising { AreRising bytes.now }
-    requires ends { AreBelow count tables.now.ends }
-    requires rows { length tables.now.ends ≡ length tables.now.follow }
     ensures explored { IfOk result (λ f. AreExplored tables.now bytes.now f.explored.states f.explored.moves f.explored.starts.items (length tables.now.starts)) }
-    ensures accepted { IfOk result (λ f. AreAccepted tables.now.ends f.explored.states.sets f.accepted (length f.explored.states.sets)) }
+    ensures accepted { IfOk result (λ f. AreAccepted tables.now f.explored.states.sets f.accepted (length f.explored.states.sets)) }
 {
     let explored = explore(alloc, tables, bytes)?;
-    let accepted = accepted_of(alloc, count, &tables.ends, &explored.states)?;
+    let accepted = accepted_of(alloc, tables, &explored.states)?;
     Ok(FoundStates { explored, accepted })
 }
 

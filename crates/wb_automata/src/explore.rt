@@ -4,7 +4,7 @@
 
 ghost use Rattle.std.specs.Prelude.{◌≡◌, ◌+◌, ◌^◌, ◌<◌, ◌≤◌, IfOk, [], length};
 ghost use Rattle.wb_automata.specs.Inner.Found.{IsPlaced};
-ghost use Rattle.wb_automata_positions.specs.Transitions.{IsTable};
+ghost use Rattle.wb_automata_positions.specs.Transitions.{IsTable, count_of};
 ghost use Rattle.wb_automata_positions.specs.Rows.{row};
 ghost use Rattle.wb_automata_positions.specs.Rising.{AreRising};
 ghost use Rattle.wb_automata.specs.Inner.Exploring.{RowsPass, RowsFrom, AreExplored};
@@ -13,7 +13,7 @@ use crate::moves::Moves;
 use crate::predecessor::Predecessor;
 use crate::states::States;
 use std::alloc::{AllocError, Global};
-use wb_automata_positions::Tables;
+use wb_automata_positions::{Tables, hints_of};
 use wb_base::push;
 
 // The states, where the bytes lead from each, and the state at the start of each set.
@@ -30,13 +30,14 @@ pub(crate) fn explore(alloc: Global, tables: &Tables, bytes: &[u8]) -> Result<Ex
     requires rising { AreRising bytes.now }
     ensures { IfOk result (λ e. AreExplored tables.now bytes.now e.states e.moves e.starts.items (length tables.now.starts)) }
 {
+    let mut hints = hints_of(alloc, tables)?;
     let mut explored = Explored {
         states: States::new(alloc),
         moves: Moves::new(alloc),
         starts: Vec::new(alloc),
     };
     for set in 0..tables.starts.len() {
-        explore_set(tables, bytes, set, &mut explored)?;
+        explore_set(tables, bytes, set, &mut hints, &mut explored)?;
     }
     Ok(explored)
 }
@@ -46,6 +47,7 @@ fn explore_set(
     tables: &Tables,
     bytes: &[u8],
     set: usize,
+    hints: &mut Vec<usize>,
     explored: &mut Explored,
 ) -> Result<(), AllocError>
     requires table { IsTable tables.now }
@@ -60,6 +62,7 @@ fn explore_set(
         tables,
         bytes,
         from,
+        hints,
         &mut explored.states,
         &mut explored.moves,
     )?;
@@ -86,18 +89,19 @@ fn close(
     tables: &Tables,
     bytes: &[u8],
     from: usize,
+    hints: &mut Vec<usize>,
     states: &mut States,
     moves: &mut Moves,
 ) -> Result<(), AllocError>
     requires table { IsTable tables.now }
     requires rising { AreRising bytes.now }
     requires before { RowsPass tables.now bytes.now states.old moves.old from }
-    ensures few { IfOk result (λ _. length states.new.sets ≤ 2 ^ length tables.now.follow) }
+    ensures few { IfOk result (λ _. length states.new.sets ≤ 2 ^ count_of tables.now) }
     ensures rows { IfOk result (λ _. RowsFrom tables.now bytes.now states.old states.new moves.new (length states.new.sets)) }
 {
     let mut i = from;
     'states: while i < states.len() {
-        row_of(tables, bytes, i, states, moves)?;
+        row_of(tables, bytes, i, hints, states, moves)?;
         i += 1;
     }
     Ok(())
@@ -108,6 +112,7 @@ fn row_of(
     tables: &Tables,
     bytes: &[u8],
     i: usize,
+    hints: &mut Vec<usize>,
     states: &mut States,
     moves: &mut Moves,
 ) -> Result<(), AllocError>
@@ -117,7 +122,7 @@ fn row_of(
     requires before { RowsPass tables.now bytes.now states.old moves.old i }
     ensures { IfOk result (λ _. RowsFrom tables.now bytes.now states.old states.new moves.new (i + 1)) }
 {
-    let ahead = states.ahead(tables, i)?;
+    let ahead = states.ahead(tables, i, hints)?;
     let leaves = ahead.as_slice();
     let set = states.set_of(i);
     for byte in bytes {

@@ -7,13 +7,13 @@ ghost use Rattle.wb_base.specs.Different.{Differ};
 ghost use Rattle.wb_automata.specs.Automata.{Path};
 ghost use Rattle.wb_automata.specs.Inner.Found.{IsPlaced, IsMoved};
 ghost use Rattle.wb_automata.specs.Paths.{path_by, paths_of};
-ghost use Rattle.wb_automata_positions.specs.Transitions.{Ahead, IsPlaceList, IsTable};
+ghost use Rattle.wb_automata_positions.specs.Transitions.{Ahead, IsPlaceList, IsTable, count_of};
 
 use crate::predecessor::Predecessor;
 use indexmap::IndexSet;
 use std::alloc::{AllocError, Global};
 use std::marker::Model;
-use wb_automata_positions::{Leaves, Tables, reading, successors};
+use wb_automata_positions::{Leaves, Tables, ahead_of, reading};
 use wb_base::push;
 use wb_regex::RegexNode;
 
@@ -100,14 +100,19 @@ impl States {
     }
 
     // What may come after the places of a state.
-    pub(crate) fn ahead(&self, tables: &Tables, i: usize) -> Result<Leaves, AllocError>
+    pub(crate) fn ahead(
+        &self,
+        tables: &Tables,
+        i: usize,
+        hints: &mut Vec<usize>,
+    ) -> Result<Leaves, AllocError>
         requires table { IsTable tables.now }
         requires state { i < length self.now.sets }
-        requires places { (j : ℕ) (set : List ℕ) → slice_get self.now.sets j ≡ Some set → IsPlaceList (length tables.now.follow) set }
-        ensures exact { IfOk result (λ all. (set : List ℕ) → slice_get self.now.sets i ≡ Some set → (q : ℕ) → Contains all q ↔ Ahead tables.now.follow set q) }
+        requires places { (j : ℕ) (set : List ℕ) → slice_get self.now.sets j ≡ Some set → IsPlaceList (count_of tables.now) set }
+        ensures exact { IfOk result (λ all. (set : List ℕ) → slice_get self.now.sets i ≡ Some set → (q : ℕ) → Contains all q ↔ Ahead tables.now set q) }
         ensures places { IfOk result (IsPlaceList (length tables.now.nodes.items)) }
     {
-        successors(self.alloc, tables.nodes.len(), &tables.follow, self.at(i))
+        ahead_of(self.alloc, tables, self.at(i), hints)
     }
 
     // Where the byte of the predecessor leads, with the leaves that may come next.

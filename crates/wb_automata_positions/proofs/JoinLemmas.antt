@@ -1,4 +1,4 @@
--- Nodes that are joined are those of expressions with places at their leaves.
+-- Nodes that are joined are those of all expressions.
 use Rattle.std.proofs.Common.{◌≡◌, ℕ, zero, suc, ◌+◌, ◌≤◌, ◌<◌, List, [], ◌∷◌, ◌++◌, refl, sym, ◌∙◌, ap, subst, arith, Some, length, get_or}
 use Rattle.std.proofs.Common.{add-one, map, length-append, length-take-le, take, ◌^◌, inl, inr}
 use Rattle.std.specs.Prelude.{slice_get, option_map, sum_by}
@@ -10,68 +10,13 @@ use Rattle.wb_regex.specs.Tree.{Tree}
 use Rattle.wb_regex.specs.Covers as w
 use Rattle.wb_regex.specs.declared.node.RegexNode.{RegexNode}
 use Rattle.wb_regex.specs.declared.node.RegexNode.TheVariants as n
-use Rattle.wb_automata_positions.specs.PositionTrees.{PositionTree, Leaf, Sequence, Choice, Star, Plus, Maybe}
-use Rattle.wb_automata_positions.specs.Projection.{IsProjection, leaf, sequence, choice, star, plus, maybe}
-use Rattle.wb_automata_positions.specs.Forests as c
 use Rattle.wb_automata_positions.specs.Inner.Parts.{AreParts, PartsBelow}
 use Rattle.wb_automata_positions.specs.Inner.Concatenated.{raised, AreConcatenated, AreAdded}
 use Rattle.wb_automata_positions.specs.Sizes.{size_of, bound_of}
 use Rattle.wb_regex.specs.Filled.{Filled}
 use Rattle.wb_regex.specs.Matches.{Matches}
-use Rattle.wb_automata_positions.proofs.NodeLemmas.{parts_more}
+use Rattle.wb_automata_positions.proofs.PartLemmas.{parts_more}
 use Rattle.wb_lemmas.proofs.Places.{append_keeps, append_after}
-
--- an expression with places at its leaves, of which the nodes are, and the tree is
-pub record IsPlaced (nodes : List RegexNode) (s e : ℕ) (tree : Tree) : Type 0 where
-  pub linear : PositionTree
-  pub covers : c.Covers nodes s e linear
-  pub projects : IsProjection nodes linear tree
-
--- nodes within others, where they are raised, are those of an expression there
-pub place_all : (source nodes : List RegexNode) (m : ℕ) → ((k : ℕ) (node : RegexNode) → slice_get source k ≡ Some node → slice_get nodes
-    (m + k) ≡ Some (raised m node)) → {s e : ℕ} {tree : Tree} → w.Covers source s e tree → (a b : ℕ) → a ≡ m + s → b ≡ m + e
-    → IsPlaced nodes a b tree
-place_all source nodes m embeds (w.set {s = s} words at e) a b p q =
-    let here : slice_get nodes a ≡ Some (n.Set words) = subst (λ z. slice_get nodes z ≡ Some (n.Set words)) (sym p)
-    (embeds s (n.Set words) at) in
-    record { linear = Leaf a; covers = c.one words here (omega arith); projects = leaf here }
-place_all source nodes m embeds (w.sequence {s = s} i j x y at e) a b p q =
-    let u = place_all source nodes m embeds x a (m + i + 1) p (omega arith) in
-    let v = place_all source nodes m embeds y (m + i + 1) (m + j + 1) (omega arith) (omega arith) in
-    let here = subst (λ z. slice_get nodes z ≡ Some (n.Sequence (m + i) (m + j))) (let g : m + (j + 1) ≡ m + j + 1 = omega arith in g)
-    (embeds (j + 1) (n.Sequence i j) at) in
-    record {
-      linear = Sequence u.linear v.linear;
-      covers = c.seq (m + i) (m + j) u.covers v.covers here
-          (omega arith);
-      projects = sequence u.projects v.projects;
-    }
-place_all source nodes m embeds (w.choice {s = s} i j x y at e) a b p q =
-    let u = place_all source nodes m embeds x a (m + i + 1) p (omega arith) in
-    let v = place_all source nodes m embeds y (m + i + 1) (m + j + 1) (omega arith) (omega arith) in
-    let here = subst (λ z. slice_get nodes z ≡ Some (n.Choice (m + i) (m + j))) (let g : m + (j + 1) ≡ m + j + 1 = omega arith in g)
-    (embeds (j + 1) (n.Choice i j) at) in
-    record {
-      linear = Choice u.linear v.linear;
-      covers = c.choice (m + i) (m + j) u.covers v.covers here
-          (omega arith);
-      projects = choice u.projects v.projects;
-    }
-place_all source nodes m embeds (w.star {s = s} i x at e) a b p q =
-    let u = place_all source nodes m embeds x a (m + i + 1) p (omega arith) in
-    let here = subst (λ z. slice_get nodes z ≡ Some (n.Star (m + i))) (let g : m + (i + 1) ≡ m + i + 1 = omega arith in g)
-    (embeds (i + 1) (n.Star i) at) in
-    record { linear = Star u.linear; covers = c.star (m + i) u.covers here (omega arith); projects = star u.projects }
-place_all source nodes m embeds (w.plus {s = s} i x at e) a b p q =
-    let u = place_all source nodes m embeds x a (m + i + 1) p (omega arith) in
-    let here = subst (λ z. slice_get nodes z ≡ Some (n.Plus (m + i))) (let g : m + (i + 1) ≡ m + i + 1 = omega arith in g)
-    (embeds (i + 1) (n.Plus i) at) in
-    record { linear = Plus u.linear; covers = c.plus (m + i) u.covers here (omega arith); projects = plus u.projects }
-place_all source nodes m embeds (w.maybe {s = s} i x at e) a b p q =
-    let u = place_all source nodes m embeds x a (m + i + 1) p (omega arith) in
-    let here = subst (λ z. slice_get nodes z ≡ Some (n.Maybe (m + i))) (let g : m + (i + 1) ≡ m + i + 1 = omega arith in g)
-    (embeds (i + 1) (n.Maybe i) at) in
-    record { linear = Maybe u.linear; covers = c.maybe (m + i) u.covers here (omega arith); projects = maybe u.projects }
 
 -- a tree has as many nodes as its size says
 pub covers_size : {nodes : List RegexNode} {s e : ℕ} {tree : Tree} → w.Covers nodes s e tree → e ≡ s + size_of tree

@@ -1,5 +1,5 @@
 -- A star that is the whole of a star is made one with it.
-use Rattle.std.proofs.Common.{◌≡◌, ℕ, ◌+◌, ◌<◌, ◌≤◌, ◌≢◌, ◌⊎◌, List, refl, sym, ◌∙◌, ap, subst, arith, inl, inr, Some, length, get_or}
+use Rattle.std.proofs.Common.{◌≡◌, ℕ, ◌+◌, ◌<◌, ◌≢◌, ◌⊎◌, List, refl, sym, ◌∙◌, ap, subst, arith, inl, inr, Some, length, get_or}
 use Rattle.std.proofs.Common.{length-set, get_or-set_same, get_or-set_other, set}
 use Rattle.std.specs.Prelude.{slice_get}
 use Rattle.std.proofs.lemmas.Bool.{cases_eq, cases_lt}
@@ -9,7 +9,7 @@ use Rattle.wb_automata_positions.specs.declared.places.Place.{Place}
 use Rattle.wb_automata_positions.specs.declared.places.Place.TheVariants as p
 use Rattle.wb_automata_positions.specs.Places.{ArePlacesBelow, GoesBelow, GoesOn, Runs, moves}
 use Rattle.wb_automata_positions.specs.Inner.Machines.{AreNextBelow}
-use Rattle.wb_automata_positions.specs.Inner.Shortcuts.{AreIdentity, AreMerged, IsMergedAt, IsMove, IsOneWith, IsPrepared, LeadsToo, Waits}
+use Rattle.wb_automata_positions.specs.Inner.Shortcuts.{AreIdentity, AreMerged, IsMergedAt, IsMove, IsPrepared, LeadsToo, Waits}
 use Rattle.wb_automata_positions.proofs.EntryLemmas.{set_here, set_there}
 
 -- before any is merged

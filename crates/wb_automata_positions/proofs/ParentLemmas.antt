@@ -1,5 +1,5 @@
 -- Each node of expressions is a part of one node at most.
-use Rattle.std.proofs.Common.{◌≡◌, ℕ, suc, ◌+◌, ◌≤◌, ◌<◌, ◌⊎◌, List, [], ◌∷◌, refl, sym, ◌∙◌, ap, subst, arith, inl, inr, Some, length, get_or, add-one}
+use Rattle.std.proofs.Common.{◌≡◌, ℕ, ◌+◌, ◌≤◌, ◌<◌, List, [], ◌∷◌, refl, sym, ◌∙◌, ap, subst, arith, inl, inr, Some, length, get_or, add-one}
 use Rattle.std.specs.Prelude.{slice_get}
 use Rattle.std.proofs.lemmas.Bool.{cases_lt, cases_order}
 use Rattle.std.proofs.lemmas.Option.{slice_get-get_or, slice_get_within, same_Some}
@@ -10,7 +10,7 @@ use Rattle.wb_regex.specs.declared.node.RegexNode.TheVariants as n
 use Rattle.wb_automata_positions.specs.Sizes.{bound_of, size_of}
 use Rattle.wb_automata_positions.specs.Inner.Concatenated.{AreConcatenated, raised}
 use Rattle.wb_automata_positions.specs.Inner.Machines.{AreDifferent, HaveOneParent, IsPart}
-use Rattle.wb_automata_positions.proofs.Forests.{Located, locate}
+use Rattle.wb_automata_positions.proofs.PartLemmas.{Located, locate}
 use Rattle.wb_automata_positions.proofs.JoinLemmas.{bound_all, bound_next, bound_rises, covers_below, covers_parts, covers_size}
 
 at_place : (nodes : List RegexNode) (i j : ℕ) (a b : RegexNode) → slice_get nodes i ≡ Some a → slice_get nodes j ≡ Some b → i ≡ j → b ≡ a
@@ -213,7 +213,7 @@ module _ (trees : List Tree) (nodes : List RegexNode) (roots : List ℕ) (h : Ar
       (ap (bound_of trees) (add-one k) ∙ bound_next trees k tree at ∙ ap (λ z. bound_of trees k + z) long)
 
   -- the tree of a node
-  node_at : (j : ℕ) → j < length nodes → Located (bound_of trees) (length trees) j
+  pub node_at : (j : ℕ) → j < length nodes → Located (bound_of trees) (length trees) j
   node_at j lt = locate (bound_of trees) (length trees) j (bound_first trees) (omega (arith, h.len))
 
   covers_at : (k : ℕ) → k < length trees → w.Covers nodes (bound_of trees k) (bound_of trees (k + 1)) (get_or trees k (Set []))

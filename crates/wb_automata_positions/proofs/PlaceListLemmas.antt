@@ -1,9 +1,9 @@
 -- The list of places is a machine for the expressions.
-use Rattle.std.proofs.Common.{◌≡◌, ℕ, ◌+◌, ◌-◌, ◌≤◌, ◌<◌, ◌^◌, ◌⊎◌, List, [], ◌∷◌, ◌++◌, refl, sym, ◌∙◌, ap, subst, arith, inl, inr, Some, length, get_or}
-use Rattle.std.proofs.Common.{length-append, append-nil, Vec, Global}
+use Rattle.std.proofs.Common.{◌≡◌, ℕ, ◌+◌, ◌-◌, ◌≤◌, ◌<◌, List, [], ◌∷◌, ◌++◌, refl, sym, ◌∙◌, ap, subst, arith, inl, inr, Some, length, get_or}
+use Rattle.std.proofs.Common.{length-append, append-nil}
 use Rattle.std.specs.Prelude.{slice_get}
 use Rattle.std.proofs.lemmas.Bool.{cases_lt}
-use Rattle.std.proofs.lemmas.Option.{slice_get-get_or, slice_get_within, same_Some}
+use Rattle.std.proofs.lemmas.Option.{slice_get_within}
 use Rattle.wb_lemmas.proofs.Places.{at_push, at_within}
 use Rattle.wb_regex.specs.Tree.{Tree}
 use Rattle.wb_regex.specs.Matches.{Matches}
@@ -15,7 +15,8 @@ use Rattle.wb_automata_positions.specs.declared.places.Places.{Places}
 use Rattle.wb_automata_positions.specs.Inner.Parts.{PartsBelow}
 use Rattle.wb_automata_positions.specs.Places.{ArePlaces, GoesBelow, Runs, ended}
 use Rattle.wb_automata_positions.specs.Inner.Concatenated.{AreConcatenated}
-use Rattle.wb_automata_positions.specs.Inner.Machines.{AreContinued, AreListed, HaveOneParent, IsMachine, IsPlaceAt, again_place, first_place}
+use Rattle.wb_automata_positions.specs.Inner.Machines.{AreListed, HaveOneParent, IsMachine, IsPlaceAt}
+use Rattle.wb_automata_positions.specs.NodePlaces.{again_place, first_place}
 use Rattle.wb_automata_positions.proofs.ParentLemmas.{one_parent, tree_covers}
 use Rattle.wb_automata_positions.proofs.ReachLemmas.{complete}
 use Rattle.wb_automata_positions.proofs.RunLemmas.{IsMade, SubRun, counted, on_end, split}
@@ -95,7 +96,7 @@ module _ (nodes : List RegexNode) (roots : List ℕ) (places : List Place) (pare
   place_in : (i : ℕ) → i < size + size + length roots → (place : Place) × (slice_get places i ≡ Some place) × IsPlaceAt nodes h.next i place
   place_in i lt = (let (place, at) = at_within places i (omega (arith, h.listed.len)) in (place, at, h.listed.each i place at))
 
-  made_first : (i : ℕ) (node : RegexNode) → slice_get nodes i ≡ Some node → slice_get places i ≡ Some (first_place node (after i))
+  pub made_first : (i : ℕ) (node : RegexNode) → slice_get nodes i ≡ Some node → slice_get places i ≡ Some (first_place node (after i))
   made_first i node at =
       let (place, at_place, is) = place_in i (omega (arith, slice_get_within nodes i node at)) in
       at_place ∙ ap Some (is.first node at)
@@ -112,10 +113,10 @@ module _ (nodes : List RegexNode) (roots : List ℕ) (places : List Place) (pare
     continues = λ i node at. h.continued.parts i node (omega arith) at;
   }
 
-  end_at : (k : ℕ) → k < length roots → slice_get places (size + size + k) ≡ Some (p.End k)
+  pub end_at : (k : ℕ) → k < length roots → slice_get places (size + size + k) ≡ Some (p.End k)
   end_at k lt = (let (place, at_place, is) = place_in (size + size + k) (omega arith) in at_place ∙ ap Some (is.end k refl))
 
-  below_at : (i : ℕ) (place : Place) → slice_get places i ≡ Some place → GoesBelow (length places) place
+  pub below_at : (i : ℕ) (place : Place) → slice_get places i ≡ Some place → GoesBelow (length places) place
   below_at i place at =
       let is = h.listed.each i place at in
       let len = h.listed.len in
@@ -140,7 +141,7 @@ module _ (nodes : List RegexNode) (roots : List ℕ) (places : List Place) (pare
         ]
       ]
 
-  only_end : (i k : ℕ) → slice_get places i ≡ Some (p.End k) → i ≡ size + size + k
+  pub only_end : (i k : ℕ) → slice_get places i ≡ Some (p.End k) → i ≡ size + size + k
   only_end i k at =
       let is = h.listed.each i (p.End k) at in
       elim (cases_lt i size) [
@@ -161,11 +162,11 @@ module _ (trees : List Tree) (nodes : List RegexNode) (roots : List ℕ) (places
   parents : HaveOneParent nodes roots
   parents = one_parent trees nodes roots all
 
-  root_next : (k : ℕ) → k < length trees → get_or h.next (get_or roots k 0) 0 ≡ twice + k
+  pub root_next : (k : ℕ) → k < length trees → get_or h.next (get_or roots k 0) 0 ≡ twice + k
   root_next k lt = h.continued.ends.ends k (omega (arith, all.roots_len))
 
   -- a run from the start of an expression
-  whole : (k number : ℕ) (x : List ℕ) (tree : Tree) → slice_get trees k ≡ Some tree → Runs places (get_or roots k 0) number x
+  pub whole : (k number : ℕ) (x : List ℕ) (tree : Tree) → slice_get trees k ≡ Some tree → Runs places (get_or roots k 0) number x
       → (number ≡ k) × Matches tree x
   whole k number x tree at run =
       let lt = slice_get_within trees k tree at in
@@ -176,7 +177,7 @@ module _ (trees : List Tree) (nodes : List RegexNode) (roots : List ℕ) (places
       let (own, nothing) = on_end (end_at nodes roots places parents h k (omega (arith, all.roots_len))) last.run in
       (own, subst (Matches tree) (sym (s.joins ∙ ap (λ z. s.front ++ z) nothing ∙ append-nil s.front)) s.matches)
 
-  begun : (k : ℕ) (x : List ℕ) (tree : Tree) → slice_get trees k ≡ Some tree → Matches tree x → Runs places (get_or roots k 0) k x
+  pub begun : (k : ℕ) (x : List ℕ) (tree : Tree) → slice_get trees k ≡ Some tree → Matches tree x → Runs places (get_or roots k 0) k x
   begun k x tree at m =
       let lt = slice_get_within trees k tree at in
       complete nodes h.next places (made nodes roots places parents h) k (tree_covers trees nodes roots all k tree at) (get_or roots k 0) x [] x

@@ -1,5 +1,5 @@
 -- A match of a node and then a text that leads on lead from the node's place.
-use Rattle.std.proofs.Common.{◌≡◌, ℕ, ◌+◌, List, [], ◌∷◌, ◌++◌, refl, sym, ◌∙◌, ap, subst, arith, inl, inr, Some, length, get_or, append_assoc}
+use Rattle.std.proofs.Common.{◌≡◌, ℕ, ◌+◌, List, ◌++◌, refl, sym, ◌∙◌, ap, subst, arith, inl, inr, Some, length, get_or, append_assoc}
 use Rattle.std.specs.Prelude.{slice_get}
 use Rattle.wb_regex.specs.Tree.{Tree, Star}
 use Rattle.wb_regex.specs.Covers as w

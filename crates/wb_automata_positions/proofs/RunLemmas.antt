@@ -1,6 +1,6 @@
 -- From the place of a node one comes to an end by exactly the texts that match the node and then lead on from where it goes on.
-use Rattle.std.proofs.Common.{◌≡◌, ℕ, zero, suc, ◌+◌, ◌≤◌, ◌<◌, ◌⊎◌, List, [], ◌∷◌, ◌++◌, refl, sym, ◌∙◌, ap, subst, arith, inl, inr}
-use Rattle.std.proofs.Common.{Some, length, get_or, append_assoc, append-nil}
+use Rattle.std.proofs.Common.{◌≡◌, ℕ, zero, suc, ◌+◌, ◌<◌, ◌⊎◌, List, [], ◌∷◌, ◌++◌, refl, sym, ◌∙◌, ap, subst, arith, inl, inr}
+use Rattle.std.proofs.Common.{Some, length, get_or, append_assoc}
 use Rattle.std.specs.Prelude.{slice_get}
 use Rattle.std.proofs.lemmas.Option.{same_Some}
 use Rattle.wb_regex.specs.Tree.{Tree, Star}
@@ -11,7 +11,8 @@ use Rattle.wb_regex.specs.declared.node.RegexNode.TheVariants as n
 use Rattle.wb_automata_positions.specs.declared.places.Place.{Place}
 use Rattle.wb_automata_positions.specs.declared.places.Place.TheVariants as p
 use Rattle.wb_automata_positions.specs.Places.{Runs, ended, reads, moves, GoesOn, ReadsTo}
-use Rattle.wb_automata_positions.specs.Inner.Machines.{Continues, again_place, first_place}
+use Rattle.wb_automata_positions.specs.Inner.Machines.{Continues}
+use Rattle.wb_automata_positions.specs.NodePlaces.{again_place, first_place}
 
 -- the places of nodes, and where each goes on
 pub record IsMade (nodes : List RegexNode) (next : List ℕ) (places : List Place) : Type 0 where

@@ -1,15 +1,14 @@
 -- A machine whose steps are left out as entries say is one for the same expressions.
-use Rattle.std.proofs.Common.{◌≡◌, ℕ, ◌+◌, ◌<◌, ◌≤◌, ◌⊎◌, List, [], ◌∷◌, refl, sym, ◌∙◌, ap, subst, arith, inl, inr, Some, length}
+use Rattle.std.proofs.Common.{◌≡◌, ℕ, ◌+◌, ◌<◌, List, [], ◌∷◌, refl, sym, ◌∙◌, ap, subst, arith, inl, inr, Some, length}
 use Rattle.std.proofs.Common.{get_or, Vec, Global}
 use Rattle.std.specs.Prelude.{slice_get}
 use Rattle.std.proofs.lemmas.Option.{same_Some, slice_get_within}
 use Rattle.wb_lemmas.proofs.Places.{at_within}
-use Rattle.wb_regex.specs.Tree.{Tree}
 use Rattle.wb_automata_positions.specs.declared.places.Place.{Place}
 use Rattle.wb_automata_positions.specs.declared.places.Place.TheVariants as p
-use Rattle.wb_automata_positions.specs.Places.{ArePlaces, ArePlacesBelow, GoesBelow, GoesOn, ReadsTo, Runs, ended, moves, reads}
+use Rattle.wb_automata_positions.specs.Places.{ArePlacesBelow, GoesBelow, GoesOn, ReadsTo, Runs, ended, moves, reads}
 use Rattle.wb_automata_positions.specs.Inner.Machines.{AreNextBelow}
-use Rattle.wb_automata_positions.specs.Inner.Shortcuts.{AreMoved, AreRetargeted, IsMove, IsPrepared, IsShorter, LeadsToo, Waits, retargeted}
+use Rattle.wb_automata_positions.specs.Inner.Shortcuts.{AreMoved, AreRetargeted, IsPrepared, IsShorter, Waits, retargeted}
 
 -- where a step to an entry came from
 goes_from : (entry : List ℕ) (place : Place) (q : ℕ) → GoesOn (retargeted entry place) q → (t : ℕ) × GoesOn place t × (q ≡ get_or entry t 0)

@@ -10,9 +10,8 @@ use Rattle.wb_termset.specs.Sets.{IsMember}
 use Rattle.wb_automata_positions.specs.Rows.{row}
 use Rattle.wb_automata_positions.specs.Rising.{AreRising}
 use Rattle.wb_automata_positions.specs.Transitions.{IsPlaceList}
-use Rattle.wb_automata_positions.specs.PositionSets.{IsStartOf}
-use Rattle.wb_automata_positions.specs.Tables.{IsStartsOf}
-use Rattle.wb_automata_positions.specs.Inner.LinkTables.{AreStarts}
+use Rattle.wb_automata_positions.specs.Tables.{IsStartOf, IsStartsOf}
+use Rattle.wb_automata_positions.specs.Inner.Starts.{AreStarts}
 use Rattle.wb_lemmas.proofs.Elements.{all_from_contained}
 
 pub rising_none : AreRising []

@@ -8,18 +8,10 @@ pub mod Sizes
 pub mod Leaves
 -- bytes in classes, which the same leaves hold
 pub mod Classes
--- expressions whose leaves are positions
-pub mod PositionTrees
--- expressions of positions and those of sets of bytes
-pub mod Projection
--- Glushkov's position automaton
-pub mod Positions
--- the position automata of several expressions
-pub mod PositionSets
--- several expressions over one list of nodes
-pub mod Forests
 -- a machine of places
 pub mod Places
+-- that machine as nodes have it
+pub mod NodePlaces
 -- lists of leaves, and what may come after them
 pub mod Transitions
 -- the tables of several expressions

@@ -1,5 +1,5 @@
 -- A machine of places for several expressions: by which texts one comes from the start of an expression to an end.
-use Rattle.std.specs.Prelude.{◌≡◌, ◌+◌, ◌<◌, ◌⊎◌, ◌↔◌, ℕ, List, [], ◌∷◌, Some, length, slice_get, slice_index}
+use Rattle.std.specs.Prelude.{◌≡◌, ◌+◌, ◌<◌, ◌⊎◌, ℕ, List, [], ◌∷◌, Some, length, slice_get, slice_index}
 use Rattle.wb_regex.specs.Tree.{Tree}
 use Rattle.wb_regex.specs.Matches.{Matches, HoldsByte}
 use Rattle.wb_automata_positions.specs.declared.places.Place.{Place}

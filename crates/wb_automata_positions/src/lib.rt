@@ -1,16 +1,13 @@
-//! The position automaton of several regular expressions: which leaf may come after which, with which leaves a match may begin
-//! and end, and which bytes no leaf tells apart.
+//! The position automaton of several regular expressions: which leaves may come next, which expressions may end, and which bytes no leaf
+//! tells apart.
 //!
 //! It is Glushkov's: the leaf that was read last is the state. What is made of it lies above, in `wb_automata`.
 #![tactic(auto)]
 
 mod classes;
+mod closure;
 mod concatenated;
-mod ends;
 mod places;
-mod positions;
-mod post_order;
-mod repeated;
 mod rows;
 mod shortcuts;
 mod tables;
@@ -18,7 +15,8 @@ mod terminals;
 mod transition;
 
 pub use classes::{Classes, classes_of};
+pub use closure::{ahead_of, ends_after, hints_of};
 pub use places::{Place, Places, places_of};
 pub use rows::{Leaves, Rows};
 pub use tables::{Tables, tables_of};
-pub use transition::{holds, reading, successors};
+pub use transition::{holds, reading};

@@ -1,11 +1,12 @@
 //! Several expressions as one machine of places: Thompson's construction, as a list.
 //!
-//! It is linear in the expressions, where the rows of `tables` may be quadratic: a place goes on at two others at most.
+//! It is linear in the expressions: a place goes on at two others at most.
 
 ghost use Rattle.std.specs.Prelude.{◌≡◌, ◌+◌, ◌^◌, ◌<◌, ◌≤◌, IfOk, length, replicate};
 ghost use Rattle.wb_automata_positions.specs.Inner.Parts.{PartsBelow};
 ghost use Rattle.wb_automata_positions.specs.Places.{ArePlaces};
-ghost use Rattle.wb_automata_positions.specs.Inner.Machines.{AreContinued, AreEndsSet, AreListed, HaveOneParent, IsMachine, IsPlaceAt, again_place, first_place, linked};
+ghost use Rattle.wb_automata_positions.specs.NodePlaces.{again_place, first_place};
+ghost use Rattle.wb_automata_positions.specs.Inner.Machines.{AreContinued, AreEndsSet, AreListed, HaveOneParent, IsMachine, IsPlaceAt, IsWayOn, linked};
 
 use crate::concatenated::concatenate;
 use crate::shortcuts::shorten;
@@ -73,6 +74,19 @@ fn all_places(alloc: Global, nodes: &[RegexNode], roots: &[usize]) -> Result<Vec
     let count = count_of(nodes.len(), roots.len())?;
     let next = continuations(alloc, nodes, roots, count)?;
     list_places(alloc, nodes, &next, count)
+}
+
+// The place at which each node goes on, where all places have numbers.
+pub(crate) fn next_of(
+    alloc: Global,
+    nodes: &[RegexNode],
+    roots: &[usize],
+) -> Result<Vec<usize>, AllocError>
+    requires { HaveOneParent nodes.now roots.now }
+    ensures { IfOk result (λ next. IsWayOn nodes.now roots.now next.items) }
+{
+    let count = count_of(nodes.len(), roots.len())?;
+    continuations(alloc, nodes, roots, count)
 }
 
 // How many places there are for nodes and roots.
@@ -183,7 +197,7 @@ fn list_places(
 }
 
 // What is at a place.
-fn place_at(nodes: &[RegexNode], next: &[usize], i: usize) -> Place
+pub(crate) fn place_at(nodes: &[RegexNode], next: &[usize], i: usize) -> Place
     requires len { length next.now ≡ length nodes.now }
     requires fits { length nodes.now + length nodes.now < 2 ^ 64 }
     ensures { IsPlaceAt nodes.now next.now i result }

@@ -4,7 +4,7 @@ use Rattle.std.specs.Prelude.{slice_index, slice_index_or}
 use Rattle.wb_automata_positions.specs.declared.tables.Tables.{Tables}
 use Rattle.wb_automata.specs.Automata.{Path, IsEarlier}
 use Rattle.wb_automata_positions.specs.Rows.{row}
-use Rattle.wb_automata_positions.specs.Transitions.{Ahead, IsPlaceList}
+use Rattle.wb_automata_positions.specs.Transitions.{Ahead, IsPlaceList, count_of}
 use Rattle.wb_automata.specs.Inner.Found.{Reads, Found, AreFound, Extends, AllBefore, on}
 
 -- the byte leads from the places of a state to those of another, whose path isn't later than that of the state with the byte
@@ -52,7 +52,7 @@ pub record RowPass (t : Tables) (bytes : List ℕ) (old found : Found) (i : ℕ)
   pub path : Path
   pub at : slice_get found.sets i ≡ Some set
   pub at_path : slice_get found.paths i ≡ Some path
-  pub is : (q : ℕ) → Contains ahead q ↔ Ahead t.follow set q
+  pub is : (q : ℕ) → Contains ahead q ↔ Ahead t set q
   pub places : IsPlaceList (length t.nodes.items) ahead
   pub extends : Extends old found
   pub sets_kept : KeepsSets old found
@@ -82,7 +82,7 @@ pub record StartsAt (t : Tables) (found : Found) (set state : ℕ) : Type 0 wher
 
 -- all states that are found from the starts of the first s sets, and all their moves
 pub record AreExplored (t : Tables) (bytes : List ℕ) (found : Found) (moves : List (Option ℕ)) (starts : List ℕ) (s : ℕ) : Type 0 where
-  pub few : length found.sets ≤ 2 ^ length t.follow
+  pub few : length found.sets ≤ 2 ^ count_of t
   pub rows : RowsPass t bytes found moves (length found.sets)
   pub sets_below : SetsBelow s found
   pub starts_len : length starts ≡ s

@@ -4,12 +4,12 @@ use Rattle.wb_regex.specs.declared.node.RegexNode.{RegexNode}
 use Rattle.wb_automata_positions.specs.Rows.{row}
 use Rattle.wb_automata_positions.specs.declared.tables.Tables.{Tables}
 use Rattle.wb_automata_positions.specs.Leaves.{holds_of}
-use Rattle.wb_automata_positions.specs.Transitions.{Ahead, IsPlaceList}
+use Rattle.wb_automata_positions.specs.Transitions.{Ahead, IsPlaceList, count_of}
 use Rattle.wb_automata.specs.Automata.{Path, IsEarlier}
 
 -- the leaf is where the byte leads from the set
 abbrev pub Reads : Tables → List ℕ → ℕ → ℕ → Type 0
-Reads t set b q = (holds_of t.nodes.items q b ≡ true) × Ahead t.follow set q
+Reads t set b q = (holds_of t.nodes.items q b ≡ true) × Ahead t set q
 
 -- the places of each state, and its path
 pub record Found : Type 0 where
@@ -70,7 +70,7 @@ pub record IsChild (t : Tables) (found : Found) (j : ℕ) : Type 0 where
 -- states as they are found: each at the start of a set or from an earlier one, in the order of their paths
 pub record AreFound (t : Tables) (found : Found) : Type 0 where
   pub len : length found.paths ≡ length found.sets
-  pub places : (j : ℕ) (set : List ℕ) → slice_get found.sets j ≡ Some set → IsPlaceList (length t.follow) set
+  pub places : (j : ℕ) (set : List ℕ) → slice_get found.sets j ≡ Some set → IsPlaceList (count_of t) set
   pub each : (j : ℕ) → j < length found.sets → IsSetStart t found j ⊎ IsChild t found j
   pub sorted : (i j : ℕ) (u v : Path) → i < j → slice_get found.paths i ≡ Some u → slice_get found.paths j ≡ Some v → IsEarlier u v
 

@@ -4,6 +4,7 @@ use Rattle.wb_regex.specs.declared.node.RegexNode.{RegexNode}
 use Rattle.wb_regex.specs.declared.node.RegexNode.TheVariants as n
 use Rattle.wb_automata_positions.specs.declared.places.Place.{Place}
 use Rattle.wb_automata_positions.specs.declared.places.Place.TheVariants as p
+use Rattle.wb_automata_positions.specs.NodePlaces.{again_place, first_place}
 use Rattle.wb_automata_positions.specs.Inner.Parts.{PartsBelow}
 
 -- where the parts of a node go on, with as many nodes as n; and the other nodes as before
@@ -68,24 +69,6 @@ pub record AreContinued (nodes : List RegexNode) (roots next : List ℕ) (count 
   pub ends : AreEndsSet (length nodes) roots next count (length roots)
   pub parts : (j : ℕ) (node : RegexNode) → at ≤ j → slice_get nodes j ≡ Some node → Continues next (length nodes) j node
 
--- what is at the place of a node that goes on at `next`
-abbrev pub first_place : RegexNode → ℕ → Place
-first_place (n.Set words) next = p.Read words next
-first_place (n.Sequence i j) next = p.Go i
-first_place (n.Choice i j) next = p.Fork i j
-first_place (n.Star i) next = p.Fork i next
-first_place (n.Plus i) next = p.Go i
-first_place (n.Maybe i) next = p.Fork i next
-
--- what is at the second place of a node, where the part of a plus goes on
-abbrev pub again_place : RegexNode → ℕ → Place
-again_place (n.Set words) next = p.Go next
-again_place (n.Sequence i j) next = p.Go next
-again_place (n.Choice i j) next = p.Go next
-again_place (n.Star i) next = p.Go next
-again_place (n.Plus i) next = p.Fork i next
-again_place (n.Maybe i) next = p.Go next
-
 -- this is at place i: first the nodes have one each, then another one each, and then there are the ends
 pub record IsPlaceAt (nodes : List RegexNode) (next : List ℕ) (i : ℕ) (place : Place) : Type 0 where
   pub first : (node : RegexNode) → slice_get nodes i ≡ Some node → place ≡ first_place node (slice_index next i)
@@ -103,4 +86,9 @@ pub record IsMachine (nodes : List RegexNode) (roots : List ℕ) (places : List 
   pub next : List ℕ
   pub continued : AreContinued nodes roots next (length nodes + length nodes + length roots) 0
   pub listed : AreListed nodes next places (length nodes + length nodes + length roots)
+  pub fits : length nodes + length nodes + length roots < 2 ^ 64
+
+-- each node goes on where it should, and all places have numbers
+pub record IsWayOn (nodes : List RegexNode) (roots next : List ℕ) : Type 0 where
+  pub continued : AreContinued nodes roots next (length nodes + length nodes + length roots) 0
   pub fits : length nodes + length nodes + length roots < 2 ^ 64

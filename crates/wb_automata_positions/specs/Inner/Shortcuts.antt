@@ -1,5 +1,5 @@
 -- Machines of places in which steps are left out.
-use Rattle.std.specs.Prelude.{◌≡◌, ◌+◌, ◌<◌, ◌≤◌, ◌⊎◌, ℕ, List, Some, Vec, length, slice_get, slice_index, slice_set}
+use Rattle.std.specs.Prelude.{◌≡◌, ◌<◌, ◌≤◌, ◌⊎◌, ℕ, List, Some, Vec, length, slice_get, slice_index, slice_set}
 use Rattle.std.specs.Prelude.{if◌then◌else◌, nat_lt}
 use Rattle.std.specs.Global.{Global}
 use Rattle.wb_regex.specs.Tree.{Tree}

@@ -4,15 +4,9 @@ use Rattle.wb_automata.proofs.automaton.from_tables.Goals as goal
 pub found_of-requires-clause-table : goal.found_of-requires-clause-table
 found_of-requires-clause-table c = c.requires.table
 
-pub found_of-requires-clause-ends : goal.found_of-requires-clause-ends
-found_of-requires-clause-ends c = c.requires.ends_below
-
-pub found_of-requires-clause-rows : goal.found_of-requires-clause-rows
-found_of-requires-clause-rows c = c.requires.ends_len
-
 pub invariant_of-result : goal.invariant_of-result
 invariant_of-result c =
-    let t = c.args.tables.now in
+    let t = c.args.tables in
     let e = c.in_ok-found.found.explored in
     rw (
       c.into_predecessors.ensures,

@@ -1,4 +1,4 @@
-use Rattle.std.proofs.Common.{◌+◌, ◌<◌, ℕ, arith, length, refl}
+use Rattle.std.proofs.Common.{◌+◌, ℕ, arith, length, refl}
 use Rattle.wb_automata_positions.proofs.ParentLemmas.{one_parent}
 use Rattle.wb_automata_positions.proofs.PlaceListLemmas.{machine_of}
 use Rattle.wb_automata_positions.proofs.places.places_of.Goals as goal

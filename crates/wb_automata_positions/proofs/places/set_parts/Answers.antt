@@ -1,9 +1,9 @@
-use Rattle.std.proofs.Common.{◌≡◌, ◌<◌, ◌+◌, ◌-◌, ◌∙◌, ℕ, length, get_or, subst, arith, []}
+use Rattle.std.proofs.Common.{◌≡◌, ◌<◌, ◌+◌, ◌-◌, ℕ, length, get_or, subst, arith, []}
 use Rattle.std.proofs.lemmas.Option.{slice_get-get_or}
 use Rattle.wb_regex.specs.declared.node.RegexNode.TheVariants as n
-use Rattle.wb_automata_positions.specs.Inner.Machines.{AreContinued, linked}
+use Rattle.wb_automata_positions.specs.Inner.Machines.{AreContinued}
 use Rattle.wb_automata_positions.proofs.NextLemmas.{continued_more}
-use Rattle.wb_automata_positions.proofs.NodeLemmas.{parts_more}
+use Rattle.wb_automata_positions.proofs.PartLemmas.{parts_more}
 use Rattle.wb_automata_positions.proofs.places.set_parts.Goals as goal
 
 pub set_next-requires-clause-parts : goal.set_next-requires-clause-parts

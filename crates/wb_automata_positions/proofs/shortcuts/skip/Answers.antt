@@ -1,4 +1,3 @@
-use Rattle.std.proofs.Common.{length}
 use Rattle.wb_automata_positions.proofs.EntryLemmas.{handing_prepared}
 use Rattle.wb_automata_positions.proofs.ShortcutLemmas.{below, shorter}
 use Rattle.wb_automata_positions.proofs.shortcuts.skip.Goals as goal

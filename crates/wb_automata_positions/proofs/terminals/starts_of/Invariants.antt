@@ -1,4 +1,4 @@
-use Rattle.wb_automata_positions.specs.Inner.LinkTables.{AreStarts}
+use Rattle.wb_automata_positions.specs.Inner.Starts.{AreStarts}
 use Rattle.wb_automata_positions.proofs.terminals.starts_of.Given as goal
 
 abbrev pub invariant-loop-set : goal.invariant-loop-set

@@ -1,0 +1,7 @@
+use Rattle.std.proofs.Common.{◌≡◌, ◌+◌}
+use Rattle.wb_automata_positions.specs.Inner.Closures.{Adds}
+use Rattle.wb_automata_positions.proofs.ClosureLemmas.{OfFirst}
+use Rattle.wb_automata_positions.proofs.closure.add_ends.Given as goal
+
+abbrev pub invariant-loop-q : goal.invariant-loop-q
+invariant-loop-q l = Adds (OfFirst (λ from d. from ≡ l.first + d) l.met l.q-index) l.fn.all l.all

@@ -1,0 +1,235 @@
+//! To which leaves and ends does one come from some leaves and starts without reading?
+//!
+//! A walk goes over the places, each once. Hints say where in the walk a place was met: they make it fast and prove nothing, so they are
+//! never cleared.
+
+ghost use Rattle.std.specs.Prelude.{◌≡◌, ◌+◌, ◌^◌, ◌<◌, ◌↔◌, ℕ, All, Contains, IfOk, IsTrue, length, replicate};
+ghost use Rattle.wb_automata_positions.specs.Inner.Closures.{Adds, Closes, IsEntry, IsSet};
+ghost use Rattle.wb_automata_positions.specs.NodePlaces.{place_of};
+ghost use Rattle.wb_automata_positions.specs.Places.{GoesOn};
+ghost use Rattle.wb_automata_positions.specs.Rising.{AreRising};
+ghost use Rattle.wb_automata_positions.specs.Transitions.{Ahead, EndsAfter, IsLeaf, IsPlaceList, IsReached, IsTable, count_of, entry_of};
+
+use crate::places::{Place, place_at};
+use crate::rows::Leaves;
+use crate::tables::Tables;
+use std::alloc::{AllocError, Global};
+use wb_regex::RegexNode;
+
+/// The leaves that may be read next after these leaves and starts, in order.
+///
+/// The hints are those of `hints_of`, or any: what they are changes only the time.
+pub fn ahead_of(
+    alloc: Global,
+    tables: &Tables,
+    set: &[usize],
+    hints: &mut Vec<usize>,
+) -> Result<Leaves, AllocError>
+    requires table { IsTable tables.now }
+    requires set { All (λ p. p < count_of tables.now) set.now }
+    ensures exact { IfOk result (λ all. (q : ℕ) → Contains all q ↔ Ahead tables.now set.now q) }
+    ensures places { IfOk result (IsPlaceList (length tables.now.nodes.items)) }
+{
+    let met = closure(alloc, tables, set, hints)?;
+    leaves_among(alloc, tables.nodes.as_slice(), met.as_slice())
+}
+
+/// The expressions that may end after these leaves and starts, in order.
+pub fn ends_after(
+    alloc: Global,
+    tables: &Tables,
+    set: &[usize],
+    hints: &mut Vec<usize>,
+) -> Result<Leaves, AllocError>
+    requires table { IsTable tables.now }
+    requires set { All (λ p. p < count_of tables.now) set.now }
+    ensures exact { IfOk result (λ all. (k : ℕ) → Contains all k ↔ EndsAfter tables.now set.now k) }
+    ensures rising { IfOk result AreRising }
+{
+    let met = closure(alloc, tables, set, hints)?;
+    ends_among(alloc, tables.nodes.len(), met.as_slice())
+}
+
+/// Hints for the places of the tables.
+pub fn hints_of(alloc: Global, tables: &Tables) -> Result<Vec<usize>, AllocError> {
+    let nodes = tables.nodes.len();
+    match nodes.checked_add(nodes) {
+        None => Err(AllocError),
+        Some(count) => vec![in alloc; 0; count],
+    }
+}
+
+// The places to which one comes from a set without reading.
+fn closure(
+    alloc: Global,
+    tables: &Tables,
+    set: &[usize],
+    hints: &mut Vec<usize>,
+) -> Result<Leaves, AllocError>
+    requires table { IsTable tables.now }
+    requires set { All (λ p. p < count_of tables.now) set.now }
+    ensures { IfOk result (λ met. (d : ℕ) → Contains met d ↔ IsReached tables.now set.now d) }
+{
+    let mut met = Leaves::new(alloc);
+    meet_entries(tables, set, hints, &mut met)?;
+    close(
+        tables.nodes.as_slice(),
+        tables.next.as_slice(),
+        hints,
+        &mut met,
+    )?;
+    Ok(met)
+}
+
+// Meets the places where one goes on after these leaves and starts.
+fn meet_entries(
+    tables: &Tables,
+    set: &[usize],
+    hints: &mut Vec<usize>,
+    met: &mut Leaves,
+) -> Result<(), AllocError>
+    requires table { IsTable tables.now }
+    requires set { All (λ p. p < count_of tables.now) set.now }
+    ensures { IfOk result (λ _. Adds (IsEntry tables.now set.now) met.old met.new) }
+{
+    for p in set {
+        meet(entry_of(tables, *p), hints, met)?;
+    }
+    Ok(())
+}
+
+fn entry_of(tables: &Tables, p: usize) -> usize
+    requires table { IsTable tables.now }
+    requires p { p < count_of tables.now }
+    ensures { result ≡ entry_of tables.now p }
+{
+    if p < tables.next.len() {
+        return tables.next[p];
+    }
+    tables.roots[p - tables.next.len()]
+}
+
+// Puts all places after these to which one comes from them without reading.
+fn close(
+    nodes: &[RegexNode],
+    next: &[usize],
+    hints: &mut Vec<usize>,
+    met: &mut Leaves,
+) -> Result<(), AllocError>
+    requires len { length next.now ≡ length nodes.now }
+    requires fits { length nodes.now + length nodes.now < 2 ^ 64 }
+    ensures { IfOk result (λ _. Closes nodes.now next.now met.old met.new (length met.new)) }
+{
+    let mut i = 0;
+    'places: while i < met.as_slice().len() {
+        let place = place_at(nodes, next, met.as_slice()[i]);
+        meet_next(place, hints, met)?;
+        i += 1;
+    }
+    Ok(())
+}
+
+// Meets where a place goes on without reading.
+fn meet_next(place: Place, hints: &mut Vec<usize>, met: &mut Leaves) -> Result<(), AllocError>
+    ensures { IfOk result (λ _. Adds (GoesOn place) met.old met.new) }
+{
+    match place {
+        Place::Read(_, _) => {}
+        Place::Go(q) => meet(q, hints, met)?,
+        Place::Fork(q, r) => {
+            meet(q, hints, met)?;
+            meet(r, hints, met)?;
+        }
+        Place::End(_) => {}
+    }
+    Ok(())
+}
+
+// Puts a place after the others, unless it is known that it is there.
+fn meet(place: usize, hints: &mut Vec<usize>, met: &mut Leaves) -> Result<(), AllocError>
+    ensures { IfOk result (λ _. Adds (λ d. d ≡ place) met.old met.new) }
+{
+    if is_met(place, hints, met.as_slice()) {
+        return Ok(());
+    }
+    if place < hints.len() {
+        hints[place] = met.as_slice().len();
+    }
+    met.push(place)
+}
+
+// Whether the hint of a place leads to it.
+fn is_met(place: usize, hints: &[usize], met: &[usize]) -> bool
+    ensures { IsTrue result → Contains met.now place }
+{
+    if place >= hints.len() {
+        return false;
+    }
+    let at = hints[place];
+    at < met.len() && met[at] == place
+}
+
+// The leaves among some places, in order.
+fn leaves_among(alloc: Global, nodes: &[RegexNode], met: &[usize]) -> Result<Leaves, AllocError>
+    ensures exact { IfOk result (λ all. (q : ℕ) → Contains all q ↔ (IsLeaf nodes.now q × Contains met.now q)) }
+    ensures rising { IfOk result AreRising }
+{
+    let mut all = Leaves::new(alloc);
+    add_leaves(nodes, met, &mut all)?;
+    all.sort();
+    Ok(all)
+}
+
+fn add_leaves(nodes: &[RegexNode], met: &[usize], all: &mut Leaves) -> Result<(), AllocError>
+    ensures { IfOk result (λ _. Adds (λ q. IsLeaf nodes.now q × Contains met.now q) all.old all.new) }
+{
+    for q in met {
+        if is_leaf(nodes, *q) {
+            all.push(*q)?;
+        }
+    }
+    Ok(())
+}
+
+fn is_leaf(nodes: &[RegexNode], q: usize) -> bool
+    ensures { IsTrue result ↔ IsLeaf nodes.now q }
+{
+    q < nodes.len() && is_set(nodes[q])
+}
+
+fn is_set(node: RegexNode) -> bool
+    ensures { IsTrue result ↔ IsSet node }
+{
+    match node {
+        RegexNode::Set(_) => true,
+        RegexNode::Sequence(_, _) => false,
+        RegexNode::Choice(_, _) => false,
+        RegexNode::Star(_) => false,
+        RegexNode::Plus(_) => false,
+        RegexNode::Maybe(_) => false,
+    }
+}
+
+// The expressions whose ends are among some places, in order.
+fn ends_among(alloc: Global, count: usize, met: &[usize]) -> Result<Leaves, AllocError>
+    requires { count + count < 2 ^ 64 }
+    ensures exact { IfOk result (λ all. (k : ℕ) → Contains all k ↔ Contains met.now (count + count + k)) }
+    ensures rising { IfOk result AreRising }
+{
+    let mut all = Leaves::new(alloc);
+    add_ends(count + count, met, &mut all)?;
+    all.sort();
+    Ok(all)
+}
+
+// Adds the numbers that some places have from one on.
+fn add_ends(first: usize, met: &[usize], all: &mut Leaves) -> Result<(), AllocError>
+    ensures { IfOk result (λ _. Adds (λ k. Contains met.now (first + k)) all.old all.new) }
+{
+    for q in met {
+        if *q >= first {
+            all.push(*q - first)?;
+        }
+    }
+    Ok(())
+}
