@@ -8,6 +8,8 @@ mod operation_tables;
 #[cfg(test)]
 mod operations;
 #[cfg(test)]
+mod trees_in_place;
+#[cfg(test)]
 mod types;
 #[cfg(test)]
 mod values;

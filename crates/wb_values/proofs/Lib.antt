@@ -1,6 +1,10 @@
+pub mod BuildLemmas
 pub mod CallerLemmas
 pub mod ChildLemmas
 pub mod Grown
+pub mod InPlaceLemmas
 pub mod Laid
+pub mod LayoutLemmas
 pub mod PackedLemmas
 pub mod SignatureLemmas
+pub mod WalkLemmas

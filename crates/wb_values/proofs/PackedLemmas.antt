@@ -1,10 +1,10 @@
 -- The values of cells: one more, fewer of them, and one at a place.
-use Rattle.std.proofs.Common.{◌≡◌, ℕ, zero, suc, ◌+◌, ◌-◌, ◌<◌, ◌≤◌, List, [], ◌∷◌, ◌++◌, Some, length, take, drop, get_or, refl, sym, ap}
+use Rattle.std.proofs.Common.{◌≡◌, ℕ, zero, suc, ◌-◌, ◌<◌, ◌≤◌, List, [], ◌∷◌, ◌++◌, Some, length, take, drop, get_or, refl, sym, ap}
 use Rattle.std.proofs.Common.{subst}
-use Rattle.std.proofs.Common.{◌∙◌, arith, length-append, length-drop, append_assoc}
+use Rattle.std.proofs.Common.{◌∙◌, arith, length-append}
 use Rattle.std.specs.Prelude.{slice_get, false}
-use Rattle.std.proofs.lemmas.List.{map-append, length-map, take-append-drop, get_or-map, get_or_push, length-take-le, get_or_read, take_all}
-use Rattle.std.proofs.lemmas.List.{take_at, drop-drop}
+use Rattle.std.proofs.lemmas.List.{map-append, length-map, take-append-drop, get_or-map, get_or_push, length-take-le, get_or_read}
+use Rattle.std.proofs.lemmas.List.{take_at}
 use Rattle.std.proofs.lemmas.Option.{slice_get-get_or}
 use Rattle.std.proofs.Math.ListN.{get_or-append}
 use Rattle.wb_values.specs.declared.value.TreeId.{TreeId}
@@ -211,6 +211,11 @@ one_at [] k x at = absurd cc
 one_at (y ∷ ys) zero x at = let e : y ≡ x = cc in ap (λ (z : Value). z ∷ []) e
 one_at (y ∷ ys) (suc k) x at = one_at ys k x at
 
+-- there is one at each place
+pub some_one : (xs : List Value) (k : ℕ) → k < length xs → (x : Value) × (take 1 (drop k xs) ≡ x ∷ [])
+some_one xs k lt =
+    let x = get_or xs k (value.Bool false) in (x, one_at xs k x (slice_get-get_or xs k (value.Bool false) lt))
+
 -- the same of a value that a cell holds
 pub small_at : (large view : List Value) (k : ℕ) (c : Cell) → CellAt large view k c → ((high low : ℕ) → c ≡ cell.Large high low → ⊥)
     → IsSmall c × (take 1 (drop k view) ≡ value_of [] c ∷ [])
@@ -283,38 +288,3 @@ large_rest cs ds high low n large view h shown split counted =
       packed = subst (ArePacked 0 ds) (sym len) first;
       values = sym b ∙ value_rest ds (cell.Large high low) large view (subst (λ (xs : List Cell). values_of xs large ≡ view) split shown);
     }
-
--- one value more of those from a place on
-pub copied_more : (xs old now new : List Value) (start place : ℕ) → start ≤ place → now ≡ old ++ take (place - start) (drop start xs)
-    → new ≡ now ++ take 1 (drop place xs) → new ≡ old ++ take (place + 1 - start) (drop start xs)
-copied_more xs old now new start place le so_far pushed =
-    let n = place - start in
-    let e : start + n ≡ place = omega (arith, le) in
-    let f : place + 1 - start ≡ suc n = omega (arith, le) in
-    let g : drop place xs ≡ drop n (drop start xs) = ap (λ (k : ℕ). drop k xs) (sym e) ∙ sym (drop-drop n start xs) in
-    pushed ∙ ap (λ (ys : List Value). ys ++ take 1 (drop place xs)) so_far
-    ∙ append_assoc old (take n (drop start xs)) (take 1 (drop place xs))
-    ∙ ap (λ (ys : List Value). old ++ (take n (drop start xs) ++ take 1 ys)) g
-    ∙ ap (λ (ys : List Value). old ++ ys) (sym (one_more n (drop start xs)))
-    ∙ ap (λ (k : ℕ). old ++ take k (drop start xs)) (sym f)
-  where
-    one_more : (n : ℕ) (ys : List Value) → take (suc n) ys ≡ take n ys ++ take 1 (drop n ys)
-    one_more zero ys = refl
-    one_more (suc n) [] = refl
-    one_more (suc n) (y ∷ ys) = ap (λ (zs : List Value). y ∷ zs) (one_more n ys)
-
--- the last cell is the one that was read at the last place
-pub last_read : (cs ds : List Cell) (c r : Cell) (large view : List Value) (last : ℕ) → values_of cs large ≡ view → cs ≡ ds ++ r ∷ []
-    → last ≡ length view - 1 → c ≡ get_or cs last c → c ≡ r
-last_read cs ds c r large view last shown split at is =
-    let e : length ds ≡ last =
-    omega (arith, ap length shown, length-map cs (value_of large), ap length split, length-append ds (r ∷ []), at) in
-    is ∙ ap (λ (xs : List Cell). get_or xs last c) split ∙ get_or_push ds r c last e
-
--- the list of the last value, which lies in its cell
-pub last_small : (large view : List Value) (last : ℕ) (c : Cell) → CellAt large view last c → ((high low : ℕ) → c ≡ cell.Large high low → ⊥)
-    → last ≡ length view - 1 → value_of [] c ∷ [] ≡ drop (length view - 1) view
-last_small large view last c at other is =
-    let one = (small_at large view last c at other).1 in
-    let all : take 1 (drop last view) ≡ drop last view = take_all 1 (drop last view) (omega (arith, length-drop last view, is)) in
-    sym one ∙ all ∙ ap (λ (n : ℕ). drop n view) is

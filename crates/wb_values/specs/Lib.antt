@@ -10,6 +10,8 @@ pub mod Fits
 pub mod ValuesIn
 -- what the cells of packed values stand for
 pub mod Packed
+-- children of nodes that lie in place
+pub mod InPlace
 -- the trees of a store
 pub mod Trees
 -- how signatures are kept

@@ -4,11 +4,13 @@
 #![tactic(auto)]
 
 mod cell;
+mod layout;
 mod node;
 mod packed;
 mod signatures;
 mod store;
 mod value;
+mod walk;
 
 pub use packed::PackedValues;
 pub use signatures::Signatures;

@@ -153,115 +153,13 @@ impl PackedValues {
         let _cells = self.cells.reserve_exact(more);
     }
 
-    // Moves the values from a place on here, after the others and in order.
-    #[inline]
-    pub(crate) fn take_end(
-        &mut self,
-        values: &mut PackedValues,
-        start: usize,
-    ) -> Result<(), AllocError>
-        requires { start ≤ length values.old }
-        ensures ok { OnOk result (self.new ≡ self.old ++ drop start values.old) }
-        ensures taken { OnOk result (values.new ≡ take start values.old) }
-        ensures err { OnErr result (self.new ≡ self.old) }
-        ensures err_values { OnErr result (values.new ≡ values.old) }
-    {
-        if values.len() - start == 1 {
-            self.take_last(values)
-        } else {
-            self.take_more(values, start)
-        }
-    }
-
-    // Moves the last value here. Most nodes have one child, and most children lie in their cells, so this way is short.
-    #[inline]
-    fn take_last(&mut self, values: &mut PackedValues) -> Result<(), AllocError>
-        requires { 1 ≤ length values.old }
-        ensures ok { OnOk result (self.new ≡ self.old ++ drop (length values.old - 1) values.old) }
-        ensures taken { OnOk result (values.new ≡ take (length values.old - 1) values.old) }
-        ensures err { OnErr result (self.new ≡ self.old) }
-        ensures err_values { OnErr result (values.new ≡ values.old) }
-    {
-        let last = values.len() - 1;
-        match values.cells[last] {
-            Cell::Large(_, _) => self.take_more(values, last),
-            cell => {
-                self.push_cell(cell)?;
-                let _last = values.cells.take_last();
-                Ok(())
-            }
-        }
-    }
-
-    // Moves the values from a place on. They are copied first, which takes no more memory than to move them, so that none is lost where
-    // there is no memory for the next.
-    #[inline(never)]
-    fn take_more(&mut self, values: &mut PackedValues, start: usize) -> Result<(), AllocError>
-        requires { start ≤ length values.old }
-        ensures ok { OnOk result (self.new ≡ self.old ++ drop start values.old) }
-        ensures taken { OnOk result (values.new ≡ take start values.old) }
-        ensures err { OnErr result (self.new ≡ self.old) }
-        ensures err_values { OnErr result (values.new ≡ values.old) }
-    {
-        self.copy_end(values, start)?;
-        values.truncate(start);
-        Ok(())
-    }
-
-    // Adds copies of the values from a place on, after the others and in order. After a refusal there is none of them.
-    fn copy_end(&mut self, values: &PackedValues, start: usize) -> Result<(), AllocError>
-        requires { start ≤ length values.now }
-        ensures ok { OnOk result (self.new ≡ self.old ++ drop start values.now) }
-        ensures err { OnErr result (self.new ≡ self.old) }
-    {
-        let len = self.len();
-        let copied = self.copy_some(values, start);
-        if copied.is_err() {
-            self.truncate(len);
-        }
-        copied
-    }
-
-    // Like `copy_end`, but after a refusal there may be some of them.
-    fn copy_some(&mut self, values: &PackedValues, start: usize) -> Result<(), AllocError>
-        requires { start ≤ length values.now }
-        ensures ok { OnOk result (self.new ≡ self.old ++ drop start values.now) }
-        ensures begins { take (length self.old) self.new ≡ self.old }
-        ensures longer { length self.old ≤ length self.new }
-    {
-        for place in start..values.len() {
-            self.push_copy(values, place)?;
-        }
-        Ok(())
-    }
-
-    // Adds copies of these values, after the others and in order. After a refusal there is none of them.
-    pub(crate) fn extend(&mut self, values: &[Value]) -> Result<(), AllocError>
-        ensures ok { OnOk result (self.new ≡ self.old ++ values.now) }
-        ensures err { OnErr result (self.new ≡ self.old) }
-    {
-        let len = self.len();
-        let copied = self.extend_some(values);
-        if copied.is_err() {
-            self.truncate(len);
-        }
-        copied
-    }
-
-    // Like `extend`, but after a refusal there may be some of them.
-    fn extend_some(&mut self, values: &[Value]) -> Result<(), AllocError>
-        ensures ok { OnOk result (self.new ≡ self.old ++ values.now) }
-        ensures begins { take (length self.old) self.new ≡ self.old }
-        ensures longer { length self.old ≤ length self.new }
-    {
-        for value in values {
-            self.push(value.copy()?)?;
-        }
-        Ok(())
-    }
-
     // Adds a copy of the value at a place of other values.
-    fn push_copy(&mut self, values: &PackedValues, place: usize) -> Result<(), AllocError>
+    #[inline]
+    pub(crate) fn push_copy(
+        &mut self,
+        values: &PackedValues,
+        place: usize,
+    ) -> Result<(), AllocError>
         requires { place < length values.now }
         ensures ok { OnOk result (self.new ≡ self.old ++ take 1 (drop place values.now)) }
         ensures err { OnErr result (self.new ≡ self.old) }

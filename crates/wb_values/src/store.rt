@@ -1,20 +1,28 @@
 //! How are trees kept, so that an id stands for one tree as long as the store holds it?
 //!
-//! Nodes and their children lie in two flat lists. A tree over two trees takes 32 bytes. What they stand for is in `specs/Trees`.
+//! A node takes 16 bytes, and a child that isn't directly before the next one or before its node, 8 more. What they stand for is in
+//! `specs/Trees` and `specs/InPlace`.
 
-ghost use Rattle.std.specs.Prelude.{◌≡◌, ◌≢◌, ◌↔◌, ◌<◌, ◌≤◌, ◌-◌, [], ◌∷◌, ◌++◌, Some, length, take, All, IsTrue, IfOk, IfSome, IfNone, OnErr, OnOk};
+ghost use Rattle.std.specs.Prelude.{◌≡◌, ◌≢◌, ◌↔◌, ◌<◌, ◌≤◌, ◌+◌, ◌-◌, suc, [], ◌∷◌, ◌++◌, Some, length, take, All, IsTrue, IfOk, IfSome, IfNone, OnErr, OnOk};
 ghost use Rattle.wb_values.specs.Tree.{Tree, node, tree as subtree, production_of, children_of, value_at, count_of};
 ghost use Rattle.wb_values.specs.ValuesIn.{tree_in, value_in, values_in, last, IsIn};
-ghost use Rattle.wb_values.specs.Inner.Begin.{begin};
 
+use crate::layout::{Layout, lay_packed, lay_values};
 use crate::node::Node;
+use crate::walk::{Position, begin, child_position};
 use crate::{PackedValues, TreeId, Value};
 use std::alloc::{AllocError, Global};
 use std::marker::Model;
 
-/// A store of trees, one for each node. Nodes and their children lie in two flat lists.
+// How many values a number of 32 bits has.
+const LOW: usize = 4_294_967_296;
+
+/// A store of trees, one for each node. A tree that is built over the last trees of the store takes 16 bytes, and 8 for each child that is
+/// none of them. The numbers of trees, of productions and of such children have 32 bits each: where there is none left, it is out of
+/// memory.
 pub struct TreeStore {
     nodes: Vec<Node>,
+    // The children that don't lie in place, those of each node from the last on.
     children: PackedValues,
 }
 
@@ -92,11 +100,15 @@ impl TreeStore {
     {
         let tree = TreeId(self.nodes.len());
         let start = values.len() - count;
+        if !has_numbers(production, tree.0, self.children.len(), count) {
+            return Err(AllocError);
+        }
         self.nodes.reserve(1)?;
-        self.children.extend(&values[start..])?;
+        let nodes = self.nodes.as_slice();
+        let layout = lay_values(nodes, &mut self.children, &values[start..])?;
         values.truncate(start);
-        let end = self.children.len();
-        self.nodes.push_reserved(Node { production, end });
+        let node = node_of(production, tree.0, self.children.len(), layout);
+        self.nodes.push_reserved(node);
         Ok(tree)
     }
 
@@ -117,10 +129,15 @@ impl TreeStore {
     {
         let tree = TreeId(self.nodes.len());
         let start = values.len() - count;
+        if !has_numbers(production, tree.0, self.children.len(), count) {
+            return Err(AllocError);
+        }
         self.nodes.reserve(1)?;
-        self.children.take_end(values, start)?;
-        let end = self.children.len();
-        self.nodes.push_reserved(Node { production, end });
+        let nodes = self.nodes.as_slice();
+        let layout = lay_packed(nodes, &mut self.children, values, start)?;
+        values.truncate(start);
+        let node = node_of(production, tree.0, self.children.len(), layout);
+        self.nodes.push_reserved(node);
         Ok(tree)
     }
 
@@ -154,7 +171,7 @@ impl TreeStore {
         requires { tree.0 < length self.now }
         ensures { result ≡ production_of (tree_in self.now tree.0) }
     {
-        self.nodes[tree.0].production
+        self.nodes[tree.0].production as usize
     }
 
     /// How many children a tree has.
@@ -164,7 +181,8 @@ impl TreeStore {
     {
         let nodes = self.nodes.as_slice();
         let first = begin(nodes, tree.0);
-        self.nodes[tree.0].end - first
+        let node = &self.nodes[tree.0];
+        node.end as usize - first + node.inner.count_ones() as usize
     }
 
     /// The child of a tree at a place, counted from 0 and copied in constant time. One that is a tree has a smaller id. The only error is
@@ -175,10 +193,11 @@ impl TreeStore {
         ensures value { IfOk result (λ made. value_at (children_of (tree_in self.now tree.0)) place ≡ Some (value_in self.now made)) }
         ensures below { IfOk result (IsIn tree.0) }
     {
-        let nodes = self.nodes.as_slice();
-        let first = begin(nodes, tree.0);
-        prove!(place < self.children.len());
-        self.children.get(first + place)
+        let after = self.arity(tree) - 1 - place;
+        match child_position(self.nodes.as_slice(), tree.0, after) {
+            Position::Tree(id) => Ok(Value::Tree(TreeId(id))),
+            Position::Cell(at) => self.children.get(at),
+        }
     }
 
     /// The child of a tree at a place, if it is a tree. It has a smaller id.
@@ -189,10 +208,11 @@ impl TreeStore {
         ensures below { IfSome result (λ child. child.0 < tree.0) }
         ensures none { IfNone result ((child : Tree) → value_at (children_of (tree_in self.now tree.0)) place ≢ Some (subtree child)) }
     {
-        let nodes = self.nodes.as_slice();
-        let first = begin(nodes, tree.0);
-        prove!(place < self.children.len());
-        self.children.tree(first + place)
+        let after = self.arity(tree) - 1 - place;
+        match child_position(self.nodes.as_slice(), tree.0, after) {
+            Position::Tree(id) => Some(TreeId(id)),
+            Position::Cell(at) => self.children.tree(at),
+        }
     }
 }
 
@@ -204,13 +224,27 @@ impl Drop for TreeStore {
     }
 }
 
-// Where the children of the node at a place begin: at the end of those of the node before.
-fn begin(nodes: &[Node], place: usize) -> usize
-    requires { place ≤ length nodes.now }
-    ensures { result ≡ begin 0 nodes.now place }
+// Whether there are numbers for a node: for its production, for its place, and for the end of its cells, of which there are so many before
+// and at most so many more.
+fn has_numbers(production: usize, place: usize, cells: usize, more: usize) -> bool
+    ensures { IsTrue result → (production < 4294967296) × (suc place < 4294967296) × (cells + more < 4294967296) }
 {
-    if place == 0 {
-        return 0;
+    production < LOW && place < LOW - 1 && cells < LOW && more < LOW - cells
+}
+
+// The node of a production at a place, over children that were laid and cells that end here.
+fn node_of(production: usize, place: usize, end: usize, layout: Layout) -> Node
+    requires production { production < 4294967296 }
+    requires place { suc place < 4294967296 }
+    requires end { end < 4294967296 }
+    requires top { layout.top ≤ place }
+    requires digits { layout.digits < 4294967296 }
+    ensures { result ≡ record { production = production; size = suc place - layout.top; end = end; inner = layout.digits } }
+{
+    Node {
+        production: production as u32,
+        size: (place + 1 - layout.top) as u32,
+        end: end as u32,
+        inner: layout.digits as u32,
     }
-    nodes[place - 1].end
 }

@@ -1,24 +1,36 @@
-use Rattle.std.proofs.Common.{◌≡◌, ◌+◌, ◌-◌, ◌++◌, ◌∷◌, [], List, All, length, drop, sym, ap, subst, ◌∙◌, length-append}
+use Rattle.std.proofs.Common.{◌≡◌, ◌-◌, ℕ, suc, List, length, take, drop, sym, ap, subst, ◌∙◌}
 use Rattle.std.proofs.lemmas.List.{take_rest}
-use Rattle.wb_values.specs.Tree.{Tree, node}
-use Rattle.wb_values.specs.ValuesIn.{values_in, last, IsIn}
+use Rattle.wb_values.specs.ValuesIn.{last}
 use Rattle.wb_values.specs.declared.value.Value.{Value}
-use Rattle.wb_values.proofs.Laid.{length-trees, trees-snoc, store-snoc}
+use Rattle.wb_values.specs.declared.node.Node.{Node}
+use Rattle.wb_values.specs.Inner.Layouts.{IsWhole}
+use Rattle.wb_values.proofs.Laid.{length-trees}
+use Rattle.wb_values.proofs.BuildLemmas.{IsOver, built_store, built_trees}
 use Rattle.wb_values.proofs.store.TreeStore.build_from.Goals as goal
 
 pub invariant_of-self-2 : goal.invariant_of-self-2
 invariant_of-self-2 c =
     let ns = c.self.inside.nodes.items in
     let vs = c.self.inside.children in
+    let listed = c.lay_values.new.cells in
     let cs = last c.args.count c.args.values.now.items in
+    let nodes_are = c.as_slice-nodes.ensures.value ∙ c.in_ok-reserve.ensures.items in
     let cut : drop (c.len-2.result - c.args.count) c.deref.result.now ≡ cs =
     ap (λ (xs : List Value). drop (c.len-2.result - c.args.count) xs) c.deref.ensures.value
     ∙ ap (λ n. drop (n - c.args.count) c.args.values.now.items) (c.len-2.ensures ∙ c.args.values.now.ok.0) in
-    let below = subst (λ n. All (IsIn n) cs) (sym (ap length c.self.view_is) ∙ length-trees ns vs) c.requires.children in
-    let to : c.extend.new.self ≡ vs ++ cs = c.in_ok-extend.ensures.ok ∙ ap (λ (xs : List Value). vs ++ xs)
-    (take_rest c.deref.result.now (c.len-2.result - c.args.count) ∙ cut) in
-    let end : c.len-end.result ≡ length vs + length cs = c.len-end.ensures ∙ ap length to ∙ length-append vs cs in
-    rw (c.push_reserved.ensures.items, c.in_ok-reserve.ensures.items, to) (store-snoc ns vs cs _ c.self.invariant end below)
+    let w = subst (λ (xs : List Value). IsWhole ns vs listed xs c.in_ok-layout.layout) (take_rest c.deref.result.now (c.len-2.result - c.args.count) ∙ cut)
+    (subst (λ (ms : List Node). IsWhole ms vs listed
+    (take (length c.deref.result.now - (c.len-2.result - c.args.count)) (drop (c.len-2.result - c.args.count) c.deref.result.now)) c.in_ok-layout.layout) nodes_are c.in_ok-layout.ensures.ok) in
+    let over : IsOver ns listed c.args.production c.in_ok-layout.layout c.node_of-node.result = record {
+      production_is = ap (λ (n : Node). n.production) c.node_of-node.ensures;
+      size_is = ap (λ (n : Node). n.size) c.node_of-node.ensures
+          ∙ ap (λ (k : ℕ). suc k - c.in_ok-layout.layout.top) (c.len.ensures ∙ c.self.inside.nodes.ok.0);
+      end_is = ap (λ (n : Node). n.end) c.node_of-node.ensures ∙ c.len-4.ensures;
+      inner_is = ap (λ (n : Node). n.inner) c.node_of-node.ensures;
+    } in
+    rw (c.push_reserved.ensures.items, c.in_ok-reserve.ensures.items)
+    (built_store c.args.self.now ns vs listed cs c.args.production c.in_ok-layout.layout c.node_of-node.result c.self.invariant
+    c.self.view_is w over c.requires.children)
 
 pub returns-clause-id : goal.returns-clause-id
 returns-clause-id c = c.len.ensures ∙ c.self.inside.nodes.ok.0 ∙ sym (length-trees c.self.inside.nodes.items c.self.inside.children)
@@ -28,13 +40,22 @@ pub returns-clause-ok : goal.returns-clause-ok
 returns-clause-ok c =
     let ns = c.self.inside.nodes.items in
     let vs = c.self.inside.children in
+    let listed = c.lay_values.new.cells in
     let cs = last c.args.count c.args.values.now.items in
+    let nodes_are = c.as_slice-nodes.ensures.value ∙ c.in_ok-reserve.ensures.items in
     let cut : drop (c.len-2.result - c.args.count) c.deref.result.now ≡ cs =
     ap (λ (xs : List Value). drop (c.len-2.result - c.args.count) xs) c.deref.ensures.value
     ∙ ap (λ n. drop (n - c.args.count) c.args.values.now.items) (c.len-2.ensures ∙ c.args.values.now.ok.0) in
-    let to : c.extend.new.self ≡ vs ++ cs = c.in_ok-extend.ensures.ok ∙ ap (λ (xs : List Value). vs ++ xs)
-    (take_rest c.deref.result.now (c.len-2.result - c.args.count) ∙ cut) in
-    let end : c.len-end.result ≡ length vs + length cs = c.len-end.ensures ∙ ap length to ∙ length-append vs cs in
-    rw (c.push_reserved.ensures.items, c.in_ok-reserve.ensures.items, to)
-    (trees-snoc ns vs cs _ c.self.invariant end ∙ ap (λ (ts : List Tree). ts ++ node c.args.production
-    (values_in ts cs) ∷ []) c.self.view_is)
+    let w = subst (λ (xs : List Value). IsWhole ns vs listed xs c.in_ok-layout.layout) (take_rest c.deref.result.now (c.len-2.result - c.args.count) ∙ cut)
+    (subst (λ (ms : List Node). IsWhole ms vs listed
+    (take (length c.deref.result.now - (c.len-2.result - c.args.count)) (drop (c.len-2.result - c.args.count) c.deref.result.now)) c.in_ok-layout.layout) nodes_are c.in_ok-layout.ensures.ok) in
+    let over : IsOver ns listed c.args.production c.in_ok-layout.layout c.node_of-node.result = record {
+      production_is = ap (λ (n : Node). n.production) c.node_of-node.ensures;
+      size_is = ap (λ (n : Node). n.size) c.node_of-node.ensures
+          ∙ ap (λ (k : ℕ). suc k - c.in_ok-layout.layout.top) (c.len.ensures ∙ c.self.inside.nodes.ok.0);
+      end_is = ap (λ (n : Node). n.end) c.node_of-node.ensures ∙ c.len-4.ensures;
+      inner_is = ap (λ (n : Node). n.inner) c.node_of-node.ensures;
+    } in
+    rw (c.push_reserved.ensures.items, c.in_ok-reserve.ensures.items)
+    (built_trees c.args.self.now ns vs listed cs c.args.production c.in_ok-layout.layout c.node_of-node.result c.self.invariant
+    c.self.view_is w over)
