@@ -10,7 +10,7 @@ use Rattle.wb_scan_theory.specs.declared.form.Form.{Form}
 use Rattle.wb_scan_theory.specs.Languages.{LanguageView, forms_of, bare}
 use Rattle.wb_scan_theory.specs.Winners.{Beats, by_prefix, both_bare, both_prefixed, BeatsAt}
 use Rattle.wb_scan_theory.proofs.BareLemmas.{layout_bare}
-use Rattle.wb_scan.specs.Inner.Found.{IsChampion}
+use Rattle.wb_scan.specs.Landings.{IsChampion}
 
 -- the form of a layout terminal has no prefix
 pub layout_form : (l : LanguageView) (place : ℕ) (f : Form) → length l.forms ≤ place → slice_get (forms_of l) place ≡ Some f →

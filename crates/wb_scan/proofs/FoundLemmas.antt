@@ -1,7 +1,7 @@
 -- What the automaton finds is what wins.
 use Rattle.std.proofs.Common.{◌≡◌, ◌≢◌, ◌<◌, ◌≤◌, ◌+◌, ◌-◌, ℕ, List, ◌++◌, length, take, drop, refl, sym, ◌∙◌, ap, subst, inl, inr, arith}
 use Rattle.std.proofs.Common.{length-append}
-use Rattle.std.specs.Prelude.{◌↔◌, Contains, All, slice_range}
+use Rattle.std.specs.Prelude.{◌↔◌, Contains, All, None, Some, slice_range}
 use Rattle.std.proofs.lemmas.Bool.{cases_order}
 use Rattle.std.proofs.lemmas.Option.{slice_get_within}
 use Rattle.wb_scan.proofs.RangeLemmas.{range_split, range_length}
@@ -18,8 +18,11 @@ use Rattle.wb_scan_theory.specs.Parts.{AreLanguageParts, IsPrefixOf}
 use Rattle.wb_scan_theory.proofs.PartLemmas.{considered_at}
 use Rattle.wb_scan_theory.proofs.BareLemmas.{forms_count}
 use Rattle.wb_scan_theory.proofs.TokenLemmas.{piece_some}
+use Rattle.wb_scan.proofs.LandingLemmas.{same_champion}
 use Rattle.wb_scan.specs.Inner.Longest.{IsLongest}
-use Rattle.wb_scan.specs.Inner.Found.{IsChampion, IsFound, IsNotFound}
+use Rattle.wb_scan.specs.Landings.{IsChampion, ranked}
+use Rattle.wb_scan.specs.Inner.Rankings.{IsWonAt}
+use Rattle.wb_scan.specs.Inner.Found.{IsFound, IsNotFound}
 
 module _ {l : LanguageView} {tables : TablesView} {automaton : AutomatonView} (parts : AreLanguageParts l tables automaton) {state : ℕ}
     (below : state < size_of tables) where
@@ -176,3 +179,18 @@ module _ {l : LanguageView} {tables : TablesView} {automaton : AutomatonView} (p
   is_not_found none prefix of place piece w =
       let (terminal, m) = (matched_at longest ne).2 in
       none place (champion_of parts below longest accepted_at of terminal m w)
+
+-- the form that wins at the state that was found, of the same forms, is found; and where none does, no form wins
+module _ {l : LanguageView} {tables : TablesView} {automaton : AutomatonView} (parts : AreLanguageParts l tables automaton) {state : ℕ}
+    (below : state < size_of tables) {text : List ℕ} {at end found : ℕ}
+    (longest : IsLongest automaton state text at (length text) found end) (ne : end ≢ at) (forms : List Form) (layout : List ℕ)
+    (preferences : List (ℕ × ℕ)) (f : forms ≡ l.forms) (g : layout ≡ l.layout) (h : preferences ≡ l.preferences) where
+  pub won_found : (form : ℕ) → IsWonAt (ranked forms layout preferences) automaton found (Some form) →
+      IsFound (record { language = l; tables = tables }) state text at form end
+  won_found form won = is_found parts below longest ne won.accepted won.exact form
+      (same_champion (ranked forms layout preferences) l f g h won.accepted form won.some)
+
+  pub won_not_found : IsWonAt (ranked forms layout preferences) automaton found None →
+      IsNotFound (record { language = l; tables = tables }) state text at
+  won_not_found won = is_not_found parts below longest ne won.accepted won.exact (λ place champion.
+      won.none refl place (same_champion l (ranked forms layout preferences) (sym f) (sym g) (sym h) won.accepted place champion))

@@ -1,6 +1,8 @@
 pub mod BeatLemmas
 pub mod FoundLemmas
+pub mod LandingLemmas
 pub mod LongestLemmas
+mod PreferenceLemmas
 pub mod RangeLemmas
 pub mod ScanLemmas
 pub mod FormLemmas

@@ -1,6 +1,6 @@
 -- How an automaton is followed along a text.
 use Rattle.std.proofs.Common.{◌≡◌, ◌<◌, ◌≤◌, ◌+◌, ℕ, List, [], ◌∷◌, ◌++◌, length, get_or, refl, sym, ◌∙◌, ap, subst, inl, inr, arith}
-use Rattle.std.specs.Prelude.{◌↔◌, ◌==◌, Bool, true, false, Contains, IsNone, Option, slice_range}
+use Rattle.std.specs.Prelude.{◌↔◌, ◌==◌, Bool, true, false, Contains, IsNone, None, Option, slice_range}
 use Rattle.std.proofs.lemmas.Bool.{cases_lt}
 use Rattle.wb_scan.proofs.RangeLemmas.{range_none, range_snoc, range_split}
 use Rattle.wb_lemmas.proofs.Numbers.{eqb_true, eqb_false}
@@ -141,3 +141,14 @@ pub reading_ends : (automaton : AutomatonView) (set : ℕ) (text : List ℕ) (at
 reading_ends automaton set text at place state found end r le =
     let size : place ≤ length text = r.size in
     subst (λ z. IsLongest automaton set text at z found end) (let e : place ≡ length text = omega arith in e) r.longest
+
+-- and so where no match goes on from a state
+pub reading_halts : (automaton : AutomatonView) (set : ℕ) (text : List ℕ) (at place state found end : ℕ) →
+    IsReading automaton set text at place state found end →
+    ((s byte : ℕ) (x : List ℕ) → LeadsTo automaton s x state → ¬ GoesOn automaton s (x ++ byte ∷ [])) →
+    IsLongest automaton set text at (length text) found end
+reading_halts automaton set text at place state found end r never = elim (cases_lt place (length text)) [
+  | inl lt ↦ reading_stops automaton set text at place state found end (get_or text place 0) None r lt refl
+      (λ s x leads. (λ e. never s (get_or text place 0) x leads, λ e. refl)) refl
+  | inr le ↦ reading_ends automaton set text at place state found end r le
+]

@@ -2,6 +2,8 @@
 pub mod Longest
 -- forms that were found
 pub mod Found
+-- which form beats which, and what is known of a state by it
+pub mod Rankings
 -- Words of private functions.
 pub mod Lexicons
 pub mod Written

@@ -1,5 +1,7 @@
 -- a language with its tables, as callers see it
 pub mod Views
+-- what is known of the states of an automaton before a text is scanned
+pub mod Landings
 -- what a scan answers
 pub mod Scans
 -- the language of a grammar whose terminals are all written as they are

@@ -7,6 +7,9 @@ ghost use Rattle.wb_scan_theory.specs.Parts.{AreLanguageParts, AreTablesOf};
 ghost use Rattle.wb_scan_theory.specs.Facts.{IsLanguage};
 ghost use Rattle.wb_scan.specs.Views.{language_in};
 
+use crate::landing::{Landing, landings_of};
+use crate::preferences::Preferences;
+use crate::winner::Ranking;
 use std::marker::Model;
 use wb_automata::Automaton;
 use wb_base::Grammar;
@@ -23,22 +26,24 @@ pub struct Language {
     pub(crate) automaton: Automaton,
     pub(crate) forms: Vec<Form>,
     pub(crate) layout: Vec<usize>,
-    pub(crate) preferences: Vec<(usize, usize)>,
+    pub(crate) preferences: Preferences,
+    pub(crate) landings: Vec<Landing>,
 }
 
 impl Model for Language {
     ghost use Rattle.std.specs.Coded.{codes};
     ghost use Rattle.wb_regex.specs.contracts.regex.Regex as regex;
     ghost use Rattle.wb_scan_theory.specs.Parts.{AreLanguageParts};
+    ghost use Rattle.wb_scan.specs.Landings.{AreLandings, ranked};
     ghost use Rattle.wb_scan.specs.Views.{LanguageParts, language_in};
 
     ghost Value = { LanguageParts };
 
     ghost coded = { Prim.hlevel (codes, regex.the_row.coded) };
 
-    ghost view = { λ l. record { language = language_in l.grammar l.forms.items l.layout.items l.automaton.terminals l.preferences.items; tables = l.tables } };
+    ghost view = { λ l. record { language = language_in l.grammar l.forms.items l.layout.items l.automaton.terminals l.preferences; tables = l.tables } };
 
-    ghost invariant = { λ l. AreLanguageParts (language_in l.grammar l.forms.items l.layout.items l.automaton.terminals l.preferences.items) l.tables l.automaton };
+    ghost invariant = { λ l. AreLanguageParts (language_in l.grammar l.forms.items l.layout.items l.automaton.terminals l.preferences) l.tables l.automaton × AreLandings (ranked l.forms.items l.layout.items l.preferences) l.automaton l.landings.items };
 }
 
 impl Language {
@@ -61,6 +66,13 @@ impl Language {
         requires { AreLanguageParts (language_in grammar forms.items layout.items automaton.terminals preferences.items) tables automaton }
         ensures { result ≡ record { language = language_in grammar forms.items layout.items automaton.terminals preferences.items; tables = tables } }
     {
+        let preferences = Preferences::new(preferences);
+        let ranking = Ranking {
+            forms: &forms,
+            layout: &layout,
+            preferences: &preferences,
+        };
+        let landings = landings_of(*forms.allocator(), &automaton, &ranking);
         Language {
             grammar,
             tables,
@@ -68,6 +80,7 @@ impl Language {
             forms,
             layout,
             preferences,
+            landings,
         }
     }
 
@@ -101,6 +114,7 @@ impl Drop for Language {
             forms,
             layout,
             preferences,
+            landings,
         } = self;
         drop(grammar);
         drop(tables);
@@ -108,5 +122,6 @@ impl Drop for Language {
         drop(forms);
         drop(layout);
         drop(preferences);
+        drop(landings);
     }
 }

@@ -7,11 +7,13 @@
 
 mod bare_language;
 mod forms;
+mod landing;
 mod language;
 mod laws;
 mod layout;
 mod longest;
 mod next_token;
+mod preferences;
 mod refusal;
 mod scanned;
 mod winner;

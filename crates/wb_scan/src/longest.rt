@@ -4,7 +4,9 @@
 
 ghost use Rattle.std.specs.Prelude.{◌<◌, ◌≤◌, length};
 ghost use Rattle.wb_scan.specs.Inner.Longest.{IsLongest};
+ghost use Rattle.wb_scan.specs.Inner.Rankings.{AreMarked};
 
+use crate::landing::{Landing, mark_at};
 use wb_automata::Automaton;
 
 // The state and the end of the longest match. Where nothing matches, the end is where the search began.
@@ -15,7 +17,14 @@ pub(crate) struct Reach {
 }
 
 // The longest match of the forms that are considered at a state.
-pub(crate) fn longest(automaton: &Automaton, set: usize, text: &[u8], at: usize) -> Reach
+pub(crate) fn longest(
+    automaton: &Automaton,
+    landings: &[Landing],
+    set: usize,
+    text: &[u8],
+    at: usize,
+) -> Reach
+    requires landings { AreMarked automaton.now landings.now }
     requires set { set < length automaton.now.sets }
     requires at { at ≤ length text.now }
     ensures longest { IsLongest automaton.now set text.now at (length text.now) result.state result.end }
@@ -30,8 +39,12 @@ pub(crate) fn longest(automaton: &Automaton, set: usize, text: &[u8], at: usize)
         };
         state = next;
         place += 1;
-        if !automaton.accepted(state).is_empty() {
+        let mark = mark_at(automaton, landings, state);
+        if mark.accepts {
             found = Reach { state, end: place };
+            if mark.ends {
+                return found;
+            }
         }
     }
     found

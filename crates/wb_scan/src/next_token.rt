@@ -12,8 +12,9 @@ ghost use Rattle.wb_scan.specs.declared.scanned.Scanned.TheVariants.{Token};
 ghost use Rattle.wb_scan.specs.Scans.{next_in, IsInside};
 ghost use Rattle.wb_scan.specs.Inner.Found.{IsFound, IsNotFound, IsOver};
 
+use crate::landing::winner_at;
 use crate::longest::longest;
-use crate::winner::winner;
+use crate::winner::Ranking;
 use crate::{Language, Scanned};
 
 /// What is next on a text at a state from a place on: a token, the end of the text, or nothing.
@@ -64,12 +65,21 @@ fn found_at(language: &Language, state: usize, text: &[u8], at: usize) -> Option
     ensures some { IfSome result (λ found. IsFound language.now state text.now at found.form found.end) }
     ensures none { IsNone result → IsNotFound language.now state text.now at }
 {
-    let found = longest(&language.automaton, state, text, at);
+    let found = longest(&language.automaton, &language.landings, state, text, at);
     if found.end == at {
         return None;
     }
-    let places = language.automaton.accepted(found.state);
-    match winner(language, places) {
+    let ranking = Ranking {
+        forms: &language.forms,
+        layout: &language.layout,
+        preferences: &language.preferences,
+    };
+    match winner_at(
+        &language.automaton,
+        &language.landings,
+        &ranking,
+        found.state,
+    ) {
         Some(form) => Some(Found {
             form,
             end: found.end,

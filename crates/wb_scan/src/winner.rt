@@ -6,19 +6,28 @@ ghost use Rattle.std.specs.Prelude.{◌≡◌, ◌≢◌, ◌<◌, ◌↔◌, []
 ghost use Rattle.wb_scan_theory.specs.declared.form.Form.{Form};
 ghost use Rattle.wb_scan_theory.specs.Languages.{forms_of};
 ghost use Rattle.wb_scan_theory.specs.Winners.{BeatsAt};
-ghost use Rattle.wb_scan.specs.Inner.Found.{IsChampion};
+ghost use Rattle.wb_scan.specs.Landings.{IsChampion};
+ghost use Rattle.wb_scan.specs.Inner.Rankings.{ranked_by};
 
-use crate::Language;
-use wb_lexical::prefers;
+use crate::preferences::Preferences;
+use wb_scan_theory::Form;
+
+// What decides which form beats which.
+#[derive(Clone, Copy)]
+pub(crate) struct Ranking<'a> {
+    pub(crate) forms: &'a [Form],
+    pub(crate) layout: &'a [usize],
+    pub(crate) preferences: &'a Preferences,
+}
 
 // Of these places of forms, that of the form that beats each other one.
-pub(crate) fn winner(language: &Language, places: &[usize]) -> Option<usize>
-    requires { All (λ p. p < length (forms_of language.now.language)) places.now }
-    ensures some { IfSome result (IsChampion language.now.language places.now) }
-    ensures none { IsNone result → (place : ℕ) → ¬ IsChampion language.now.language places.now place }
+pub(crate) fn winner(ranking: &Ranking, places: &[usize]) -> Option<usize>
+    requires { All (λ p. p < length (forms_of (ranked_by ranking.now))) places.now }
+    ensures some { IfSome result (IsChampion (ranked_by ranking.now) places.now) }
+    ensures none { IsNone result → (place : ℕ) → ¬ IsChampion (ranked_by ranking.now) places.now place }
 {
     'places: for place in places {
-        if beats_others(language, *place, places) {
+        if beats_others(ranking, *place, places) {
             return Some(*place);
         }
     }
@@ -26,13 +35,13 @@ pub(crate) fn winner(language: &Language, places: &[usize]) -> Option<usize>
 }
 
 // Whether the form at a place beats that at each other one of these.
-fn beats_others(language: &Language, place: usize, places: &[usize]) -> bool
-    requires place { place < length (forms_of language.now.language) }
-    requires places { All (λ p. p < length (forms_of language.now.language)) places.now }
-    ensures { IsTrue result ↔ ((other : ℕ) → Contains places.now other → other ≢ place → BeatsAt language.now.language place other) }
+fn beats_others(ranking: &Ranking, place: usize, places: &[usize]) -> bool
+    requires place { place < length (forms_of (ranked_by ranking.now)) }
+    requires places { All (λ p. p < length (forms_of (ranked_by ranking.now))) places.now }
+    ensures { IsTrue result ↔ ((other : ℕ) → Contains places.now other → other ≢ place → BeatsAt (ranked_by ranking.now) place other) }
 {
     'others: for other in places {
-        if *other != place && !beats(language, place, *other) {
+        if *other != place && !beats(ranking, place, *other) {
             return false;
         }
     }
@@ -40,43 +49,41 @@ fn beats_others(language: &Language, place: usize, places: &[usize]) -> bool
 }
 
 // Whether the form at the one place beats that at the other.
-fn beats(language: &Language, place: usize, other: usize) -> bool
-    requires place { place < length (forms_of language.now.language) }
-    requires other { other < length (forms_of language.now.language) }
-    ensures { IsTrue result ↔ BeatsAt language.now.language place other }
+fn beats(ranking: &Ranking, place: usize, other: usize) -> bool
+    requires place { place < length (forms_of (ranked_by ranking.now)) }
+    requires other { other < length (forms_of (ranked_by ranking.now)) }
+    ensures { IsTrue result ↔ BeatsAt (ranked_by ranking.now) place other }
 {
-    let one = is_prefixed(language, place);
-    let two = is_prefixed(language, other);
+    let one = is_prefixed(ranking, place);
+    let two = is_prefixed(ranking, other);
     if one != two {
         return one;
     }
-    prefers(
-        &language.preferences,
-        terminal_at(language, place),
-        terminal_at(language, other),
-    )
+    ranking
+        .preferences
+        .prefers(terminal_at(ranking, place), terminal_at(ranking, other))
 }
 
 // Whether the form at a place has a prefix.
-fn is_prefixed(language: &Language, place: usize) -> bool
-    requires { place < length (forms_of language.now.language) }
-    ensures { (form : Form) → slice_get (forms_of language.now.language) place ≡ Some form → IsTrue result ↔ (form.prefix ≢ []) }
+fn is_prefixed(ranking: &Ranking, place: usize) -> bool
+    requires { place < length (forms_of (ranked_by ranking.now)) }
+    ensures { (form : Form) → slice_get (forms_of (ranked_by ranking.now)) place ≡ Some form → IsTrue result ↔ (form.prefix ≢ []) }
 {
-    if place < language.forms.len() {
-        !language.forms[place].prefix.as_slice().is_empty()
+    if place < ranking.forms.len() {
+        !ranking.forms[place].prefix.as_slice().is_empty()
     } else {
         false
     }
 }
 
 // The terminal of the form at a place.
-fn terminal_at(language: &Language, place: usize) -> usize
-    requires { place < length (forms_of language.now.language) }
-    ensures { (form : Form) → slice_get (forms_of language.now.language) place ≡ Some form → result ≡ form.terminal }
+fn terminal_at(ranking: &Ranking, place: usize) -> usize
+    requires { place < length (forms_of (ranked_by ranking.now)) }
+    ensures { (form : Form) → slice_get (forms_of (ranked_by ranking.now)) place ≡ Some form → result ≡ form.terminal }
 {
-    if place < language.forms.len() {
-        language.forms[place].terminal
+    if place < ranking.forms.len() {
+        ranking.forms[place].terminal
     } else {
-        language.layout[place - language.forms.len()]
+        ranking.layout[place - ranking.forms.len()]
     }
 }

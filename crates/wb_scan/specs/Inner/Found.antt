@@ -1,19 +1,14 @@
 -- The form that is found to win from a place of a text on.
-use Rattle.std.specs.Prelude.{◌≡◌, ◌≢◌, ◌<◌, ◌≤◌, ◌+◌, ℕ, List, ◌++◌, Contains, Some, length, slice_get, slice_range}
+use Rattle.std.specs.Prelude.{◌≡◌, ◌<◌, ◌≤◌, ◌+◌, ℕ, List, ◌++◌, Some, length, slice_get, slice_range}
 use Rattle.wb_base.specs.declared.symbol.Symbol.{Symbol}
 use Rattle.wb_scan_theory.specs.declared.form.Form.{Form}
 use Rattle.wb_scan_theory.specs.Languages.{LanguageView}
-use Rattle.wb_scan_theory.specs.Winners.{BeatsAt, Wins}
+use Rattle.wb_scan_theory.specs.Winners.{Wins}
 use Rattle.wb_scan_theory.specs.Parts.{IsPrefixOf}
 use Rattle.wb_scan_theory.specs.Tokens.{Next, NextToken}
 use Rattle.wb_scan.specs.declared.scanned.Scanned.{Scanned}
 use Rattle.wb_scan.specs.declared.scanned.Scanned.TheVariants.{Token, End, NoToken}
 use Rattle.wb_scan.specs.Views.{LanguageParts}
-
--- the form is one of these, and beats each other
-pub record IsChampion (l : LanguageView) (places : List ℕ) (place : ℕ) : Type 0 where
-  pub listed : Contains places place
-  pub beats : (other : ℕ) → Contains places other → other ≢ place → BeatsAt l place other
 
 -- the form wins at each prefix of the state, with the text up to the end
 pub record IsFound (parts : LanguageParts) (state : ℕ) (text : List ℕ) (at form end : ℕ) : Type 0 where

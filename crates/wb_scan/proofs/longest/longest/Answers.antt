@@ -1,6 +1,6 @@
 use Rattle.std.proofs.Common.{refl}
 use Rattle.std.specs.Prelude.{None}
-use Rattle.wb_scan.proofs.LongestLemmas.{reading_passes, reading_finds, reading_stops, reading_ends, nothing_listed, some_listed}
+use Rattle.wb_scan.proofs.LongestLemmas.{reading_passes, reading_finds, reading_stops, reading_halts, reading_ends}
 use Rattle.wb_scan.proofs.longest.longest.Goals as goal
 
 pub returns-in_default-clause-longest : goal.returns-in_default-clause-longest
@@ -8,17 +8,27 @@ returns-in_default-clause-longest c =
     reading_stops c.args.automaton.now c.args.set c.args.text.now c.args.at c.bytes.place c.bytes.state c.bytes.found.state c.bytes.found.end
     _ None c.bytes.invariant c.bytes-test.true refl c.in_default.ensures.none refl
 
-pub bytes-preserved-then-not-is_empty : goal.bytes-preserved-then-not-is_empty
-bytes-preserved-then-not-is_empty c =
+pub bytes-preserved-else-mark-2 : goal.bytes-preserved-else-mark-2
+bytes-preserved-else-mark-2 c =
+    let mark = c.mark_at-mark.ensures in
     reading_finds c.args.automaton.now c.args.set c.args.text.now c.args.at c.bytes.place c.bytes.state c.bytes.found.state c.bytes.found.end
-    c.in-Some.next _ c.bytes.invariant c.bytes-test.true refl c.in-Some.ensures.state c.in-Some.ensures.leads c.accepted.result.now
-    c.accepted.ensures.exact (some_listed c.accepted.result.now c.is_empty.result c.is_empty.ensures c.if-not-is_empty.true)
+    c.in-Some.next _ c.bytes.invariant c.bytes-test.true refl c.in-Some.ensures.state c.in-Some.ensures.leads mark.accepted mark.exact
+    (mark.some c.if-mark.true)
+
+pub returns-then-mark-2-clause-longest : goal.returns-then-mark-2-clause-longest
+returns-then-mark-2-clause-longest c =
+    let mark = c.mark_at-mark.ensures in
+    reading_halts c.args.automaton.now c.args.set c.args.text.now c.args.at _ c.in-Some.next c.in-Some.next _
+    (reading_finds c.args.automaton.now c.args.set c.args.text.now c.args.at c.bytes.place c.bytes.state c.bytes.found.state c.bytes.found.end
+    c.in-Some.next _ c.bytes.invariant c.bytes-test.true refl c.in-Some.ensures.state c.in-Some.ensures.leads mark.accepted mark.exact
+    (mark.some c.if-mark.true)) (λ s byte x. mark.ends c.if-mark-2.true s byte x)
 
 pub bytes-preserved : goal.bytes-preserved
 bytes-preserved c =
+    let mark = c.mark_at-mark.ensures in
     reading_passes c.args.automaton.now c.args.set c.args.text.now c.args.at c.bytes.place c.bytes.state c.bytes.found.state c.bytes.found.end
-    c.in-Some.next _ c.bytes.invariant c.bytes-test.true refl c.in-Some.ensures.state c.in-Some.ensures.leads c.accepted.result.now
-    c.accepted.ensures.exact (nothing_listed c.accepted.result.now c.is_empty.result c.is_empty.ensures c.if-not-is_empty.false)
+    c.in-Some.next _ c.bytes.invariant c.bytes-test.true refl c.in-Some.ensures.state c.in-Some.ensures.leads mark.accepted mark.exact
+    (mark.none c.if-mark.false)
 
 pub returns-clause-longest : goal.returns-clause-longest
 returns-clause-longest c =

@@ -22,7 +22,7 @@ returns-then-found-len-clause-inside c =
     let lt : c.in-Some.found.form < length c.args.language.now.language.forms =
     subst (λ z. c.in-Some.found.form < length z.language.forms) c.language.view_is (omega (arith, c.if-found-len.true, c.len.ensures)) in
     let (f, at_f) = at_within c.args.language.now.language.forms c.in-Some.found.form lt in
-    let parts = subst (λ z. AreLanguageParts z.language z.tables c.language.inside.automaton) c.language.view_is c.language.invariant in
+    let parts = subst (λ z. AreLanguageParts z.language z.tables c.language.inside.automaton) c.language.view_is c.language.invariant.0 in
     token_inside c.args.language.now c.args.state c.args.text.now c.args.at c.layout.place c.in-Some.found.form c.in-Some.found.end f
     c.token_at.result (parts.language.written.forms_below c.in-Some.found.form f at_f) c.layout.invariant.from c.in-Some.ensures.some at_f
     (c.token_at.ensures f at_f)
