@@ -1,3 +1,4 @@
+pub mod ChainLemmas
 pub mod TableLemmas
 pub mod StateLemmas
 pub mod RuleLemmas

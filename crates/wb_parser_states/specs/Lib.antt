@@ -1,6 +1,10 @@
 -- left sides and widths of productions
 pub mod Rules
+-- chains of reductions that take one symbol each
+pub mod Chains
 -- the states of a stack of trees, and what a reduction does to them
 pub mod Stacks
 -- what states stand for on a text, and what can be done on the terminal that is next
 pub mod Steps
+-- words of private functions
+pub mod Inner

@@ -1,13 +1,13 @@
 //! How is one leaf read? It is scanned at the state after the leaf before it, and shifted after the reductions that it asks for.
 
 ghost use Rattle.std.specs.Prelude.{◌≤◌, IfOk, length};
-ghost use Rattle.wb_parser_states.specs.Rules.{AreRules};
+ghost use Rattle.wb_parser_states.specs.Chains.{AreReductions};
 ghost use Rattle.wb_reading.specs.Inner.Walks.{AreSound, HasRead, IsRound, StaysSound};
 
 use crate::HostReading;
 use crate::ahead::{Ahead, ahead_of};
 use std::alloc::AllocError;
-use wb_parser_states::{Outcome, Rule, reduce_states, top};
+use wb_parser_states::{Outcome, Reductions, reduce_states, top};
 use wb_scan::{Language, scan};
 use wb_termset::TermSet;
 
@@ -23,18 +23,19 @@ pub(crate) enum Round {
 // Takes the next leaf of the text, from a place on.
 pub(crate) fn take_leaf(
     language: &Language,
-    rules: &[Rule],
+    reductions: &mut Reductions,
     markers: &TermSet,
     text: &[u8],
     states: &mut Vec<usize>,
     at: usize,
 ) -> Result<Round, AllocError>
-    requires rules { AreRules language.now.language.grammar rules.now }
+    requires reductions { AreReductions language.now.language.grammar language.now.tables reductions.old }
     requires at { at ≤ length text.now }
     requires sound { AreSound language.now states.old.items }
     requires read { HasRead language.now markers.now text.now states.old.items at }
     ensures round { IfOk result (IsRound language.now markers.now text.now states.new.items) }
     ensures sound { IfOk result (StaysSound language.now (length text.now) at states.new.items) }
+    ensures reductions { AreReductions language.now.language.grammar language.now.tables reductions.new }
 {
     match ahead_of(markers, scan(language, top(states), text, at)) {
         Ahead::Marker {
@@ -48,7 +49,7 @@ pub(crate) fn take_leaf(
         }
         Ahead::NoLeaf => Ok(Round::Done(HostReading::Same)),
         Ahead::Leaf { terminal, end } => {
-            match reduce_states(language, rules, states, terminal)? {
+            match reduce_states(language, reductions, states, terminal)? {
                 Outcome::Shifts(target) => {
                     states.push(target)?;
                     Ok(Round::Goes(end))

@@ -24,8 +24,8 @@ pub enum HostReading {
 /// Whether a text means to a host with extensions what it means to the host, or the first marker that may change it.
 ///
 /// The languages and attributes are those of the host, and those of the host with its extensions, which extend them. Terminals in the set
-/// are numbered as in the larger language. A stack of states, one for each root, and two numbers for each production are all that is kept;
-/// no tree is built. The only error is out of memory.
+/// are numbered as in the larger language. A stack of states, one for each root, two numbers for each production and a table of
+/// fixed size are all that is kept; no tree is built. The only error is out of memory.
 pub fn host_reading(
     alloc: Global,
     host: &Language,

@@ -1,13 +1,13 @@
 //! Which marker of a text is the first? Leaf after leaf is read until a marker is next, or until the text is read or stops.
 
 ghost use Rattle.std.specs.Prelude.{◌≡◌, [], IfOk};
-ghost use Rattle.wb_parser_states.specs.Rules.{AreRules};
+ghost use Rattle.wb_parser_states.specs.Chains.{AreReductions};
 ghost use Rattle.wb_reading.specs.Inner.Walks.{IsFound};
 
 use crate::HostReading;
 use crate::leaf::{Round, take_leaf};
 use std::alloc::{AllocError, Global};
-use wb_parser_states::{Rule, rules_of};
+use wb_parser_states::{Reductions, reductions_of};
 use wb_scan::Language;
 use wb_termset::TermSet;
 
@@ -20,30 +20,30 @@ pub(crate) fn first_marker(
 ) -> Result<HostReading, AllocError>
     ensures { IfOk result (IsFound language.now.language markers.now text.now) }
 {
-    let rules = rules_of(alloc, language.grammar())?;
+    let mut reductions = reductions_of(alloc, language)?;
     let mut states = Vec::new(alloc);
-    let found = read_all(language, &rules, markers, text, &mut states);
+    let found = read_all(language, &mut reductions, markers, text, &mut states);
     drop(states);
-    drop(rules);
+    drop(reductions);
     found
 }
 
 // The same, on an empty stack.
 fn read_all(
     language: &Language,
-    rules: &[Rule],
+    reductions: &mut Reductions,
     markers: &TermSet,
     text: &[u8],
     states: &mut Vec<usize>,
 ) -> Result<HostReading, AllocError>
-    requires rules { AreRules language.now.language.grammar rules.now }
+    requires reductions { AreReductions language.now.language.grammar language.now.tables reductions.old }
     requires states { states.old.items ≡ [] }
     ensures { IfOk result (IsFound language.now.language markers.now text.now) }
 {
     let _tables = language.tables();
     let mut at = 0;
     'leaves: loop {
-        match take_leaf(language, rules, markers, text, states, at)? {
+        match take_leaf(language, reductions, markers, text, states, at)? {
             Round::Goes(after) => at = after,
             Round::Done(found) => return Ok(found),
         }

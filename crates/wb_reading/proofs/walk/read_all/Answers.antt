@@ -14,6 +14,7 @@ leaves-init c = record {
     states_below = All-same (λ s. s < size_of c.args.language.now.tables) c.args.states.now.items [] c.requires.states
         (All-nil (λ s. s < size_of c.args.language.now.tables));
   };
+  reductions = c.requires.reductions;
   read = first_read c.args.language.now c.args.markers.now c.args.text.now c.args.states.now.items c.requires.states;
 }
 
@@ -26,5 +27,6 @@ leaves-preserved c =
     record {
       within = sound.2;
       sound = sound.0;
+      reductions = c.in_ok-after.ensures.reductions;
       read = subst (IsRound parts c.args.markers.now text new) c.in-Goes.is c.in_ok-after.ensures.round;
     }

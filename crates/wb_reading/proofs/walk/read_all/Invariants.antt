@@ -1,4 +1,5 @@
 use Rattle.std.proofs.Common.{◌-◌, ◌≤◌, length}
+use Rattle.wb_parser_states.specs.Chains.{AreReductions}
 use Rattle.wb_reading.specs.Inner.Walks.{AreSound, HasRead}
 use Rattle.wb_reading.proofs.walk.read_all.Given as goal
 
@@ -6,6 +7,7 @@ abbrev pub invariant-leaves : goal.invariant-leaves
 invariant-leaves l = record {
   within : l.at ≤ length l.text;
   sound : AreSound l.language l.states.items;
+  reductions : AreReductions l.language.language.grammar l.language.tables l.reductions;
   read : HasRead l.language l.markers l.text l.states.items l.at;
 }
 

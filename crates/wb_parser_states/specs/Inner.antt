@@ -1,0 +1,2 @@
+-- what states keep while reductions are made
+pub mod Carried
