@@ -10,6 +10,7 @@ pub mod LongLemmas
 pub mod MeetLemmas
 pub mod OntoLemmas
 pub mod PendingLemmas
+mod PlainLemmas
 pub mod PrintedLemmas
 pub mod ReadLemmas
 pub mod ReadingLemmas

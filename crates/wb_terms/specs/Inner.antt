@@ -5,6 +5,7 @@ pub mod Holding
 pub mod KindsFit
 pub mod Least
 pub mod Pending
+pub mod Plain
 pub mod Smallest
 pub mod TermEntries
 pub mod TermLaws

@@ -3,12 +3,13 @@
 //! An explicit stack holds the children that are left, so nothing recurses. A tree may be a shared graph whose text would be astronomic, so
 //! printing ends where the text gets too long.
 
-ghost use Rattle.std.specs.Prelude.{◌≡◌, ◌+◌, ◌<◌, ◌≤◌, ◌++◌, ◌∷◌, [], length, reverse, true, false, IfErr, IfOk, OnOk};
+ghost use Rattle.std.specs.Prelude.{◌≡◌, ◌+◌, ◌<◌, ◌≤◌, ◌++◌, ◌∷◌, [], length, reverse, true, false, IfErr, IfOk, IsTrue, OnOk};
 ghost use Rattle.wb_text_tokens.specs.Printing.{printed_text};
 ghost use Rattle.wb_values.specs.ValuesIn.{tree_in, value_in, IsIn};
 ghost use Rattle.wb_values.specs.Tree.{bool};
 ghost use Rattle.wb_terms.specs.Printed.{name_of, printed_plain, printed_tree, printed_value};
 ghost use Rattle.wb_terms.specs.Lengths.{IsTooLong};
+ghost use Rattle.wb_terms.specs.Inner.Plain.{ArePlain, IsPlain};
 ghost use Rattle.wb_terms.specs.Inner.Pending.{before, left_of, left_text, pending_text, pending_weight, tree_weight, value_weight, children_weight, ArePendingIn};
 
 use crate::name::printed_name;
@@ -70,7 +71,40 @@ fn print_short(out: &mut Vec<u8>, text: &[u8]) -> Result<(), PrintRefusal>
     if text.len() > LIMIT {
         return Err(PrintRefusal::TooLong);
     }
-    Ok(print_text(out, text)?)
+    if is_plain(text) {
+        Ok(print_plain_text(out, text)?)
+    } else {
+        Ok(print_text(out, text)?)
+    }
+}
+
+// Whether each byte stands for itself in a string.
+fn is_plain(text: &[u8]) -> bool
+    ensures { IsTrue result → ArePlain text.now }
+{
+    'bytes: for b in text {
+        if !is_plain_byte(*b) {
+            return false;
+        }
+    }
+    true
+}
+
+// Whether a byte stands for itself in a string.
+fn is_plain_byte(b: u8) -> bool
+    ensures { IsTrue result → IsPlain b }
+{
+    32 <= b && b <= 126 && b != b'"' && b != b'\\'
+}
+
+// Appends a text whose bytes stand for themselves as a string.
+fn print_plain_text(out: &mut Vec<u8>, text: &[u8]) -> Result<(), AllocError>
+    requires { ArePlain text.now }
+    ensures { OnOk result (out.new.items ≡ out.old.items ++ printed_text text.now) }
+{
+    push(out, b'"')?;
+    out.extend_from_slice(text)?;
+    push(out, b'"')
 }
 
 // Appends what comes before the children of a tree, which are then to be printed first.
