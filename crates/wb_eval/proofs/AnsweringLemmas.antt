@@ -1,7 +1,7 @@
 -- How an evaluation ends, and how far it is from its end.
 use Rattle.std.proofs.Common.{get_or, ◌≡◌, ◌∙◌, ◌≤◌, ◌<◌, ◌+◌, ◌*◌, ◌-◌, ℕ, suc, List, [], ◌∷◌, Option, Some, None, length, refl, sym, ap}
 use Rattle.std.proofs.Common.{subst, arith}
-use Rattle.std.proofs.lemmas.List.{get_or_append_left, length-append}
+use Rattle.std.proofs.lemmas.List.{get_or_append_left, length-append, length-take-le}
 use Rattle.std.proofs.lemmas.Option.{slice_get_within}
 use Rattle.wb_operations.specs.Operations.{Operations}
 use Rattle.wb_syntax_resolved.specs.declared.attribution.AttributionParts.{AttributionParts}
@@ -23,16 +23,19 @@ use Rattle.wb_eval.specs.declared.machine.Key.{Key}
 use Rattle.wb_eval.specs.declared.machine.Machine.{Machine}
 use Rattle.wb_eval.specs.Evaluates.{IsValue, IsFault, AsksMore}
 use Rattle.wb_eval.specs.Inner.Answering.{turns_left, GoesOn, IsAnswered, IsTurned, IsLeftWith}
-use Rattle.wb_eval.specs.Inner.Machines.{IsMachine, IsBlank, IsSame, HasMore, Runs, Wants}
+use Rattle.wb_eval.specs.declared.frame.Frame.{Frame}
+use Rattle.wb_eval.specs.declared.steps.Turn.{Turn}
+use Rattle.wb_eval.specs.declared.steps.Turn.TheVariants as turn
+use Rattle.wb_eval.specs.Inner.Machines.{IsMachine, IsBlank, IsSteady, HasMore, Runs, Wants}
 use Rattle.wb_eval.specs.Inner.State.{IsState, start}
-use Rattle.wb_eval.specs.Inner.Works.{IsExtended}
+use Rattle.wb_eval.specs.Inner.Works.{IsExtended, Fails, IsFramed}
 
 module _ (a : AttributionParts) (operations : Operations) (trees : List Tree) (m : Machine) where
   -- the value of the first instance
-  pub answers_value : (v : Value) (steps : ℕ) → Runs a operations trees m (done (value (value_in trees v))) → IsIn (length trees) v
+  pub answers_value : {under : List Value} (v : Value) (steps : ℕ) → Runs a operations trees under m (done (value (value_in trees v))) → IsIn (length trees) v
       → length m.stack.items ≡ 1 → m.entered ≤ steps → IsAnswered a operations trees m.root m.attribute steps (evaluated.Value v)
-  answers_value v steps runs inside one le = by_waiting r.waiting refl where
-    r : IsMachine a operations trees m
+  answers_value {under} v steps runs inside one le = by_waiting r.waiting refl where
+    r : IsMachine a operations trees under m
     r = runs.machine
 
     by_waiting : (w : List Instance) → r.waiting ≡ w → IsAnswered a operations trees m.root m.attribute steps (evaluated.Value v)
@@ -51,9 +54,10 @@ module _ (a : AttributionParts) (operations : Operations) (trees : List Tree) (m
         }
 
   -- a fault is that of the first instance
-  pub answers_fault : (operation code steps : ℕ) → Runs a operations trees m (done (fault operation code)) → m.entered ≤ steps
+  pub answers_fault : (operation code steps : ℕ) → Fails a operations trees m operation code → m.entered ≤ steps
       → IsAnswered a operations trees m.root m.attribute steps (evaluated.Fault operation code)
-  answers_fault operation code steps runs le =
+  answers_fault operation code steps fails le =
+      let runs = fails.runs in
       let r = runs.machine in
       let (answer, all_needed) = ends_faulted a operations r.top m.attribute r.state runs.come in
       let count = r.counted in
@@ -66,7 +70,7 @@ module _ (a : AttributionParts) (operations : Operations) (trees : List Tree) (m
       }
 
   -- one more is needed than there are steps
-  pub answers_more : (k : Key) (steps : ℕ) → Wants a operations trees m k → steps ≤ m.entered
+  pub answers_more : {under : List Value} (k : Key) (steps : ℕ) → Wants a operations trees under m k → steps ≤ m.entered
       → IsAnswered a operations trees m.root m.attribute steps evaluated.MoreSteps
   answers_more k steps w le =
       let r = w.runs.machine in
@@ -93,49 +97,54 @@ answered_as {a} {operations} {trees} m id y steps e blank h =
     (subst (λ (i : TreeId). IsAnswered a operations trees i m.attribute steps e) blank.root_is h)
 
 -- as much is left to do at a machine with the same instances
-pub turns_same : (steps : ℕ) (old m : Machine) → IsSame old m → turns_left steps m ≡ turns_left steps old
-turns_same steps old m same =
-    ap (λ (n : ℕ). 2 * (steps - n) + length m.stack.items) same.entered ∙ ap (λ s. 2 * (steps - old.entered) + length s.items) same.stack
+pub turns_same : (steps : ℕ) (old m : Machine) → IsSteady old m → turns_left steps m ≡ turns_left steps old
+turns_same steps old m steady =
+    ap (λ (n : ℕ). 2 * (steps - n) + length m.stack.items) steady.same.entered
+    ∙ ap (λ s. 2 * (steps - old.entered) + length s.items) steady.same.stack
 
 module _ (a : AttributionParts) (operations : Operations) (trees : List Tree) (m new : Machine) (steps : ℕ) where
-  -- after an instance is left
-  goes_left : IsMachine a operations trees new → new.root ≡ m.root → new.attribute ≡ m.attribute → new.entered ≡ m.entered
-      → suc (length new.stack.items) ≡ length m.stack.items → m.entered ≤ steps → GoesOn a operations trees m new steps
-  goes_left whole root attribute count_is stack le = record {
-    whole = whole;
-    root = root;
-    attribute = attribute;
-    within = omega (arith, count_is, le);
-    less = let d : steps - new.entered ≡ steps - m.entered = ap (λ n. steps - n) count_is in
-        let h = ap (λ n. 2 * n) d in omega (arith, h, stack);
-  }
-
   -- after the instance at work has its value
-  pub left_turned : (v : Value) → m.entered ≤ steps → Runs a operations trees m (done (value (value_in trees v))) → IsIn (length trees) v
-      → (r : Option Evaluated) → IsLeftWith m new v r → IsTurned a operations trees m new steps r
-  left_turned v le runs inside None (popped, others) =
+  pub left_turned : (before after : List Value) (v : Value) → m.entered ≤ steps
+      → Runs a operations trees before m (done (value (value_in trees v))) → IsIn (length trees) v
+      → (r : Turn) → IsLeftWith m new before after v r → IsTurned a operations trees m new after steps r
+  left_turned before after v le runs inside (turn.Goes frame) (popped, others) =
       let some = stack_some runs.machine in
-      let b = back a operations trees m v runs inside new popped (omega (arith, some, others)) in
-      goes_left b.whole b.root b.attribute b.entered b.stack le
-  left_turned v le runs inside (Some e) (is, one) =
+      let more : 1 < length m.stack.items = omega (arith, some, others) in
+      let stack = ap length popped.stack ∙ length-take-le (length m.stack.items - 1) m.stack.items (omega arith) in
+      let count_is = popped.entered in
+      record {
+        turn = back a operations trees m v runs inside new frame after popped more;
+        root = popped.root;
+        attribute = popped.attribute;
+        within = omega (arith, count_is, le);
+        less = let d : steps - new.entered ≡ steps - m.entered = ap (λ n. steps - n) count_is in
+            let h = ap (λ n. 2 * n) d in omega (arith, h, stack, more);
+      }
+  left_turned before after v le runs inside (turn.Over e) (is, one) =
       subst (IsAnswered a operations trees m.root m.attribute steps) (sym is)
       (answers_value a operations trees m v steps runs inside one le)
 
   -- after one is entered that it reads
-  pub entered_turned : (k : Key) → Wants a operations trees m k → HasMore m new k → m.entered < steps
-      → GoesOn a operations trees m new steps
-  entered_turned k wants h lt =
-      let whole = entered a operations trees m k new wants h.memo h.root h.attribute h.stack h.entered h.frames h.piled in
+  pub entered_turned : (k : Key) (frame : Option Frame) (values : List Value) → IsFramed a operations trees m values k frame
+      → HasMore m new k frame → m.entered < steps → GoesOn a operations trees m new values steps None
+  entered_turned k frame values framed h lt =
+      let whole = entered a operations trees m k new frame values framed h.memo h.root h.attribute h.stack h.entered h.frames in
       let count = length-append m.stack.items (k ∷ []) in
       let more = ap length h.stack in
       let count_is = h.entered in
       record {
-        whole = whole;
+        turn = whole;
         root = h.root;
         attribute = h.attribute;
         within = omega (arith, count_is, lt);
         less = omega (arith, count_is, count, more, lt);
       }
+
+  -- where no more are entered
+  pub framed_more : (k : Key) (frame : Option Frame) (values : List Value) → IsFramed a operations trees m values k frame
+      → steps ≤ m.entered → IsAnswered a operations trees m.root m.attribute steps evaluated.MoreSteps
+  framed_more k None values wants le = answers_more a operations trees m k steps wants le
+  framed_more k (Some f) values parks le = answers_more a operations trees m k steps parks.wants le
 
 -- the tree of the root in a store with more
 pub root_extended : (first second : List Tree) (id : ℕ) → IsExtended first second → id < length first → tree_in second id ≡ tree_in first id

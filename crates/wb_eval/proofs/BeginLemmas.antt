@@ -14,9 +14,10 @@ use Rattle.wb_eval_theory.specs.Instances.{Path, root, down, synthesized_at}
 use Rattle.wb_eval.proofs.MachineLemmas.{begins}
 use Rattle.wb_eval_memo.proofs.SitesLemmas.{root_path}
 use Rattle.wb_eval.specs.Inner.Answering.{IsAhead}
-use Rattle.wb_eval.specs.Inner.Machines.{HasTree, AreNamed, IsNode, IsMachine, IsBlank, IsFresh, HasMore}
+use Rattle.wb_eval.specs.Inner.Machines.{HasTree, AreNamed, IsNode, IsMachine, IsBlank, IsFresh, IsFirst}
 use Rattle.wb_eval_memo.specs.Memos.{count, path_in, numbered, recall, IsWhole}
-use Rattle.wb_eval.specs.Inner.Piles.{Wait, waits, IsPiled}
+use Rattle.wb_eval.specs.Inner.Piles.{Wait, AreWaits}
+use Rattle.wb_lemmas.proofs.Places.{nothing_at}
 use Rattle.wb_eval.specs.Inner.State.{start}
 use Rattle.wb_eval_rows.specs.Sparse.{number_at}
 use Rattle.wb_eval.specs.declared.machine.Key.TheVariants as key
@@ -26,7 +27,7 @@ use Rattle.wb_eval_memo.specs.declared.memo.Memo.{Memo}
 module _ (a : AttributionParts) (operations : Operations) (trees : List Tree) (m : Machine) (evaluable : IsEvaluable a operations)
     (inside : m.root.0 < length trees) (asked : IsAsked a (tree_in trees m.root.0) m.attribute) (whole : IsWhole m.memo)
     (origins : m.memo.sites.origins.items ≡ []) (its_trees : m.memo.trees.items ≡ Some m.root ∷ []) (values : m.memo.values.items ≡ [])
-    (stack : m.stack.items ≡ key.Synthesized 0 m.attribute ∷ []) (frames : waits m.frames ≡ None ∷ []) (piled : IsPiled m.frames)
+    (stack : m.stack.items ≡ key.Synthesized 0 m.attribute ∷ []) (frames : m.frames.items ≡ [])
     (entered : m.entered ≡ 1) where
   no_sites : count m.memo ≡ 0
   no_sites = ap length origins
@@ -52,11 +53,10 @@ module _ (a : AttributionParts) (operations : Operations) (trees : List Tree) (m
   below_root zero q b le is = let h = sym root_here ∙ is in cc h
   below_root (suc i) q b le is = omega (arith, le, no_sites)
 
-  no_frame : (i : ℕ) (f : Wait) → slice_get (None ∷ []) i ≡ Some (Some f) → ⊥
-  no_frame zero f has = cc has
-  no_frame (suc i) f has = cc has
+  no_wait : (i : ℕ) (f : Wait) → slice_get [] i ≡ Some (Some f) → ⊥
+  no_wait i f has = nothing_at (Some f) i has
 
-  pub begun : IsMachine a operations trees m
+  pub begun : IsMachine a operations trees [] m
   begun = record {
     top = tree_in trees m.root.0;
     root_inside = inside;
@@ -88,11 +88,13 @@ module _ (a : AttributionParts) (operations : Operations) (trees : List Tree) (m
     complete = λ r has. inl has;
     stack = subst (λ ks. AreNamed m.memo ks [] (start a operations (tree_in trees m.root.0) m.attribute ∷ [])) (sym stack)
         (omega arith, ap (λ (q : Path). synthesized_at q m.attribute ∷ []) (sym root_here));
-    frames = record {
-      count = ap length frames ∙ sym (ap length stack);
-      each = λ i k f at has. absurd (no_frame i f (subst (λ fs. slice_get fs i ≡ Some (Some f)) frames has));
+    waits = [];
+    frames = subst (λ fs. AreWaits fs []) (sym frames) tt;
+    piled_is = refl;
+    suspended = record {
+      count = sym (ap length stack);
+      each = λ i k l f at next has. absurd (no_wait i f has);
     };
-    piled = piled;
   }
 
 -- an attribute that can be evaluated, at a machine on which no instance was entered
@@ -108,7 +110,7 @@ fresh {a} {operations} {trees} m id y blank evaluable inside asked = record {
 
 -- it was entered
 pub begun_ahead : {a : AttributionParts} {operations : Operations} {trees : List Tree} (old m : Machine) → IsFresh a operations trees old
-    → HasMore old m (key.Synthesized 0 old.attribute) → IsAhead a operations trees old m
+    → IsFirst old m (key.Synthesized 0 old.attribute) → IsAhead a operations trees old m
 begun_ahead {a} {operations} {trees} old m f more =
     let b = f.blank in
     let stack : m.stack.items ≡ key.Synthesized 0 m.attribute ∷ [] =
@@ -120,7 +122,7 @@ begun_ahead {a} {operations} {trees} old m f more =
           (subst (λ (i : TreeId). IsAsked a (tree_in trees i.0) old.attribute) (sym more.root) f.asked))
           (subst IsWhole (sym more.memo) b.whole) (ap (λ (z : Memo). z.sites.origins.items) more.memo ∙ b.origins)
           (ap (λ (z : Memo). z.trees.items) more.memo ∙ b.its_trees ∙ ap (λ (i : TreeId). Some i ∷ []) (sym more.root))
-          (ap (λ (z : Memo). z.values.items) more.memo ∙ b.values) stack (more.frames ∙ ap (λ fs. fs ++ None ∷ []) b.frames) more.piled
+          (ap (λ (z : Memo). z.values.items) more.memo ∙ b.values) stack (ap (λ fs. fs.items) more.frames ∙ b.frames)
           (more.entered ∙ ap (λ n. n + 1) b.entered);
       root = more.root;
       attribute = more.attribute;

@@ -17,21 +17,20 @@ use Rattle.wb_eval.specs.Inner.Reached.{IsReached}
 use Rattle.wb_eval.specs.Inner.Starts.{IsAlone, IsForwarding}
 use Rattle.wb_eval.specs.declared.machine.Key.{Key}
 use Rattle.wb_eval.specs.declared.machine.Key.TheVariants as key
-use Rattle.wb_eval.specs.Inner.Piles.{HasNoFrame}
-use Rattle.wb_eval.specs.Inner.Works.{IsRan, IsRead}
+use Rattle.wb_eval.specs.Inner.Works.{IsFramed, IsRan, IsRead}
 use Rattle.wb_eval.specs.declared.machine.Machine.{Machine}
-use Rattle.wb_eval.specs.declared.work.Ran.{Ran}
-use Rattle.wb_eval.specs.declared.work.Ran.TheVariants as ran
+use Rattle.wb_eval.specs.declared.ran.Ran.{Ran}
+use Rattle.wb_eval.specs.declared.ran.Ran.TheVariants as ran
 use Rattle.wb_eval_memo.specs.declared.sites.Step.TheVariants as step
 use Rattle.wb_eval.proofs.HomeLemmas.{tree_known}
 
-module _ {a : AttributionParts} {operations : Operations} {trees : List Tree} {m : Machine} where
+module _ {a : AttributionParts} {operations : Operations} {trees : List Tree} {under : List Value} {m : Machine} where
   -- one instance alone
-  alone_known : (k : Key) (v : Value) → IsAlone a operations trees m k → known m.memo k ≡ Some v
-      → Runs a operations trees m (done (value (value_in trees v))) × IsIn (length trees) v
+  alone_known : (k : Key) (v : Value) → IsAlone a operations trees under m k → known m.memo k ≡ Some v
+      → Runs a operations trees under m (done (value (value_in trees v))) × IsIn (length trees) v
   alone_known k v alone is = runs_on a operations trees m k v (finish operations) alone.runs alone.is_key is
 
-  alone_wanted : (k : Key) → IsAlone a operations trees m k → known m.memo k ≡ None → Wants a operations trees m k
+  alone_wanted : (k : Key) → IsAlone a operations trees under m k → known m.memo k ≡ None → Wants a operations trees under m k
   alone_wanted k alone none = record {
     next = finish operations;
     runs = alone.runs;
@@ -39,14 +38,15 @@ module _ {a : AttributionParts} {operations : Operations} {trees : List Tree} {m
     fresh = not_entered a operations trees m k (finish operations) alone.runs alone.is_key none;
   }
 
-  pub alone_ran : (k : Key) → IsAlone a operations trees m k → HasNoFrame m.frames → (r : Ran) → IsRead m.memo k r
-      → IsRan a operations trees m r
-  alone_ran k alone free (ran.Value v) is = let (runs, inside) = alone_known k v alone is in (runs, inside, free)
-  alone_ran k alone free (ran.Fault operation code) never = absurd never
-  alone_ran k alone free (ran.Needs other) (same, none) = subst (Wants a operations trees m) (sym same) (alone_wanted k alone none)
+  pub alone_ran : (k : Key) → IsAlone a operations trees under m k → (r : Ran) → IsRead m.memo k r → IsRan a operations trees m under r
+  alone_ran k alone (ran.Value v) is = alone_known k v alone is
+  alone_ran k alone (ran.Fault operation code) never = absurd never
+  alone_ran k alone (ran.Needs other frame) (same, no_frame, none) =
+      subst (IsFramed a operations trees m under other) (sym no_frame)
+      (subst (Wants a operations trees under m) (sym same) (alone_wanted k alone none))
 
   -- through the forwarded tree, whose site is there
-  module _ (site x : ℕ) (f : IsForwarding a operations trees m site x) (after : Machine) (is : after ≡ with_memo m after.memo) (below : ℕ)
+  module _ (site x : ℕ) (f : IsForwarding a operations trees under m site x) (after : Machine) (is : after ≡ with_memo m after.memo) (below : ℕ)
       (whole : IsWhole after.memo) (grown : IsGrown m.memo after.memo)
       (reached : IsReached trees m.memo after.memo site step.Forward below) where
     below_path : path_in after.memo below ≡ down (path_in m.memo site) (made forward)
@@ -57,7 +57,7 @@ module _ {a : AttributionParts} {operations : Operations} {trees : List Tree} {m
     forward_walk =
         read (named after.memo (key.Tree below)) (λ v. read (named after.memo (key.Synthesized below x)) (finish operations))
 
-    forward_runs : Runs a operations trees after forward_walk
+    forward_runs : Runs a operations trees under after forward_walk
     forward_runs =
         let given : count m.memo < count after.memo → IsGiven a operations trees f.runs.machine.top (path_in m.memo site) step.Forward reached.0 =
         λ fresh. record {
@@ -66,8 +66,8 @@ module _ {a : AttributionParts} {operations : Operations} {trees : List Tree} {m
         } in
         let runs = grown_runs a operations trees m _ after.memo site below step.Forward reached.0 f.runs whole grown reached.2 f.there
         (f.id, f.has) given in
-        subst (λ (z : Machine). Runs a operations trees z forward_walk) (sym is)
-        (subst (λ (p : Path). Runs a operations trees (with_memo m after.memo) (read (tree_named p)
+        subst (λ (z : Machine). Runs a operations trees under z forward_walk) (sym is)
+        (subst (λ (p : Path). Runs a operations trees under (with_memo m after.memo) (read (tree_named p)
         (λ v. read (synthesized_at p x) (finish operations)))) (sym below_path) runs)
 
     tree_is_key : IsKey after.memo (key.Tree below)
@@ -80,7 +80,7 @@ module _ {a : AttributionParts} {operations : Operations} {trees : List Tree} {m
         slice_get-get_or after.memo.trees.items below o (omega (arith, le, t)) ∙ ap Some (sym found)
 
     pub forward_wanted : (o : Option TreeId) → o ≡ get_or after.memo.trees.items below o → o ≡ None
-        → Wants a operations trees after (key.Tree below)
+        → Wants a operations trees under after (key.Tree below)
     forward_wanted o found none = record {
       next = λ v. read (named after.memo (key.Synthesized below x)) (finish operations);
       runs = forward_runs;
@@ -91,7 +91,7 @@ module _ {a : AttributionParts} {operations : Operations} {trees : List Tree} {m
     }
 
     pub forward_alone : (o : Option TreeId) → o ≡ get_or after.memo.trees.items below o → o ≢ None
-        → IsAlone a operations trees after (key.Synthesized below x)
+        → IsAlone a operations trees under after (key.Synthesized below x)
     forward_alone o found some =
         let (id, has) = tree_known after.memo.trees.items below o (tree_found o found) some in
         record {

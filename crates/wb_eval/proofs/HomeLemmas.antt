@@ -14,6 +14,7 @@ use Rattle.wb_syntax_resolved.specs.declared.attribution.AttributionParts.{Attri
 use Rattle.wb_syntax_resolved.specs.declared.production.Production.{Production}
 use Rattle.wb_syntax_resolved.specs.Expression.{Expression, Node}
 use Rattle.wb_values.specs.declared.value.TreeId.{TreeId}
+use Rattle.wb_values.specs.declared.value.Value.{Value}
 use Rattle.wb_values.specs.Tree.{Tree, tree, production_of, children_of}
 use Rattle.wb_values.specs.Tree as t
 use Rattle.wb_values.specs.ValuesIn.{tree_in}
@@ -49,14 +50,14 @@ pub tree_known : (trees : List (Option TreeId)) (site : ℕ) (x : Option TreeId)
 tree_known trees site None is some = absurd (some refl)
 tree_known trees site (Some id) is some = (id, is)
 
-module _ {a : AttributionParts} {operations : Operations} {trees : List Tree} {m : Machine} where
-  module _ (r : IsMachine a operations trees m) where
+module _ {a : AttributionParts} {operations : Operations} {trees : List Tree} {under : List Value} {m : Machine} where
+  module _ (r : IsMachine a operations trees under m) where
     abbrev s : Setting
     s = setting_of a operations r.top r.asked.nonterminal r.evaluable r.asked.fits
 
     -- the work begins at the tree of the home
     comes : (u : Tree) (w : Walk) → IsNodeAt a operations r.top (home r.this) u → walk_of operations a r.this u ≡ w
-        → Runs a operations trees m w
+        → Runs a operations trees under m w
     comes u w there is = record {
       machine = r;
       come = record {
@@ -66,7 +67,7 @@ module _ {a : AttributionParts} {operations : Operations} {trees : List Tree} {m
       };
     }
 
-    comes_to_nothing : Runs a operations trees m missing → ⊥
+    comes_to_nothing : Runs a operations trees under m missing → ⊥
     comes_to_nothing runs =
         never_missed a operations runs.machine.top m.attribute runs.machine.evaluable runs.machine.asked runs.machine.state runs.come
 
@@ -124,7 +125,7 @@ module _ {a : AttributionParts} {operations : Operations} {trees : List Tree} {m
     -- the tree of a local or forward
     module _ (q : Path) (k : Made) (u : Tree) (p : Production) (this_is : r.this ≡ tree_at q k) (there : IsNodeAt a operations r.top q u)
         (is : IsProduction a (production_of u) p) where
-      tree_walk : (o : Option Expression) → rule_of p (tree_of k) ≡ o → Runs a operations trees m (walk_made operations q (children_of u) o)
+      tree_walk : (o : Option Expression) → rule_of p (tree_of k) ≡ o → Runs a operations trees under m (walk_made operations q (children_of u) o)
       unfolding walk_of
       tree_walk o rule =
           comes u (walk_made operations q (children_of u) o)
@@ -133,7 +134,7 @@ module _ {a : AttributionParts} {operations : Operations} {trees : List Tree} {m
           ∙ ap (walk_made operations q (children_of u)) (ap (λ (z : Option Production). rule_at operations a z (tree_of k)) is ∙ rule))
 
       pub tree_start : (e : Expression) → rule_of p (tree_of k) ≡ Some e
-          → Runs a operations trees m (walk_expression operations q (children_of u) e (finish operations))
+          → Runs a operations trees under m (walk_expression operations q (children_of u) e (finish operations))
       tree_start e rule = tree_walk (Some e) rule
 
       pub tree_none : ¬ HasRule p (tree_of k) → ⊥
@@ -143,7 +144,7 @@ module _ {a : AttributionParts} {operations : Operations} {trees : List Tree} {m
     module _ (q : Path) (b : vertices.Step) (x : ℕ) (u : Tree) (p : Production) (this_is : r.this ≡ inherited_at (down q b) x)
         (there : IsNodeAt a operations r.top q u) (is : IsProduction a (production_of u) p) where
       below_walk : (o : Option Expression) → rule_of p (inherited b x) ≡ o
-          → Runs a operations trees m (walk_below operations q (children_of u) b x o)
+          → Runs a operations trees under m (walk_below operations q (children_of u) b x o)
       unfolding walk_of
       below_walk o rule =
           comes u (walk_below operations q (children_of u) b x o)
@@ -153,13 +154,13 @@ module _ {a : AttributionParts} {operations : Operations} {trees : List Tree} {m
           (ap (λ (z : Option Production). rule_at operations a z (inherited b x)) is ∙ rule))
 
       pub below_start : (e : Expression) → rule_of p (inherited b x) ≡ Some e
-          → Runs a operations trees m (walk_expression operations q (children_of u) e (finish operations))
+          → Runs a operations trees under m (walk_expression operations q (children_of u) e (finish operations))
       below_start e rule = below_walk (Some e) rule
 
-      pub below_none : ¬ HasRule p (inherited b x) → Runs a operations trees m (read (inherited_at q x) (finish operations))
+      pub below_none : ¬ HasRule p (inherited b x) → Runs a operations trees under m (read (inherited_at q x) (finish operations))
       below_none none = by_step b (below_walk None (no_expression (production_of u) p (inherited b x) is none)) where
-        by_step : (b : vertices.Step) → Runs a operations trees m (walk_below operations q (children_of u) b x None)
-            → Runs a operations trees m (read (inherited_at q x) (finish operations))
+        by_step : (b : vertices.Step) → Runs a operations trees under m (walk_below operations q (children_of u) b x None)
+            → Runs a operations trees under m (read (inherited_at q x) (finish operations))
         by_step (made forward) runs = runs
         by_step (made (local c)) runs = absurd (comes_to_nothing runs)
         by_step (child c) runs = absurd (comes_to_nothing runs)
@@ -167,7 +168,7 @@ module _ {a : AttributionParts} {operations : Operations} {trees : List Tree} {m
     -- a synthesized attribute of a site with a tree
     at_tree : (q : Path) (u : Tree) (x : ℕ) → r.this ≡ synthesized_at q x → IsNodeAt a operations r.top q u
         → ((p : Path) (k : Made) → q ≡ down p (made k) → Contains r.all (tree_at p k))
-        → Runs a operations trees m (walk_synthesized operations a q x u)
+        → Runs a operations trees under m (walk_synthesized operations a q x u)
     unfolding walk_of comes
     at_tree root u x this_is at_root entered =
         comes u _ (subst (λ (i : Instance). IsNodeAt a operations r.top (home i) u) (sym this_is) at_root)
@@ -178,7 +179,7 @@ module _ {a : AttributionParts} {operations : Operations} {trees : List Tree} {m
         ∙ ap (λ (o : Option t.Value). with_tree o (walk_synthesized operations a (down q (child k)) x)) e)
     at_tree (down q (made k)) u x this_is (at_made has) entered = by_answer has where
       by_answer : HasAnswer a operations r.top (tree_at q k) (value (tree u))
-          → Runs a operations trees m (walk_synthesized operations a (down q (made k)) x u)
+          → Runs a operations trees under m (walk_synthesized operations a (down q (made k)) x u)
       by_answer (by_walk {t = above} n d) =
           let runs = comes above _ (subst (λ (i : Instance). IsNodeAt a operations r.top (home i) above) (sym this_is) n)
           (ap (λ (i : Instance). walk_of operations a i above) this_is) in
@@ -187,25 +188,25 @@ module _ {a : AttributionParts} {operations : Operations} {trees : List Tree} {m
     module _ (site x : ℕ) (id : TreeId) (this_is : r.this ≡ synthesized_at (path_in m.memo site) x) (has : HasTree m.memo site id)
         (p : Production) (is : IsProduction a (production_of (tree_in trees id.0)) p) where
       top_walk : (o f : Option Expression) → rule_of p (top_synthesized x) ≡ o → rule_of p (tree_of forward) ≡ f
-          → Runs a operations trees m (walk_top operations (path_in m.memo site) (children_of (tree_in trees id.0)) x o f)
+          → Runs a operations trees under m (walk_top operations (path_in m.memo site) (children_of (tree_in trees id.0)) x o f)
       top_walk o f rule forwards =
           let runs =
           at_tree (path_in m.memo site) (tree_in trees id.0) x this_is (node_at site id has)
           (λ q k e. r.memo.made_trees site id q k has e) in
           let first = ap (λ (z : Option Production). rule_at operations a z (top_synthesized x)) is ∙ rule in
           let second = ap (λ (z : Option Production). rule_at operations a z (tree_of forward)) is ∙ forwards in
-          subst (λ (z : Option Expression). Runs a operations trees m
+          subst (λ (z : Option Expression). Runs a operations trees under m
           (walk_top operations (path_in m.memo site) (children_of (tree_in trees id.0)) x o z)) second
-          (subst (λ (z : Option Expression). Runs a operations trees m
+          (subst (λ (z : Option Expression). Runs a operations trees under m
           (walk_top operations (path_in m.memo site) (children_of (tree_in trees id.0)) x z
           (tree_rule operations a (tree_in trees id.0) (tree_of forward)))) first runs)
 
       pub top_start : (e : Expression) → rule_of p (top_synthesized x) ≡ Some e
-          → Runs a operations trees m (walk_expression operations (path_in m.memo site) (children_of (tree_in trees id.0)) e
+          → Runs a operations trees under m (walk_expression operations (path_in m.memo site) (children_of (tree_in trees id.0)) e
           (finish operations))
       top_start e rule = top_walk (Some e) (rule_of p (tree_of forward)) rule refl
 
-      pub top_forward : site ≤ count m.memo → ¬ HasRule p (top_synthesized x) → IsForwarding a operations trees m site x
+      pub top_forward : site ≤ count m.memo → ¬ HasRule p (top_synthesized x) → IsForwarding a operations trees under m site x
       top_forward le none =
           let rule = no_expression (production_of (tree_in trees id.0)) p (top_synthesized x) is none in
           elim (rule_cases (rule_of p (tree_of forward))) [
@@ -222,7 +223,7 @@ module _ {a : AttributionParts} {operations : Operations} {trees : List Tree} {m
 
     -- the tree of a site is read first
     first_walk : (q : Path) (k : Made) (x : ℕ) (u : Tree) → r.this ≡ synthesized_at (down q (made k)) x → IsNodeAt a operations r.top q u
-        → (rest : t.Value → Walk) × Runs a operations trees m (read (tree_at q k) rest)
+        → (rest : t.Value → Walk) × Runs a operations trees under m (read (tree_at q k) rest)
     unfolding walk_of
     first_walk q k x u this_is n = (
       _,
@@ -231,9 +232,9 @@ module _ {a : AttributionParts} {operations : Operations} {trees : List Tree} {m
     )
 
     pub tree_wanted : (site x : ℕ) → site ≤ count m.memo → r.this ≡ synthesized_at (path_in m.memo site) x
-        → slice_get m.memo.trees.items site ≡ Some None → Wants a operations trees m (key.Tree site)
+        → slice_get m.memo.trees.items site ≡ Some None → Wants a operations trees under m (key.Tree site)
     tree_wanted site x le this_is none = by_path (path_in m.memo site) refl where
-      by_path : (z : Path) → path_in m.memo site ≡ z → Wants a operations trees m (key.Tree site)
+      by_path : (z : Path) → path_in m.memo site ≡ z → Wants a operations trees under m (key.Tree site)
       by_path root is = absurd (root_none site none is le)
       by_path (down q (child k)) is = absurd (let (id, has) = r.memo.child_trees site q k le is in let h = sym none ∙ has in cc h)
       by_path (down q (made k)) is =
@@ -242,7 +243,7 @@ module _ {a : AttributionParts} {operations : Operations} {trees : List Tree} {m
           let f = from_origin site q (made k) o is le at in
           let n = subst (λ (z : Path). IsNodeAt a operations r.top z (tree_in trees f.id.0)) f.up (node_at o.parent f.id f.has) in
           let (rest, runs) = first_walk q k x (tree_in trees f.id.0) (this_is ∙ ap (λ (z : Path). synthesized_at z x) is) n in
-          let runs' = subst (λ (i : Instance). Runs a operations trees m (read i rest)) (sym (ap tree_named is)) runs in
+          let runs' = subst (λ (i : Instance). Runs a operations trees under m (read i rest)) (sym (ap tree_named is)) runs in
           let is_key : IsKey m.memo (key.Tree site) = (le, (q, k, is)) in
           record {
             next = rest;

@@ -1,5 +1,5 @@
 -- An instance is left with its value: the memo knows it, and the one that waited is at work.
-use Rattle.std.proofs.Common.{◌≡◌, ◌≢◌, ◌∙◌, ◌⊎◌, ◌≤◌, ◌<◌, ◌+◌, ◌-◌, ◌++◌, inl, inr, ℕ, suc, List, [], ◌∷◌, Some, length}
+use Rattle.std.proofs.Common.{◌≡◌, ◌≢◌, ◌∙◌, ◌⊎◌, ◌≤◌, ◌<◌, ◌+◌, ◌-◌, ◌++◌, inl, inr, ℕ, suc, List, [], ◌∷◌, Option, Some, length}
 use Rattle.std.proofs.Common.{refl, sym, ap, subst, arith, slice_get, Contains, take}
 use Rattle.std.specs.List.{slice_set}
 use Rattle.std.proofs.lemmas.Bool.{cases_eq}
@@ -21,10 +21,10 @@ use Rattle.wb_eval_theory.proofs.AnswerLemmas.{one_node}
 use Rattle.wb_eval_theory.specs.Answers.{IsNodeAt, at_made, HasAnswer}
 use Rattle.wb_eval_theory.specs.Evaluable.{IsAsked}
 use Rattle.wb_eval_theory.specs.Instances.{Path, down, Instance, synthesized_at, inherited_at, tree_at}
-use Rattle.wb_eval_theory.specs.Walks.{value, done}
-use Rattle.wb_eval.proofs.FrameLemmas.{set_here, set_there, frames_moved, frames_left}
+use Rattle.wb_eval_theory.specs.Walks.{Walk, value, done}
+use Rattle.wb_eval.proofs.FrameLemmas.{set_here, set_there, waits_moved, waits_left}
 use Rattle.wb_eval.proofs.MachineLemmas.{leaves}
-use Rattle.wb_eval.proofs.StepLemmas.{named_less, last_key, this_value, memo_synthesized, memo_inherited, still_recalled, same_key}
+use Rattle.wb_eval.proofs.StepLemmas.{key_here, last_key, named_less, this_value, memo_synthesized, memo_inherited, still_recalled, same_key}
 use Rattle.wb_eval.proofs.StepLemmas.{same_named, paths, counts, tree_new}
 use Rattle.wb_eval.specs.Inner.Machines.{HasTree, tree_named, named, IsKey, AreNamed, IsRecalled, IsValueOf, IsNode, IsMachine, IsTree}
 use Rattle.wb_eval.specs.Inner.Machines.{IsKeptIn, AreSuspended}
@@ -32,8 +32,8 @@ use Rattle.wb_eval.specs.Inner.Machines.{Runs}
 use Rattle.wb_eval_memo.specs.Memos.{count, path_in, numbered, recall, IsWhole}
 use Rattle.wb_eval_memo.specs.Sites.{path_at, paths_of, IsSites}
 use Rattle.wb_eval_rows.specs.Sparse.{number_at, IsForest}
-use Rattle.wb_eval.specs.Inner.Piles.{waits, IsPiled}
-use Rattle.wb_eval.specs.Inner.State.{IsState}
+use Rattle.wb_eval.specs.Inner.Piles.{Wait, piled, AreWaits}
+use Rattle.wb_eval.specs.Inner.State.{IsState, HasCome}
 use Rattle.wb_eval.specs.declared.machine.Key.{Key}
 use Rattle.wb_eval.specs.declared.machine.Key.TheVariants as key
 use Rattle.wb_eval.specs.declared.machine.Machine.{Machine}
@@ -44,13 +44,13 @@ pub named_length : (m : Memo) (ks : List Key) (base is : List Instance) → AreN
 named_length m [] base is same = let h = ap length same in omega (arith, h)
 named_length m (k ∷ ks) base is (is_key, rest) = let h = named_length m ks (named m k ∷ base) is rest in omega (arith, h)
 
-module _ (a : AttributionParts) (operations : Operations) (trees : List Tree) (m : Machine) (v : Value)
-    (runs : Runs a operations trees m (done (value (value_in trees v)))) (inside : IsIn (length trees) v) where
-  abbrev r : IsMachine a operations trees m
+module _ (a : AttributionParts) (operations : Operations) (trees : List Tree) {under : List Value} (m : Machine) (v : Value)
+    (runs : Runs a operations trees under m (done (value (value_in trees v)))) (inside : IsIn (length trees) v) where
+  abbrev pub r : IsMachine a operations trees under m
   r = runs.machine
 
   abbrev IsKept : Memo → Type 0
-  IsKept new = IsKeptIn a operations trees m r new
+  IsKept new = IsKeptIn a operations trees under m r new
 
   names_same : (new : Memo) → IsKept new → (ks : List Key) (base is : List Instance) → AreNamed m.memo ks base is → AreNamed new ks base is
   names_same new kept [] base is h = h
@@ -60,48 +60,70 @@ module _ (a : AttributionParts) (operations : Operations) (trees : List Tree) (m
         (names_same new kept ks (named m.memo k ∷ base) is rest),
   )
 
-  pub left : (new : Machine) (front : List Key) (k : Key) → m.stack.items ≡ front ++ k ∷ [] → 0 < length front → IsKept new.memo
+  -- the instance of the last of these keys is at work, and its walk has come to where it had
+  abbrev pub IsBackAt : Machine → List Value → List Key → Type 0
+  IsBackAt new values front = IsMachine a operations trees values new
+      × ((c : Key) (w : Walk) → slice_get front (length front - 1) ≡ Some c
+      → HasCome a operations r.top m.attribute r.all (named m.memo c) w → Runs a operations trees values new w)
+
+  pub left : (new : Machine) (front : List Key) (k : Key) (waits : List (Option Wait)) (wait : Option Wait) (values : List Value)
+      → m.stack.items ≡ front ++ k ∷ [] → 0 < length front → IsKept new.memo
       → new.root ≡ m.root → new.attribute ≡ m.attribute → new.entered ≡ m.entered → new.stack.items ≡ front
-      → waits new.frames ≡ take (length front) (waits m.frames) → IsPiled new.frames → IsMachine a operations trees new
-  left new front k stack_is some kept root_is attribute count_is new_stack new_frames piled =
+      → r.waits ≡ waits ++ wait ∷ [] → AreWaits new.frames.items waits → values ≡ piled waits → IsBackAt new values front
+  left new front k waits wait values stack_is some kept root_is attribute count_is new_stack waits_are are values_are =
       let named_all = subst (λ (ks : List Key). AreNamed m.memo ks [] (r.this ∷ r.waiting)) stack_is r.stack in
       let (is_key, (rest, same, below)) = named_less m.memo front k [] (r.this ∷ r.waiting) named_all in
       let waiting_is : r.waiting ≡ rest = cc same in
       by_waiting r.waiting refl (subst (AreNamed m.memo front []) (sym waiting_is) below) where
-        by_waiting : (w : List Instance) → r.waiting ≡ w → AreNamed m.memo front [] w → IsMachine a operations trees new
+        by_waiting : (w : List Instance) → r.waiting ≡ w → AreNamed m.memo front [] w → IsBackAt new values front
         by_waiting [] is below = absurd (let h = named_length m.memo front [] [] below in omega (arith, h, some))
-        by_waiting (j ∷ js) is below = record {
-          top = r.top;
-          root_inside = subst (λ (id : TreeId). id.0 < length trees) (sym root_is) r.root_inside;
-          root_is = subst (λ (id : TreeId). tree_in trees id.0 ≡ r.top) (sym root_is) r.root_is;
-          evaluable = r.evaluable;
-          asked = subst (IsAsked a r.top) (sym attribute) r.asked;
-          all = r.all;
-          this = j;
-          waiting = js;
-          state = subst (λ (y : ℕ). IsState a operations r.top y r.all j js) (sym attribute)
-              (leaves a operations r.top m.attribute (subst (IsState a operations r.top m.attribute r.all r.this) is r.state) runs.come);
-          counted = count_is ∙ r.counted;
-          memo = kept.memo;
-          complete = λ z has. elim (r.complete z has) [
-            | inl on_stack ↦ elim (contains_cases r.this z (j ∷ js) (subst (λ (w : List Instance). Contains (r.this ∷ w) z) is on_stack)) [
-              | inl same ↦ inr (subst (IsRecalled new.memo) same kept.this_recalled)
-              | inr later ↦ inl later
-            ]
-            | inr recalled ↦ inr (kept.recalled z recalled)
-          ];
-          stack = subst (λ (ks : List Key). AreNamed new.memo ks [] (j ∷ js)) (sym new_stack)
-              (names_same new.memo kept front [] (j ∷ js) below);
-          frames = subst (λ (ks : List Key). AreSuspended a operations trees r.top new.attribute r.all new.memo ks (waits new.frames))
-              (sym new_stack)
-              (subst (λ (y : ℕ). AreSuspended a operations trees r.top y r.all new.memo front (waits new.frames)) (sym attribute)
-              (frames_moved a operations trees r.top m.attribute r.all m.memo new.memo front (waits new.frames)
-              (frames_left a operations trees r.top m.attribute r.all m.memo front m.stack.items k (waits m.frames)
-              (waits new.frames) r.frames stack_is new_frames)
-              (let c = kept.counts in omega (arith, c)) (λ n le. kept.paths n) (λ n id le has. kept.trees_kept n id has) kept.keys
-              (λ c is. kept.names c)));
-          piled = piled;
-        }
+        by_waiting (j ∷ js) is below =
+            let machine : IsMachine a operations trees values new = record {
+              top = r.top;
+              root_inside = subst (λ (id : TreeId). id.0 < length trees) (sym root_is) r.root_inside;
+              root_is = subst (λ (id : TreeId). tree_in trees id.0 ≡ r.top) (sym root_is) r.root_is;
+              evaluable = r.evaluable;
+              asked = subst (IsAsked a r.top) (sym attribute) r.asked;
+              all = r.all;
+              this = j;
+              waiting = js;
+              state = subst (λ (y : ℕ). IsState a operations r.top y r.all j js) (sym attribute)
+                  (leaves a operations r.top m.attribute (subst (IsState a operations r.top m.attribute r.all r.this) is r.state) runs.come);
+              counted = count_is ∙ r.counted;
+              memo = kept.memo;
+              complete = λ z has. elim (r.complete z has) [
+                | inl on_stack ↦ elim (contains_cases r.this z (j ∷ js) (subst (λ (w : List Instance). Contains (r.this ∷ w) z) is on_stack)) [
+                  | inl same ↦ inr (subst (IsRecalled new.memo) same kept.this_recalled)
+                  | inr later ↦ inl later
+                ]
+                | inr recalled ↦ inr (kept.recalled z recalled)
+              ];
+              stack = subst (λ (ks : List Key). AreNamed new.memo ks [] (j ∷ js)) (sym new_stack)
+                  (names_same new.memo kept front [] (j ∷ js) below);
+              waits = waits;
+              frames = are;
+              piled_is = values_are;
+              suspended = subst (λ (ks : List Key). AreSuspended a operations trees r.top new.attribute r.all new.memo ks waits)
+                  (sym new_stack)
+                  (subst (λ (y : ℕ). AreSuspended a operations trees r.top y r.all new.memo front waits) (sym attribute)
+                  (waits_moved a operations trees r.top m.attribute r.all m.memo new.memo front waits
+                  (waits_left a operations trees r.top m.attribute r.all m.memo front k waits wait
+                  (subst (AreSuspended a operations trees r.top m.attribute r.all m.memo (front ++ k ∷ [])) waits_are
+                  (subst (λ (ks : List Key). AreSuspended a operations trees r.top m.attribute r.all m.memo ks r.waits) stack_is r.suspended)))
+                  (let c = kept.counts in omega (arith, c)) (λ n le. kept.paths n) (λ n id le has. kept.trees_kept n id has) kept.keys
+                  (λ c is. kept.names c)));
+            } in (
+              machine,
+              λ c w at come. record {
+                machine = machine;
+                come = subst (λ (y : ℕ). HasCome a operations r.top y r.all j w) (sym attribute)
+                    (subst (λ (z : Instance). HasCome a operations r.top m.attribute r.all z w)
+                    (let whole = last_key front c at in
+                    let (is_c, (others, same_c, below_c)) = named_less m.memo (take (length front - 1) front) c [] (j ∷ js)
+                    (subst (λ (ks : List Key). AreNamed m.memo ks [] (j ∷ js)) (sym whole) below) in
+                    let j_is : j ≡ named m.memo c = cc same_c in sym j_is) come);
+              },
+            )
 
   -- an attribute's value
   module _ (new : Memo) (site x : ℕ) (whole : IsWhole new) (sites : new.sites ≡ m.memo.sites) (its_trees : new.trees ≡ m.memo.trees)
@@ -267,18 +289,8 @@ module _ (a : AttributionParts) (operations : Operations) (trees : List Tree) (m
       tree_names (key.Inherited i y) = ap (λ (p : Path). inherited_at p y) (same_path i)
       tree_names (key.Tree i) = ap tree_named (same_path i)
 
--- the last key is that of the instance at work
-pub key_here : (a : AttributionParts) (operations : Operations) (trees : List Tree) (m : Machine) (r : IsMachine a operations trees m)
-    (k : Key)
-    → slice_get m.stack.items (length m.stack.items - 1) ≡ Some k → IsKey m.memo k × (r.this ≡ named m.memo k)
-key_here a operations trees m r k at =
-    let whole = last_key m.stack.items k at in
-    let named_all = subst (λ (ks : List Key). AreNamed m.memo ks [] (r.this ∷ r.waiting)) (sym whole) r.stack in
-    let (is_key, (rest, same, below)) = named_less m.memo (take (length m.stack.items - 1) m.stack.items) k []
-    (r.this ∷ r.waiting) named_all in
-    (is_key, cc same)
-
-pub tree_key : (a : AttributionParts) (operations : Operations) (trees : List Tree) (m : Machine) (r : IsMachine a operations trees m)
+pub tree_key : (a : AttributionParts) (operations : Operations) (trees : List Tree) {under : List Value} (m : Machine)
+    (r : IsMachine a operations trees under m)
     (site : ℕ)
     → slice_get m.stack.items (length m.stack.items - 1) ≡ Some (key.Tree site)
     → (site ≤ count m.memo) × ((q : Path) × (k : Made) × (path_in m.memo site ≡ down q (made k)) × (r.this ≡ tree_at q k))

@@ -1,157 +1,199 @@
--- A task that was done: a tree was built, an operation called, or a branch chosen.
-use Rattle.std.proofs.Common.{◌≡◌, ◌∙◌, ◌≤◌, ◌<◌, ◌+◌, ◌-◌, ◌++◌, ◌∷◌, [], ℕ, inl, inr, true, false, List, Option, Some, None, length}
-use Rattle.std.proofs.Common.{take, slice_get, All, refl, sym, ap, subst, arith}
-use Rattle.std.specs.List.{slice_set}
-use Rattle.std.specs.Prelude.{option_to_list}
+-- An instruction that was done, and code that goes on or stops.
+use Rattle.std.proofs.Common.{◌≡◌, ◌∙◌, ◌≤◌, ◌<◌, ◌+◌, ◌-◌, ◌^◌, ◌++◌, ◌∷◌, [], ℕ, zero, suc, inl, inr, true, false, Bool, List, Option, Some, None, length}
+use Rattle.std.proofs.Common.{take, drop, map, slice_get, get_or, All, refl, sym, ap, subst, arith, ◌⊎◌}
+use Rattle.std.proofs.lemmas.List.{length-map}
 use Rattle.wb_operations.specs.Given.{FitKinds, plains_of}
 use Rattle.wb_operations.specs.Operations.{OperationSignature, Operations}
 use Rattle.wb_syntax_resolved.specs.declared.attribution.AttributionParts.{AttributionParts}
-use Rattle.wb_syntax_resolved.specs.Expression.{Node}
 use Rattle.wb_values.specs.declared.value.Value.{Value}
 use Rattle.wb_values.specs.declared.value.Value.TheVariants as stored
 use Rattle.wb_values.specs.Tree.{Tree}
 use Rattle.wb_values.specs.ValuesIn.{IsIn, last}
 use Rattle.wb_eval_theory.specs.Walks.{done, fault}
-use Rattle.wb_eval.proofs.CallTaskLemmas.{call_ready, called, call_failed}
-use Rattle.wb_eval.proofs.ChoiceTaskLemmas.{choice_ready, chosen_after, choice_less}
+use Rattle.wb_eval_rules.specs.Code.{Way, Instruction, does, job_of, way_of, instruction_of, instructions}
+use Rattle.wb_eval_rules.specs.declared.code.After.{After}
+use Rattle.wb_eval_rules.specs.declared.code.After.TheVariants as after
+use Rattle.wb_eval_rules.specs.declared.code.Op.{Op}
+use Rattle.wb_eval_rules.specs.declared.code.Task.{Task}
+use Rattle.wb_eval_rules.specs.declared.code.Task.TheVariants as task
+use Rattle.wb_eval.proofs.CodeTaskLemmas.{build_ready, built, call_ready, called, call_failed}
+use Rattle.wb_eval.proofs.FollowLemmas.{stayed, next_on, skip_on, holds_on, fails_on, truth_there}
 use Rattle.wb_eval.proofs.PlainLemmas.{given_value, given_fault}
-use Rattle.wb_eval.proofs.DoneLemmas.{visit_within}
-use Rattle.wb_eval.proofs.TreeTaskLemmas.{build_ready, built}
-use Rattle.wb_eval.proofs.ParkLemmas.{parked}
 use Rattle.wb_eval.proofs.SteadyLemmas.{same_machine}
-use Rattle.wb_eval.specs.Inner.Machines.{Runs, with_frames}
-use Rattle.wb_eval.specs.Inner.Piles.{wait, waits, IsPiled}
-use Rattle.wb_eval.specs.Inner.Works.{task_size, left_to_do, IsEvaluating, IsOver, IsBuilt, IsChosen, IsCalled, HasTruth}
-use Rattle.wb_eval.specs.Inner.Works.{Parks, IsAfter, IsLess, IsDone, HasRun}
-use Rattle.wb_eval.specs.declared.frames.Frames.{Frames}
+use Rattle.wb_eval.specs.Inner.Works.{IsEvaluating, IsGoing, HasDone, HasVisited, IsAfter, IsBuilt, IsCalled, IsFollowed, IsBehind}
+use Rattle.wb_eval.specs.Inner.Machines.{Runs}
+use Rattle.wb_eval.specs.Inner.Works.{HasTruthFor, IsStopped, IsRan, Parks, GoesOnAt}
+use Rattle.wb_eval.specs.declared.frame.Frame.{Frame}
+use Rattle.wb_eval.specs.declared.context.Expression.{Expression}
 use Rattle.wb_eval.specs.declared.machine.Key.{Key}
 use Rattle.wb_eval.specs.declared.machine.Machine.{Machine}
-use Rattle.wb_eval.specs.declared.work.Ran.{Ran}
-use Rattle.wb_eval.specs.declared.work.Ran.TheVariants as ran
-use Rattle.wb_eval.specs.declared.work.Task.{Task}
-use Rattle.wb_eval.specs.declared.work.Task.TheVariants as task
-use Rattle.wb_eval.specs.declared.work.Work.{Work}
+use Rattle.wb_eval.specs.declared.ran.Ran.{Ran}
+use Rattle.wb_eval.specs.declared.ran.Ran.TheVariants as ran
+use Rattle.wb_eval.specs.declared.ran.Stop.{Stop}
+use Rattle.wb_eval.specs.declared.ran.Stop.TheVariants as stop
 
-module _ (a : AttributionParts) (operations : Operations) (trees : List Tree) (m : Machine) (site : ℕ) (nodes : List Node)
-    (old new : Work) where
-  -- what is left of the work with a task on top
-  abbrev pub With : Task → Type 0
-  With t = IsEvaluating a operations trees m site nodes (old.tasks.items ++ t ∷ []) old.values.items
+module _ {a : AttributionParts} {operations : Operations} {trees : List Tree} {m : Machine} {site : ℕ} {way : Way}
+    {code : List Instruction} (old : List Value) (t : Task)
+    (ev : IsEvaluating a operations trees m site (does (job_of t) way ∷ code) old) where
+  as_form : (u : Task) → t ≡ u → IsEvaluating a operations trees m site (does (job_of u) way ∷ code) old
+  as_form u is = subst (λ (z : Task). IsEvaluating a operations trees m site (does (job_of z) way ∷ code) old) is ev
 
-  -- the work goes on, with these tasks and values
-  goes_on : (trees' : List Tree) (ts : List Task) (vs : List Value) (before : ℕ) → IsEvaluating a operations trees' m site nodes ts vs
-      → new.tasks.items ≡ ts → new.values.items ≡ vs → left_to_do nodes ts < before
-      → IsOver a operations trees' m m site nodes new before None
-  goes_on trees' ts vs before it tasks values less = (
-    same_machine m,
-    subst (λ (us : List Value). IsEvaluating a operations trees' m site nodes new.tasks.items us) (sym values)
-        (subst (λ (us : List Task). IsEvaluating a operations trees' m site nodes us vs) (sym tasks) it),
-    subst (λ (us : List Task). left_to_do nodes us < before) (sym tasks) less,
-  )
+  pub build_here : (p n : ℕ) → t ≡ task.Build p n → (n ≤ length old) × All (IsIn (length trees)) (last n old)
+  build_here p n is = build_ready a operations trees m site way code old p n (as_form (task.Build p n) is)
 
-  pub build_over : (p n : ℕ) → With (task.Build p n) → (trees' : List Tree) (r : Option Ran) → IsBuilt trees trees' old new p n r
-      → IsOver a operations trees' m m site nodes new (left_to_do nodes old.tasks.items + task_size nodes (task.Build p n)) r
-  build_over p n ev trees' r b =
-      let before = left_to_do nodes old.tasks.items + task_size nodes (task.Build p n) in
-      let it = built a operations trees m site nodes old.tasks.items old.values.items p n b.id ev b.id_is in
-      subst (IsOver a operations trees' m m site nodes new before) (sym b.goes_on)
-      (goes_on trees' old.tasks.items _ before
-      (subst (λ (ts : List Tree). IsEvaluating a operations ts m site nodes old.tasks.items
-      (take (length old.values.items - n) old.values.items ++ stored.Tree b.id ∷ [])) (sym b.trees_are) it)
-      (ap (λ ts. ts.items) b.tasks) b.values (omega arith))
+  pub build_done : (p n : ℕ) → t ≡ task.Build p n → (trees' : List Tree) (new : List Value) → IsBuilt trees trees' old new p n
+      → HasDone a operations trees' m m site (does (job_of t) way) way code new None
+  build_done p n is trees' new b =
+      let it = built a operations trees m site way code old p n b.id (as_form (task.Build p n) is) b.id_is in (
+        same_machine m,
+        subst (λ (vs : List Value). IsGoing a operations trees' m site way code vs) (sym b.values)
+            (subst (λ (ts : List Tree). IsGoing a operations ts m site way code (take (length old - n) old ++ stored.Tree b.id ∷ []))
+            (sym b.trees_are) it),
+      )
 
-  pub call_over : (number n : ℕ) → With (task.Call number n) → (r : Option Ran)
-      → IsCalled (operations.meaning number (plains_of (last n old.values.items))) old new number n r
-      → IsOver a operations trees m m site nodes new (left_to_do nodes old.tasks.items + task_size nodes (task.Call number n)) r
-  call_over number n ev None (w, gave, tasks, values) =
-      let (p, means, plain_one) = given_value _ w gave in
-      goes_on trees old.tasks.items _ _ (called a operations trees m site nodes old.tasks.items old.values.items number n w p ev means
-      plain_one)
-      (ap (λ ts. ts.items) tasks) values (omega arith)
-  call_over number n ev (Some (ran.Fault operation code)) (same, gave) =
-      let runs = call_failed a operations trees m site nodes old.tasks.items old.values.items number n code ev (given_fault _ code gave) in
-      ((same_machine m).same, subst (λ (i : ℕ). Runs a operations trees m (done (fault i code))) (sym same) runs)
-  call_over number n ev (Some (ran.Value w)) never = absurd never
-  call_over number n ev (Some (ran.Needs key)) never = absurd never
+  pub call_here : (i n : ℕ) → t ≡ task.Call i n → (n ≤ length old) × (i < length operations.signatures)
+      × ((s : OperationSignature) → slice_get operations.signatures i ≡ Some s → FitKinds s.takes (last n old))
+  call_here i n is = call_ready a operations trees m site way code old i n (as_form (task.Call i n) is)
 
-  pub choice_over : (h f : ℕ) → With (task.Choose h f) → (r : Option Ran) → IsChosen old new h f r
-      → IsOver a operations trees m m site nodes new (left_to_do nodes old.tasks.items + task_size nodes (task.Choose h f)) r
-  choice_over h f ev None (inl by) =
-      goes_on trees _ _ _ ((chosen_after a operations trees m site nodes old.tasks.items old.values.items h f ev true by.is).0 refl)
-      by.tasks by.values (choice_less nodes old.tasks.items h f h (inl refl))
-  choice_over h f ev None (inr by) =
-      goes_on trees _ _ _ ((chosen_after a operations trees m site nodes old.tasks.items old.values.items h f ev false by.is).1 refl)
-      by.tasks by.values (choice_less nodes old.tasks.items h f f (inr refl))
-  choice_over h f ev (Some r) never = absurd never
+  pub call_done : (i n : ℕ) → t ≡ task.Call i n → (new : List Value) (r : Option Stop)
+      → IsCalled (operations.meaning i (plains_of (last n old))) old new i n r
+      → HasDone a operations trees m m site (does (job_of t) way) way code new r
+  call_done i n is new None (w, gave, values) =
+      let (p, means, plain_one) = given_value _ w gave in (
+        same_machine m,
+        subst (λ (vs : List Value). IsGoing a operations trees m site way code vs) (sym values)
+            (called a operations trees m site way code old i n w p (as_form (task.Call i n) is) means plain_one),
+      )
+  call_done i n is new (Some (stop.Fault operation code_of_fault)) (same, gave) =
+      let ev' = as_form (task.Call i n) is in
+      let runs = call_failed a operations trees m site way code old i n code_of_fault ev' (given_fault _ code_of_fault gave) in (
+        same_machine m,
+        record { under = ev'.under; runs = subst (λ (z : ℕ). Runs a operations trees ev'.under m (done (fault z code_of_fault))) (sym same) runs },
+      )
+  call_done i n is new (Some (stop.Needs key)) never = absurd never
 
--- a task that was on top, by its form
-module _ {a : AttributionParts} {operations : Operations} {trees : List Tree} {m : Machine} {site : ℕ} {nodes : List Node} (old : Work)
-    (t : Task) (ev : With a operations trees m site nodes old old t) where
-  as_form : (u : Task) → t ≡ u → With a operations trees m site nodes old old u
-  as_form u is = subst (With a operations trees m site nodes old old) is ev
+  pub stay_done : t ≡ task.Stay → HasDone a operations trees m m site (does (job_of t) way) way code old None
+  stay_done is = (same_machine m, stayed a operations trees m site way code old (as_form task.Stay is))
 
-  pub visit_here : (at : ℕ) → t ≡ task.Visit at
-      → (at < length nodes) × IsEvaluating a operations trees m site nodes (old.tasks.items ++ task.Visit at ∷ []) old.values.items
-  visit_here at is = (visit_within old old at (as_form (task.Visit at) is), as_form (task.Visit at) is)
+-- a visit that is done, or for which code stops
+pub visit_none : {a : AttributionParts} {operations : Operations} {trees : List Tree} (m new : Machine) (site : ℕ) (i : Instruction) (way : Way)
+    (code : List Instruction) (values : List Value) (r : Option Key) → r ≡ None
+    → HasVisited a operations trees m new site i way code values r → HasDone a operations trees m new site i way code values None
+visit_none {a} {operations} {trees} m new site i way code values r is it =
+    subst (HasVisited a operations trees m new site i way code values) is it
 
-  pub build_here : (p n : ℕ) → t ≡ task.Build p n → (n ≤ length old.values.items) × All (IsIn (length trees)) (last n old.values.items)
-  build_here p n is = build_ready a operations trees m site nodes old.tasks.items old.values.items p n (as_form (task.Build p n) is)
+pub visit_some : {a : AttributionParts} {operations : Operations} {trees : List Tree} (m new : Machine) (site : ℕ) (i : Instruction) (way : Way)
+    (code : List Instruction) (values : List Value) (r : Option Key) (k : Key) → r ≡ Some k
+    → HasVisited a operations trees m new site i way code values r
+    → HasDone a operations trees m new site i way code values (Some (stop.Needs k))
+visit_some {a} {operations} {trees} m new site i way code values r k is it =
+    subst (HasVisited a operations trees m new site i way code values) is it
 
-  pub call_here : (number n : ℕ) → t ≡ task.Call number n → (n ≤ length old.values.items) × (number < length operations.signatures)
-      × ((s : OperationSignature) → slice_get operations.signatures number ≡ Some s → FitKinds s.takes (last n old.values.items))
-  call_here number n is =
-      call_ready a operations trees m site nodes old.tasks.items old.values.items number n (as_form (task.Call number n) is)
+-- the instruction at a place, and the code behind it
+pub code_at : (ops : List Op) (at : ℕ) (op : Op) → at < length ops → op ≡ get_or ops at op
+    → drop at (instructions ops) ≡ instruction_of op ∷ drop (at + 1) (instructions ops)
+code_at [] at op within is = absurd (omega (arith, within))
+code_at (o ∷ ops) zero op within is = ap (λ (z : Op). instruction_of z ∷ instructions ops) (sym is)
+code_at (o ∷ ops) (suc at) op within is =
+    let e : suc at + 1 ≡ suc (at + 1) = omega arith in
+    code_at ops at op (omega (arith, within)) is
+    ∙ ap (λ (n : ℕ). instruction_of op ∷ drop n (instructions (o ∷ ops))) (sym e)
 
-  pub choice_here : (h f : ℕ) → t ≡ task.Choose h f
-      → (0 < length old.values.items) × HasTruth old.values.items (length old.values.items - 1)
-  choice_here h f is = choice_ready a operations trees m site nodes old.tasks.items old.values.items h f (as_form (task.Choose h f) is)
+pub drop_past : {X : Type 0} (xs : List X) (n : ℕ) → length xs ≤ n → drop n xs ≡ []
+drop_past [] zero past = refl
+drop_past [] (suc n) past = refl
+drop_past (x ∷ xs) zero past = absurd (omega (arith, past))
+drop_past (x ∷ xs) (suc n) past = drop_past xs n (omega (arith, past))
 
-  module _ (new : Work) (r : Option Ran) where
-    -- the work is over, or goes on with less than the task
-    abbrev pub Over : List Tree → Task → Type 0
-    Over trees' u = IsOver a operations trees' m m site nodes new (left_to_do nodes old.tasks.items + task_size nodes u) r
+abbrev nothing : (X : Type 0) → List X
+nothing X = []
 
-    pub build_done : (p n : ℕ) → t ≡ task.Build p n → (trees' : List Tree) → IsBuilt trees trees' old new p n r → Over trees' t
-    build_done p n is trees' it =
-        subst (Over trees') (sym is) (build_over a operations trees m site nodes old new p n (as_form (task.Build p n) is) trees' r it)
+drop_nil : {X : Type 0} (n : ℕ) → drop n (nothing X) ≡ []
+drop_nil zero = refl
+drop_nil (suc n) = refl
 
-    pub call_done : (number n : ℕ) → t ≡ task.Call number n
-        → IsCalled (operations.meaning number (plains_of (last n old.values.items))) old new number n r → Over trees t
-    call_done number n is it =
-        subst (Over trees) (sym is) (call_over a operations trees m site nodes old new number n (as_form (task.Call number n) is) r it)
+drop_twice : {X : Type 0} (xs : List X) (n k : ℕ) → drop k (drop n xs) ≡ drop (n + k) xs
+drop_twice [] n k = ap (drop k) (drop_nil n) ∙ drop_nil k ∙ sym (drop_nil (n + k))
+drop_twice (x ∷ xs) zero k = let e : 0 + k ≡ k = omega arith in ap (λ (j : ℕ). drop j (x ∷ xs)) (sym e)
+drop_twice (x ∷ xs) (suc n) k =
+    let e : suc n + k ≡ suc (n + k) = omega arith in drop_twice xs n k ∙ ap (λ (j : ℕ). drop j (x ∷ xs)) (sym e)
 
-    pub choice_done : (h f : ℕ) → t ≡ task.Choose h f → IsChosen old new h f r → Over trees t
-    choice_done h f is it =
-        subst (Over trees) (sym is) (choice_over a operations trees m site nodes old new h f (as_form (task.Choose h f) is) r it)
+-- the code at a place so far behind another
+behind : (ops : List Op) (at n result : ℕ) → IsBehind at n result → length ops < 2 ^ 64
+    → drop n (drop (at + 1) (instructions ops)) ≡ drop result (instructions ops)
+behind ops at n result (inl is) short = drop_twice (instructions ops) (at + 1) n ∙ ap (λ (j : ℕ). drop j (instructions ops)) (sym is)
+behind ops at n result (inr (first, second)) short =
+    let l = length-map ops instruction_of in
+    drop_twice (instructions ops) (at + 1) n
+    ∙ drop_past (instructions ops) (at + 1 + n) (omega (arith, l, second, short))
+    ∙ sym (drop_past (instructions ops) result (omega (arith, l, first, short)))
 
--- a visit that waits is left to do, and one that doesn't is done
-module _ {a : AttributionParts} {operations : Operations} {trees : List Tree} {m after : Machine} {site : ℕ} {nodes : List Node}
-    (old mid : Work) (at : ℕ) (r : Option Key) (it : IsDone a operations trees m after site nodes old mid (task.Visit at) r) where
-  pub visit_parks : (new : Work) (key : Key) → r ≡ Some key → new.tasks.items ≡ mid.tasks.items ++ task.Visit at ∷ []
-      → new.values ≡ mid.values → Parks a operations trees after site nodes new.tasks.items new.values.items key
-  visit_parks new key is tasks values =
-      subst (λ vs. Parks a operations trees after site nodes new.tasks.items vs.items key) (sym values)
-      (subst (λ (ts : List Task). Parks a operations trees after site nodes ts mid.values.items key) (sym tasks)
-      (subst (IsAfter a operations trees after site nodes mid.tasks.items mid.values.items (task.Visit at)) is it.after_it))
+module _ (a : AttributionParts) (operations : Operations) (trees : List Tree) (m : Machine) (site : ℕ) where
+  -- a value that says how code goes on is there
+  pub truth_for : (w : After) (code : List Instruction) (values : List Value) → IsGoing a operations trees m site (way_of w) code values
+      → HasTruthFor w values
+  truth_for after.Next code values g = tt
+  truth_for (after.Skip n) code values g = tt
+  truth_for (after.Unless n) code values g = truth_there a operations trees m site n code values g
 
-  pub visit_waits : (new : Work) (key : Key) → Parks a operations trees after site nodes new.tasks.items new.values.items key
-      → (frames : Frames) → IsPiled frames
-      → waits frames ≡ slice_set (waits after.frames) (length after.frames.rows.items - 1)
-      (Some (wait site nodes new.tasks.items new.values.items))
-      → HasRun a operations trees m (with_frames after frames) (ran.Needs key)
-  visit_waits new key parks frames piled kept = (
-    record { root = it.same.same.root; attribute = it.same.same.attribute; stack = it.same.same.stack; entered = it.same.same.entered },
-    parked site nodes new.tasks.items new.values.items key parks frames piled kept,
-  )
+  -- code goes on
+  pub followed : (ops : List Op) (w : After) (old new : List Value) (at result : ℕ) → length ops < 2 ^ 64 → IsFollowed w old new at result
+      → IsGoing a operations trees m site (way_of w) (drop (at + 1) (instructions ops)) old
+      → IsEvaluating a operations trees m site (drop result (instructions ops)) new
+  followed ops after.Next old new at result short (same, is) g =
+      subst (λ (n : ℕ). IsEvaluating a operations trees m site (drop n (instructions ops)) new) (sym is)
+      (subst (λ (vs : List Value). IsEvaluating a operations trees m site (drop (at + 1) (instructions ops)) vs) (sym same)
+      (next_on a operations trees m site (drop (at + 1) (instructions ops)) old g))
+  followed ops (after.Skip n) old new at result short (same, is) g =
+      subst (λ (l : List Instruction). IsEvaluating a operations trees m site l new) (behind ops at n result is short)
+      (subst (λ (vs : List Value). IsEvaluating a operations trees m site (drop n (drop (at + 1) (instructions ops))) vs) (sym same)
+      (skip_on a operations trees m site n (drop (at + 1) (instructions ops)) old g))
+  followed ops (after.Unless n) old new at result short (taken, inl (truth, is)) g =
+      subst (λ (n : ℕ). IsEvaluating a operations trees m site (drop n (instructions ops)) new) (sym is)
+      (subst (λ (vs : List Value). IsEvaluating a operations trees m site (drop (at + 1) (instructions ops)) vs) (sym taken)
+      (holds_on a operations trees m site n (drop (at + 1) (instructions ops)) old g truth))
+  followed ops (after.Unless n) old new at result short (taken, inr (truth, is)) g =
+      subst (λ (l : List Instruction). IsEvaluating a operations trees m site l new) (behind ops at n result is short)
+      (subst (λ (vs : List Value). IsEvaluating a operations trees m site (drop n (drop (at + 1) (instructions ops))) vs) (sym taken)
+      (fails_on a operations trees m site n (drop (at + 1) (instructions ops)) old g truth))
 
-  pub visit_goes : r ≡ None
-      → IsOver a operations trees m after site nodes mid (left_to_do nodes old.tasks.items + task_size nodes (task.Visit at)) None
-  visit_goes is = (
-    it.same,
-    subst (IsAfter a operations trees after site nodes mid.tasks.items mid.values.items (task.Visit at)) is it.after_it,
-    subst (IsLess (left_to_do nodes mid.tasks.items) (left_to_do nodes old.tasks.items + task_size nodes (task.Visit at))) is it.less,
-  )
+  -- code stops
+  pub stopped : (x : Expression) (at : ℕ) (i : Instruction) (way : Way) (rest : List Instruction) (values : List Value) (s : Stop) (r : Ran)
+      → x.site ≡ site → drop at (instructions x.code.now) ≡ i ∷ rest → IsAfter a operations trees m site i way rest values (Some s)
+      → IsStopped x at s r → IsRan a operations trees m values r
+  stopped x at i way rest values (stop.Fault operation number) r here left fails is =
+      subst (IsRan a operations trees m values) (sym is) fails
+  stopped x at i way rest values (stop.Needs k) r here left parks is =
+      subst (IsRan a operations trees m values) (sym is)
+      (subst (λ (n : ℕ). Parks a operations trees m n (drop at (instructions x.code.now)) values k) (sym here)
+      (subst (λ (l : List Instruction). Parks a operations trees m site l values k) (sym left) parks))
 
--- the task that was taken off
-pub popped_some : (old new : List Task) (o : Option Task) (t : Task) → old ≡ new ++ option_to_list o → o ≡ Some t → old ≡ new ++ t ∷ []
-popped_some old new o t items is = items ∙ ap (λ (x : Option Task). new ++ option_to_list x) is
+-- less is left of the code
+pub less_left : (w : After) (old new : List Value) (at result n : ℕ) → IsFollowed w old new at result → at < n → n < 2 ^ 64
+    → n - result < n - at
+less_left after.Next old new at result n (same, is) lt short = omega (arith, is, lt)
+less_left (after.Skip k) old new at result n (same, inl is) lt short = omega (arith, is, lt)
+less_left (after.Skip k) old new at result n (same, inr (first, second)) lt short = omega (arith, first, lt, short)
+less_left (after.Unless k) old new at result n (taken, inl (truth, is)) lt short = omega (arith, is, lt)
+less_left (after.Unless k) old new at result n (taken, inr (truth, inl is)) lt short = omega (arith, is, lt)
+less_left (after.Unless k) old new at result n (taken, inr (truth, inr (first, second))) lt short = omega (arith, first, lt, short)
+
+-- a frame's code goes on behind its read
+pub going_here : {a : AttributionParts} {operations : Operations} {trees : List Tree} {m : Machine} (f : Frame) (values : List Value) (op : Op)
+    → GoesOnAt a operations trees m values f → op ≡ get_or f.code.now f.at op
+    → IsGoing a operations trees m f.site (way_of op.after) (drop (f.at + 1) (instructions f.code.now)) values
+going_here {a} {operations} {trees} {m} f values op g is =
+    let here = sym g.left ∙ code_at f.code.now f.at op g.at_within is in
+    let way_is : g.way ≡ way_of op.after = cc here in
+    let rest_is : g.rest ≡ drop (f.at + 1) (instructions f.code.now) = cc here in
+    subst (λ (w : Way). IsGoing a operations trees m f.site w (drop (f.at + 1) (instructions f.code.now)) values) way_is
+    (subst (λ (l : List Instruction). IsGoing a operations trees m f.site g.way l values) rest_is g.going)
+
+-- all of the code
+pub drop_none : {X : Type 0} (xs : List X) → drop 0 xs ≡ xs
+drop_none [] = refl
+drop_none (x ∷ xs) = refl
+
+-- past the end of code nothing is left
+pub code_past : (ops : List Op) (at : ℕ) → length ops ≤ at → drop at (instructions ops) ≡ []
+code_past ops at past = let l = length-map ops instruction_of in drop_past (instructions ops) at (omega (arith, l, past))

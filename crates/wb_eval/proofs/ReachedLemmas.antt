@@ -15,7 +15,6 @@ use Rattle.wb_eval.specs.Inner.Starts.{HasProduction}
 use Rattle.wb_eval.specs.Inner.Works.{HasChildAt, IsChildPushed, IsPushed, IsReading}
 use Rattle.wb_eval.specs.declared.machine.Key.{Key}
 use Rattle.wb_eval.specs.declared.machine.Machine.{Machine}
-use Rattle.wb_eval.specs.declared.work.Work.{Work}
 use Rattle.wb_eval_memo.specs.declared.memo.Memo.{Memo}
 use Rattle.wb_eval_memo.specs.declared.sites.Step.TheVariants as step
 
@@ -67,13 +66,13 @@ number_within a trees m site has found has_found n is =
     slice_get_within a.productions n p (ap (slice_get a.productions) is ∙ at)
 
 -- a value that was pushed is what was read, or that of a child
-pub read_pushed : (m : Machine) (old new : Work) (k : Key) (w : Value) → known m.memo k ≡ Some w → (r : Option Key)
+pub read_pushed : (m : Machine) (old new : List Value) (k : Key) (w : Value) → known m.memo k ≡ Some w → (r : Option Key)
     → IsPushed old new w r → IsReading m old new k r
-read_pushed m old new k w is None (tasks, values) = (w, is, tasks, values)
+read_pushed m old new k w is None it = (w, is, it)
 read_pushed m old new k w is (Some other) pushed = absurd pushed
 
-pub child_pushed : (trees : List Tree) (m : Machine) (old new : Work) (site k : ℕ) (id : TreeId) (w : Value) → HasTree m.memo site id
+pub child_pushed : (trees : List Tree) (m : Machine) (old new : List Value) (site k : ℕ) (id : TreeId) (w : Value) → HasTree m.memo site id
     → value_at (children_of (tree_in trees id.0)) k ≡ Some (value_in trees w) → IsIn (length trees) w → (r : Option Key)
     → IsPushed old new w r → IsChildPushed trees m old new site k r
-child_pushed trees m old new site k id w has is inside None (tasks, values) = (id, w, has, is, inside, tasks, values)
+child_pushed trees m old new site k id w has is inside None it = (id, w, has, is, inside, it)
 child_pushed trees m old new site k id w has is inside (Some other) pushed = absurd pushed

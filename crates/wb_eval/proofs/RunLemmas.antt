@@ -15,6 +15,7 @@ use Rattle.wb_values.specs.declared.value.TreeId.{TreeId}
 use Rattle.wb_values.specs.declared.value.Value.{Value}
 use Rattle.wb_values.specs.declared.value.Value.TheVariants as stored
 use Rattle.wb_values.specs.Tree.{Tree, node, empty, tree}
+use Rattle.wb_values.specs.Tree as t
 use Rattle.wb_values.specs.ValuesIn.{tree_in, value_in, IsIn}
 use Rattle.wb_eval_theory.proofs.LawLemmas.{setting_of}
 use Rattle.wb_eval_theory.proofs.DefinedLemmas.{needed_there}
@@ -24,13 +25,12 @@ use Rattle.wb_eval_theory.specs.Answers.{IsNodeAt, at_made, HasAnswer}
 use Rattle.wb_eval_theory.specs.Instances.{Path, root, down, Instance, synthesized_at, inherited_at, tree_at}
 use Rattle.wb_eval_theory.specs.Needed.{next}
 use Rattle.wb_eval_theory.specs.Walks.{value, Walk, read}
-use Rattle.wb_eval.proofs.FrameLemmas.{frames_moved, more_frames}
+use Rattle.wb_eval.proofs.FrameLemmas.{waits_moved, more_waits}
 use Rattle.wb_eval.proofs.MachineLemmas.{never_waiting, goes_on, reads_here}
 use Rattle.wb_eval_memo.proofs.SitesLemmas.{one_site}
 use Rattle.wb_eval.specs.Inner.Machines.{HasTree, tree_named, named, IsKey, AreNamed, tree_value, known, IsRecalled, IsValueOf, IsNode}
 use Rattle.wb_eval.specs.Inner.Machines.{IsMemo, IsMachine, Runs, with_memo}
 use Rattle.wb_eval_memo.specs.Memos.{count, path_in, numbered, recall, IsWhole, IsGrown, IsBelow}
-use Rattle.wb_eval.specs.Inner.Piles.{waits}
 use Rattle.wb_eval_memo.specs.Sites.{step_of}
 use Rattle.wb_eval.specs.declared.machine.Key.{Key}
 use Rattle.wb_eval.specs.declared.machine.Key.TheVariants as key
@@ -43,7 +43,7 @@ none_past : (m : Memo) (i x : ℕ) → IsWhole m → count m < i → recall m i 
 none_past m i x whole lt = ap (numbered m.values.items) (whole.past i x lt)
 
 module _ (a : AttributionParts) (operations : Operations) (trees : List Tree) where
-  abbrev pub Runs_ : Machine → Walk → Type 0
+  abbrev pub Runs_ : List Value → Machine → Walk → Type 0
   Runs_ = Runs a operations trees
 
   -- the tree that a new site is given is the child's, and one that an expression makes has none yet
@@ -153,11 +153,11 @@ module _ (a : AttributionParts) (operations : Operations) (trees : List Tree) wh
     )
 
   -- a machine whose memo has grown
-  pub grown_runs : (m : Machine) (w : Walk) (new : Memo) (parent site : ℕ) (step : Step) (its_tree : Option TreeId) (runs : Runs_ m w)
+  pub grown_runs : {under : List Value} (m : Machine) (w : Walk) (new : Memo) (parent site : ℕ) (step : Step) (its_tree : Option TreeId) (runs : Runs_ under m w)
       → IsWhole new → IsGrown m.memo new → IsBelow m.memo new parent step its_tree site → parent ≤ count m.memo
       → (id : TreeId) × HasTree m.memo parent id
       → (count m.memo < count new → IsGiven runs.machine.top (path_in m.memo parent) step its_tree)
-      → Runs_ (with_memo m new) w
+      → Runs_ under (with_memo m new) w
   grown_runs m w new parent site step its_tree runs whole grown below there has given =
       let r = runs.machine in
       record {
@@ -180,18 +180,19 @@ module _ (a : AttributionParts) (operations : Operations) (trees : List Tree) wh
           ];
           stack = grown_stack m.memo new parent site step its_tree r.top r.all r.memo whole grown below there has given m.stack.items [] _
               r.stack;
-          frames = frames_moved a operations trees r.top m.attribute r.all m.memo new m.stack.items
-              (waits m.frames) r.frames grown.more grown.paths
+          waits = r.waits;
+          frames = r.frames;
+          piled_is = r.piled_is;
+          suspended = waits_moved a operations trees r.top m.attribute r.all m.memo new m.stack.items r.waits r.suspended grown.more grown.paths
               (λ i id le had. (id, grown.trees i le ∙ had, refl))
               (grown_key m.memo new parent site step its_tree r.top r.all r.memo whole grown below there has given)
               (grown_named m.memo new parent site step its_tree r.top r.all r.memo whole grown below there has given);
-          piled = r.piled;
         };
         come = runs.come;
       }
 
   -- what is read is needed, so it is an attribute that goes its way
-  pub reads_there : (m : Machine) (i : Instance) (rest : _) (runs : Runs_ m (read i rest))
+  pub reads_there : {under : List Value} (m : Machine) (i : Instance) (rest : t.Value → Walk) (runs : Runs_ under m (read i rest))
       → IsThere (setting_of a operations runs.machine.top runs.machine.asked.nonterminal runs.machine.evaluable runs.machine.asked.fits) i
   reads_there m i rest runs =
       let r = runs.machine in
@@ -217,7 +218,7 @@ module _ (a : AttributionParts) (operations : Operations) (trees : List Tree) wh
   tree_id (Some None) v is = absurd (cc is)
   tree_id (Some (Some id)) v is = (id, refl, cc is)
 
-  pub value_known : (m : Machine) (k : Key) (v : Value) (rest : _) (runs : Runs_ m (read (named m.memo k) rest)) → IsKey m.memo k
+  pub value_known : {under : List Value} (m : Machine) (k : Key) (v : Value) (rest : t.Value → Walk) (runs : Runs_ under m (read (named m.memo k) rest)) → IsKey m.memo k
       → known m.memo k ≡ Some v → IsValueOf a operations trees runs.machine.top runs.machine.all (named m.memo k) v
   value_known m (key.Synthesized i x) v rest runs le is =
       let there = reads_there m (named m.memo (key.Synthesized i x)) rest runs in
@@ -239,8 +240,8 @@ module _ (a : AttributionParts) (operations : Operations) (trees : List Tree) wh
       }))
 
   -- a value that is known is read
-  pub runs_on : (m : Machine) (k : Key) (v : Value) (rest : _) → Runs_ m (read (named m.memo k) rest) → IsKey m.memo k
-      → known m.memo k ≡ Some v → Runs_ m (rest (value_in trees v)) × IsIn (length trees) v
+  pub runs_on : {under : List Value} (m : Machine) (k : Key) (v : Value) (rest : t.Value → Walk) → Runs_ under m (read (named m.memo k) rest) → IsKey m.memo k
+      → known m.memo k ≡ Some v → Runs_ under m (rest (value_in trees v)) × IsIn (length trees) v
   runs_on m k v rest runs is_key is =
       let has = value_known m k v rest runs is_key is in (
         record { machine = runs.machine; come = goes_on a operations runs.machine.top m.attribute runs.come has.entered has.answers },
@@ -264,7 +265,7 @@ module _ (a : AttributionParts) (operations : Operations) (trees : List Tree) wh
             let g = sym none ∙ h in cc g
 
   -- what isn't known wasn't entered
-  pub not_entered : (m : Machine) (k : Key) (rest : _) (runs : Runs_ m (read (named m.memo k) rest)) → IsKey m.memo k
+  pub not_entered : {under : List Value} (m : Machine) (k : Key) (rest : t.Value → Walk) (runs : Runs_ under m (read (named m.memo k) rest)) → IsKey m.memo k
       → known m.memo k ≡ None → ¬ Contains runs.machine.all (named m.memo k)
   not_entered m k rest runs is_key none has =
       let r = runs.machine in
@@ -304,8 +305,8 @@ module _ (a : AttributionParts) (operations : Operations) (trees : List Tree) wh
       entered = h.entered;
     }
 
-    abbrev pub more_machine : (m : Machine) → IsMachine a operations trees m → IsMachine a operations (trees ++ more) m
-    more_machine m r = record {
+    abbrev pub more_machine : (under : List Value) (m : Machine) → IsMachine a operations trees under m → IsMachine a operations (trees ++ more) under m
+    more_machine under m r = record {
       top = r.top;
       root_inside = let l = length-append trees more in let i = r.root_inside in omega (arith, l, i);
       root_is = get_or_append_left trees more (node 0 empty) m.root.0 r.root_inside ∙ r.root_is;
@@ -329,10 +330,12 @@ module _ (a : AttributionParts) (operations : Operations) (trees : List Tree) wh
       };
       complete = r.complete;
       stack = r.stack;
-      frames = more_frames a operations trees r.top m.attribute r.all more m.memo m.stack.items (waits m.frames) r.frames
+      waits = r.waits;
+      frames = r.frames;
+      piled_is = r.piled_is;
+      suspended = more_waits a operations trees r.top m.attribute r.all more m.memo m.stack.items r.waits r.suspended
           (λ i id has. (r.memo.nodes i id has).inside);
-      piled = r.piled;
     }
 
-    pub more_runs : (m : Machine) (w : Walk) → Runs_ m w → Runs a operations (trees ++ more) m w
-    more_runs m w runs = record { machine = more_machine m runs.machine; come = runs.come }
+    pub more_runs : (under : List Value) (m : Machine) (w : Walk) → Runs_ under m w → Runs a operations (trees ++ more) under m w
+    more_runs under m w runs = record { machine = more_machine under m runs.machine; come = runs.come }

@@ -1,13 +1,10 @@
 -- What stays as it was: the instances of a machine, and the trees of a store.
 use Rattle.std.proofs.Common.{◌≡◌, ◌∙◌, ◌++◌, List, [], refl, sym, ap, append-nil}
 use Rattle.std.proofs.lemmas.List.{append_assoc}
-use Rattle.wb_operations.specs.Operations.{Operations}
-use Rattle.wb_syntax_resolved.specs.declared.attribution.AttributionParts.{AttributionParts}
 use Rattle.wb_values.specs.Tree.{Tree}
 use Rattle.wb_eval.specs.Inner.Machines.{IsSame, IsSteady, with_memo}
-use Rattle.wb_eval.specs.Inner.Works.{IsExtended, HasRun}
+use Rattle.wb_eval.specs.Inner.Works.{IsExtended}
 use Rattle.wb_eval.specs.declared.machine.Machine.{Machine}
-use Rattle.wb_eval.specs.declared.work.Ran.{Ran}
 
 pub same_memo : (old new : Machine) → new ≡ with_memo old new.memo → IsSteady old new
 same_memo old new is = record {
@@ -27,11 +24,6 @@ same_through first second third p q = record {
   stack = q.stack ∙ p.stack;
   entered = q.entered ∙ p.entered;
 }
-
--- what was run at a machine with the same instances
-pub run_through : (a : AttributionParts) (operations : Operations) (trees : List Tree) (first second third : Machine) → IsSame first second
-    → (r : Ran) → HasRun a operations trees second third r → HasRun a operations trees first third r
-run_through a operations trees first second third p r (q, it) = (same_through first second third p q, it)
 
 pub same_machine : (m : Machine) → IsSteady m m
 same_machine m = record { same = record { root = refl; attribute = refl; stack = refl; entered = refl }; frames = refl }

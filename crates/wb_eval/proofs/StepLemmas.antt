@@ -1,9 +1,10 @@
 -- What an evaluation keeps as it enters an instance and leaves it.
-use Rattle.std.proofs.Common.{◌≡◌, ◌≢◌, ◌∙◌, ◌⊎◌, ◌<◌, ◌+◌, ◌-◌, ◌++◌, inl, inr, ℕ, suc, List, [], ◌∷◌, Some, None, length}
+use Rattle.std.proofs.Common.{◌≡◌, ◌≢◌, ◌∙◌, ◌⊎◌, ◌<◌, ◌+◌, ◌-◌, ◌++◌, inl, inr, ℕ, suc, List, [], ◌∷◌, Option, Some, None, length}
 use Rattle.std.proofs.Common.{refl, sym, ap, subst, arith, slice_get, Contains, take}
 use Rattle.std.proofs.lemmas.Bool.{cases_eq}
 use Rattle.std.proofs.lemmas.Option.{same_Some}
 use Rattle.std.proofs.lemmas.List.{length-append}
+use Rattle.wb_lemmas.proofs.Places.{at_within}
 use Rattle.wb_lemmas.proofs.Members.{contains_first, contains_later, push_contains, contains_push}
 use Rattle.wb_flow_theory.specs.Occurrences.{Goes}
 use Rattle.wb_operations.specs.Operations.{Operations}
@@ -19,14 +20,16 @@ use Rattle.wb_eval_theory.proofs.ReadLemmas.{IsThere}
 use Rattle.wb_eval_theory.specs.Evaluable.{IsAsked}
 use Rattle.wb_eval_theory.specs.Instances.{Path, Instance, synthesized_at, inherited_at, tree_at}
 use Rattle.wb_eval_theory.specs.Walks.{value, done}
-use Rattle.wb_eval.proofs.FrameLemmas.{frames_entered}
+use Rattle.wb_eval.proofs.FrameLemmas.{waits_entered, frames_more, frames_length, piled_more, piled_none}
 use Rattle.wb_eval.proofs.MachineLemmas.{enters, answers_here}
 use Rattle.wb_eval.proofs.RunLemmas.{goes_synthesized, goes_inherited}
 use Rattle.wb_eval.specs.Inner.Machines.{HasTree, tree_named, named, IsKey, AreNamed, IsRecalled, IsValueOf, IsNode, IsMemo, IsMachine}
-use Rattle.wb_eval.specs.Inner.Machines.{Runs, Wants, AreSuspended}
+use Rattle.wb_eval.specs.Inner.Machines.{Runs, Wants, AreSuspended, IsSuspended}
 use Rattle.wb_eval_memo.specs.Memos.{count, path_in, recall, IsWhole}
 use Rattle.wb_eval_memo.specs.Sites.{path_at, paths_of}
-use Rattle.wb_eval.specs.Inner.Piles.{waits, IsPiled}
+use Rattle.wb_eval.specs.Inner.Piles.{Wait, wait, piled, code_left, IsWaitOf, AreWaits}
+use Rattle.wb_eval.specs.Inner.Works.{IsFramed}
+use Rattle.wb_eval.specs.declared.frame.Frame.{Frame}
 use Rattle.wb_eval.specs.Inner.State.{IsState}
 use Rattle.wb_eval.specs.declared.machine.Key.{Key}
 use Rattle.wb_eval.specs.declared.machine.Key.TheVariants as key
@@ -54,6 +57,18 @@ last_key (y ∷ z ∷ xs) x at =
     let at' : slice_get (z ∷ xs) (length (z ∷ xs) - 1) ≡ Some x = sym (ap (slice_get (y ∷ z ∷ xs)) e) ∙ at in
     ap (λ (n : ℕ). take n (y ∷ z ∷ xs) ++ x ∷ []) e ∙ ap (λ l. y ∷ l) (last_key (z ∷ xs) x at')
 
+-- the last key is that of the instance at work
+pub key_here : (a : AttributionParts) (operations : Operations) (trees : List Tree) {under : List Value} (m : Machine)
+    (r : IsMachine a operations trees under m)
+    (k : Key)
+    → slice_get m.stack.items (length m.stack.items - 1) ≡ Some k → IsKey m.memo k × (r.this ≡ named m.memo k)
+key_here a operations trees m r k at =
+    let whole = last_key m.stack.items k at in
+    let named_all = subst (λ (ks : List Key). AreNamed m.memo ks [] (r.this ∷ r.waiting)) (sym whole) r.stack in
+    let (is_key, (rest, same, below)) = named_less m.memo (take (length m.stack.items - 1) m.stack.items) k []
+    (r.this ∷ r.waiting) named_all in
+    (is_key, cc same)
+
 module _ (a : AttributionParts) (operations : Operations) (trees : List Tree) where
   -- another list of entered instances
   module _ (top : Tree) (all : List Instance) (r : Instance) where
@@ -73,10 +88,15 @@ module _ (a : AttributionParts) (operations : Operations) (trees : List Tree) wh
       inherited = λ i x v le goes has. more_value (inherited_at (path_in m i) x) v (h.inherited i x v le goes has);
     }
 
-  pub entered : (m : Machine) (k : Key) (new : Machine) → Wants a operations trees m k → new.memo ≡ m.memo → new.root ≡ m.root
+  -- the instance at work reads one that wasn't entered, for which it waits by this frame
+  entered_by : {under : List Value} (m : Machine) (k : Key) (new : Machine) (w : Wants a operations trees under m k) (frame : Option Frame)
+      (its : Option Wait) (values : List Value) → IsWaitOf frame its → values ≡ piled (w.runs.machine.waits ++ its ∷ [])
+      → ((v : Wait) → its ≡ Some v → IsSuspended a operations trees w.runs.machine.top m.attribute w.runs.machine.all m.memo
+      w.runs.machine.this (named m.memo k) v.site v.code v.values)
+      → new.memo ≡ m.memo → new.root ≡ m.root
       → new.attribute ≡ m.attribute → new.stack.items ≡ m.stack.items ++ k ∷ [] → new.entered ≡ m.entered + 1
-      → waits new.frames ≡ waits m.frames ++ None ∷ [] → IsPiled new.frames → IsMachine a operations trees new
-  entered m k new w memo root_is attribute stack count_is frames_are piled =
+      → new.frames.items ≡ m.frames.items ++ frame ∷ [] → IsMachine a operations trees values new
+  entered_by m k new w frame its values of_frame values_are suspended memo root_is attribute stack count_is frames_are =
       let r = w.runs.machine in
       let i = named m.memo k in
       let e = enters a operations r.top m.attribute r.state w.runs.come w.fresh in
@@ -103,21 +123,50 @@ module _ (a : AttributionParts) (operations : Operations) (trees : List Tree) wh
         stack = subst (λ (ks : List Key). AreNamed new.memo ks [] (i ∷ r.this ∷ r.waiting)) (sym stack)
             (subst (λ (mm : Memo). AreNamed mm (m.stack.items ++ k ∷ []) [] (i ∷ r.this ∷ r.waiting)) (sym memo)
             (named_more m.memo m.stack.items k [] (r.this ∷ r.waiting) r.stack w.is_key));
-        frames = subst (λ (ks : List Key). AreSuspended a operations trees r.top new.attribute (r.all ++ i ∷ []) new.memo ks
-            (waits new.frames)) (sym stack)
-            (subst (AreSuspended a operations trees r.top new.attribute (r.all ++ i ∷ []) new.memo (m.stack.items ++ k ∷ []))
-            (sym frames_are)
+        waits = r.waits ++ its ∷ [];
+        frames = subst (λ l. AreWaits l (r.waits ++ its ∷ [])) (sym frames_are)
+            (frames_more m.frames.items frame r.waits its r.frames of_frame);
+        piled_is = values_are;
+        suspended = subst (λ (ks : List Key). AreSuspended a operations trees r.top new.attribute (r.all ++ i ∷ []) new.memo ks
+            (r.waits ++ its ∷ [])) (sym stack)
             (subst (λ (y : ℕ). AreSuspended a operations trees r.top y (r.all ++ i ∷ []) new.memo (m.stack.items ++ k ∷ [])
-            ((waits m.frames) ++ None ∷ []))
-            (sym attribute)
+            (r.waits ++ its ∷ [])) (sym attribute)
             (subst (λ (mm : Memo). AreSuspended a operations trees r.top m.attribute (r.all ++ i ∷ []) mm (m.stack.items ++ k ∷ [])
-            ((waits m.frames) ++ None ∷ []))
-            (sym memo) (frames_entered a operations trees r.top m.attribute r.all m.memo m.stack.items (waits m.frames) k i r.frames))));
-        piled = piled;
-      }
+            (r.waits ++ its ∷ [])) (sym memo) suspended_more));
+      } where
+        suspended_more : AreSuspended a operations trees w.runs.machine.top m.attribute (w.runs.machine.all ++ named m.memo k ∷ []) m.memo
+            (m.stack.items ++ k ∷ []) (w.runs.machine.waits ++ its ∷ [])
+        suspended_more =
+            let r = w.runs.machine in
+            let c = r.suspended.count in
+            let (j, at) = at_within m.stack.items (length r.waits) (omega (arith, c)) in
+            let last : length r.waits ≡ length m.stack.items - 1 = omega (arith, c) in
+            let (is_key, this_is) = key_here a operations trees m r j (sym (ap (slice_get m.stack.items) last) ∙ at) in
+            waits_entered a operations trees r.top m.attribute r.all m.memo m.stack.items j r.waits k (named m.memo k) its r.suspended at
+            (λ v same. (
+              is_key,
+              w.is_key,
+              subst (λ (z : Instance). IsSuspended a operations trees r.top m.attribute r.all m.memo z
+                  (named m.memo k) v.site v.code v.values) this_is (suspended v same),
+            ))
+
+  pub entered : (m : Machine) (k : Key) (new : Machine) (frame : Option Frame) (values : List Value)
+      → IsFramed a operations trees m values k frame → new.memo ≡ m.memo → new.root ≡ m.root
+      → new.attribute ≡ m.attribute → new.stack.items ≡ m.stack.items ++ k ∷ [] → new.entered ≡ m.entered + 1
+      → new.frames.items ≡ m.frames.items ++ frame ∷ [] → IsMachine a operations trees values new
+  entered m k new None values w memo root_is attribute stack count_is frames_are =
+      entered_by m k new w None None values tt (w.runs.machine.piled_is ∙ sym (piled_none w.runs.machine.waits))
+      (λ v same. absurd (cc same)) memo root_is attribute stack count_is frames_are
+  entered m k new (Some f) values p memo root_is attribute stack count_is frames_are =
+      let its = wait f.site (code_left f) p.own in
+      let r = p.wants.runs.machine in
+      entered_by m k new p.wants (Some f) (Some its) values (refl, refl)
+      (p.values_are ∙ ap (λ l. l ++ p.own) r.piled_is ∙ sym (piled_more r.waits its))
+      (λ v same. subst (λ (z : Wait). IsSuspended a operations trees r.top m.attribute r.all m.memo r.this (named m.memo k) z.site z.code
+      z.values) (same_Some its v same) p.waits) memo root_is attribute stack count_is frames_are
 
   -- the instance at work is needed
-  this_there : (m : Machine) (r : IsMachine a operations trees m)
+  this_there : {under : List Value} (m : Machine) (r : IsMachine a operations trees under m)
       → IsThere (setting_of a operations r.top r.asked.nonterminal r.evaluable r.asked.fits) r.this
   this_there m r =
       needed_there (setting_of a operations r.top r.asked.nonterminal r.evaluable r.asked.fits) m.attribute r.asked
@@ -127,9 +176,9 @@ module _ (a : AttributionParts) (operations : Operations) (trees : List Tree) wh
   one_way x first second = let h = sym first ∙ second in cc h
 
   -- the value of the instance at work is kept
-  module _ (m : Machine) (v : Value) (runs : Runs a operations trees m (done (value (value_in trees v))))
+  module _ {under : List Value} (m : Machine) (v : Value) (runs : Runs a operations trees under m (done (value (value_in trees v))))
       (inside : IsIn (length trees) v) where
-    abbrev r : IsMachine a operations trees m
+    abbrev r : IsMachine a operations trees under m
     r = runs.machine
 
     pub this_value : IsValueOf a operations trees r.top r.all r.this v

@@ -1,20 +1,18 @@
--- Visits of nodes without parts: a value is pushed, or an instance is read.
-use Rattle.std.proofs.Common.{◌≡◌, ◌⊎◌, ◌≤◌, ◌++◌, inl, inr, ℕ, List, [], ◌∷◌, Some, None, All, length, refl, sym, subst}
-use Rattle.std.proofs.lemmas.List.Elements.{All-push}
+-- Visits of expressions without parts: a value is pushed, or an instance is read.
+use Rattle.std.proofs.Common.{◌≡◌, ◌⊎◌, ◌≤◌, ◌++◌, inl, inr, ℕ, List, [], ◌∷◌, Some, None, All, length, refl, sym, ap, subst}
 use Rattle.wb_flow_theory.specs.Modular.{IsProduction}
 use Rattle.wb_base.specs.declared.symbol.Kind.{Kind}
-use Rattle.wb_syntax_expressions.specs.Expression.{size}
-use Rattle.wb_syntax_expressions.specs.Places.{Stands}
 use Rattle.wb_operations.specs.Operations.{Operations}
 use Rattle.wb_syntax_resolved.specs.declared.attribution.AttributionParts.{AttributionParts}
 use Rattle.wb_syntax_resolved.specs.declared.production.Production.{Production}
-use Rattle.wb_syntax_resolved.specs.Expression.{Expression, Node}
+use Rattle.wb_syntax_resolved.specs.Expression.{Expression}
 use Rattle.wb_values.specs.declared.value.TreeId.{TreeId}
 use Rattle.wb_values.specs.declared.value.Value.{Value}
 use Rattle.wb_values.specs.Fits.{FitsValue}
 use Rattle.wb_values.specs.Tree.{Tree, Values, production_of, children_of}
 use Rattle.wb_values.specs.Tree as t
 use Rattle.wb_values.specs.ValuesIn.{tree_in, value_in, IsIn}
+use Rattle.wb_eval_rules.specs.Code.{visit, Way, Instruction, does}
 use Rattle.wb_eval_theory.proofs.ExpressionLemmas.{IsIn as IsPart}
 use Rattle.wb_eval_theory.proofs.KindLemmas.{node_fits, kinded}
 use Rattle.wb_eval_theory.proofs.LawLemmas.{setting_of}
@@ -25,81 +23,61 @@ use Rattle.wb_eval_theory.specs.Answers.{IsNodeAt}
 use Rattle.wb_eval_theory.specs.Instances.{Path}
 use Rattle.wb_eval_theory.specs.Walks.{value, Walk, done, read, walk_expression, finish}
 use Rattle.wb_eval.proofs.RunLemmas.{runs_on, value_known, not_entered}
-use Rattle.wb_eval.proofs.StackLemmas.{unstacked, stacked, stack_push}
+use Rattle.wb_eval.specs.Inner.Fits.{stack_of, ValuesFit, WayFits, IsTyped, CodeFits}
+use Rattle.wb_eval.specs.Inner.Going.{resume}
+use Rattle.wb_eval.specs.Inner.Going as going
 use Rattle.wb_eval.specs.Inner.Machines.{HasTree, named, IsKey, known, Runs}
-use Rattle.wb_eval_memo.specs.Memos.{path_in}
-use Rattle.wb_eval_memo.specs.Memos as memos
 use Rattle.wb_eval.specs.Inner.State.{HasCome}
-use Rattle.wb_eval.specs.Inner.Tasks.{Job, visit, build, call, choose, resume}
-use Rattle.wb_eval.specs.Inner.Jobs.{stack_of, IsJob, Stacked, ValuesFit, IsTyped, JobsFit}
-use Rattle.wb_eval.specs.Inner.Works.{IsEvaluating, Parks}
+use Rattle.wb_eval.specs.Inner.Works.{IsEvaluating, IsGoing, Parks}
 use Rattle.wb_eval.specs.declared.machine.Key.{Key}
 use Rattle.wb_eval.specs.declared.machine.Machine.{Machine}
-use Rattle.wb_eval.specs.declared.work.Task.{Task}
-use Rattle.wb_eval.specs.declared.work.Task.TheVariants as task
+use Rattle.wb_eval_memo.specs.Memos.{path_in}
+use Rattle.wb_eval_memo.specs.Memos as memos
 
 module _ (a : AttributionParts) (operations : Operations) (trees : List Tree) where
-  -- an expression is visited next
-  pub record IsVisiting (m : Machine) (site : ℕ) (nodes : List Node) (tasks : List Task) (values : List Value)
-      (e : Expression) : Type 0 where
+  -- an expression is visited, and after it code goes on so
+  pub record IsVisiting (m : Machine) (site : ℕ) (way : Way) (code : List Instruction) (values : List Value) (e : Expression) : Type 0 where
     pub id : TreeId
     pub has : HasTree m.memo site id
     pub there : site ≤ memos.count m.memo
     pub production : Production
     pub is : IsProduction a (production_of (tree_in trees id.0)) production
-    pub small : size e ≤ length nodes
-    pub rest : List Job
-    pub stacked : Stacked operations.signatures nodes tasks [] rest
+    pub under : List Value
+    pub own : List Value
+    pub values_are : values ≡ under ++ own
     pub kinds : List Kind
     pub kind : Kind
     pub typed : IsTyped a operations production e kind
-    pub inside : All (IsIn (length trees)) values
-    pub values_fit : ValuesFit a.signatures (stack_of trees values) kinds
-    pub jobs_fit : JobsFit a operations production rest (kind ∷ kinds)
-    pub runs : Runs a operations trees m (walk_expression operations (path_in m.memo site) (children_of (tree_in trees id.0)) e
-        (λ v. resume operations (path_in m.memo site) (children_of (tree_in trees id.0)) rest (v ∷ stack_of trees values)))
+    pub inside : All (IsIn (length trees)) own
+    pub values_fit : ValuesFit a.signatures (stack_of trees own) kinds
+    pub way_fits : WayFits (CodeFits a operations production code) way kind kinds
+    pub runs : Runs a operations trees under m (walk_expression operations (path_in m.memo site) (children_of (tree_in trees id.0)) e
+        (λ v. going.go (resume operations (path_in m.memo site) (children_of (tree_in trees id.0)) code) way v (stack_of trees own)))
 
-  -- the visit on top of the tasks
-  pub visiting_of : (m : Machine) (site : ℕ) (nodes : List Node) (tasks : List Task) (values : List Value) (place : ℕ)
-      → IsEvaluating a operations trees m site nodes (tasks ++ task.Visit place ∷ []) values
-      → (e : Expression) × Stands nodes place e × IsVisiting m site nodes tasks values e
+  -- the visit that is next
+  pub visiting_of : (m : Machine) (site : ℕ) (way : Way) (code : List Instruction) (values : List Value) (e : Expression)
+      → IsEvaluating a operations trees m site (does (visit e) way ∷ code) values → IsVisiting m site way code values e
   unfolding resume
-  visiting_of m site nodes tasks values place ev =
-      let (j, rest, is, same, below) = unstacked operations.signatures nodes tasks (task.Visit place) [] ev.jobs ev.stacked in
-      by_job j is rest same below where
-        by_job : (j : Job) → IsJob operations.signatures nodes (task.Visit place) j → (rest : List Job) → ev.jobs ≡ j ∷ rest
-            → Stacked operations.signatures nodes tasks [] rest
-            → (e : Expression) × Stands nodes place e × IsVisiting m site nodes tasks values e
-        by_job (visit e) (stands, small) rest same below =
-            let fit = subst (λ (jobs : List Job). JobsFit a operations ev.production jobs ev.kinds) same ev.jobs_fit in
-            let runs = subst (λ (jobs : List Job). Runs a operations trees m (resume operations (path_in m.memo site)
-            (children_of (tree_in trees ev.id.0)) jobs (stack_of trees values))) same ev.runs in (
-              e,
-              stands,
-              record {
-                id = ev.id;
-                has = ev.has;
-                there = ev.there;
-                production = ev.production;
-                is = ev.is;
-                small = small;
-                rest = rest;
-                stacked = below;
-                kinds = ev.kinds;
-                kind = fit.0;
-                typed = fit.1;
-                inside = ev.inside;
-                values_fit = ev.values_fit;
-                jobs_fit = fit.2;
-                runs = runs;
-              },
-            )
-        by_job (build p n) is rest same below = absurd is
-        by_job (call name n) is rest same below = absurd is
-        by_job (choose h f) is rest same below = absurd is
+  visiting_of m site way code values e ev = record {
+    id = ev.id;
+    has = ev.has;
+    there = ev.there;
+    production = ev.production;
+    is = ev.is;
+    under = ev.under;
+    own = ev.own;
+    values_are = ev.values_are;
+    kinds = ev.kinds;
+    kind = ev.code_fits.0;
+    typed = ev.code_fits.1;
+    inside = ev.inside;
+    values_fit = ev.values_fit;
+    way_fits = ev.code_fits.2;
+    runs = ev.runs;
+  }
 
-  module _ (m : Machine) (site : ℕ) (nodes : List Node) (tasks : List Task) (values : List Value) (e : Expression)
-      (v : IsVisiting m site nodes tasks values e) where
+  module _ (m : Machine) (site : ℕ) (way : Way) (code : List Instruction) (values : List Value) (e : Expression)
+      (v : IsVisiting m site way code values e) where
     abbrev q : Path
     q = path_in m.memo site
 
@@ -110,7 +88,7 @@ module _ (a : AttributionParts) (operations : Operations) (trees : List Tree) wh
     vs = children_of above
 
     abbrev rest_of : t.Value → Walk
-    rest_of w = resume operations q vs v.rest (w ∷ stack_of trees values)
+    rest_of w = going.go (resume operations q vs code) way w (stack_of trees v.own)
 
     abbrev s : Setting
     s = setting_of a operations v.runs.machine.top v.runs.machine.asked.nonterminal v.runs.machine.evaluable v.runs.machine.asked.fits
@@ -133,31 +111,34 @@ module _ (a : AttributionParts) (operations : Operations) (trees : List Tree) wh
               subst (λ (u : t.Value). FitsValue a.signatures u v.kind) same z.1
 
     -- a value is pushed
-    value_pushed : (w : Value) → Runs a operations trees m (rest_of (value_in trees w)) → FitsValue a.signatures (value_in trees w) v.kind
-        → IsIn (length trees) w → IsEvaluating a operations trees m site nodes tasks (values ++ w ∷ [])
-    value_pushed w runs fits inside =
-        let stack_is = stack_push trees values w in
-        record {
-          id = v.id;
-          has = v.has;
-          there = v.there;
-          production = v.production;
-          is = v.is;
-          jobs = v.rest;
-          stacked = v.stacked;
-          kinds = v.kind ∷ v.kinds;
-          inside = All-push (IsIn (length trees)) values w v.inside inside;
-          values_fit = subst (λ (l : List t.Value). ValuesFit a.signatures l (v.kind ∷ v.kinds)) (sym stack_is)
-              (v.kind, v.kinds, refl, fits, v.values_fit);
-          jobs_fit = v.jobs_fit;
-          runs = subst (λ (l : List t.Value). Runs a operations trees m (resume operations q vs v.rest l)) (sym stack_is) runs;
-        }
+    value_pushed : (w : Value) → Runs a operations trees v.under m (rest_of (value_in trees w))
+        → FitsValue a.signatures (value_in trees w) v.kind → IsIn (length trees) w
+        → IsGoing a operations trees m site way code (values ++ w ∷ [])
+    value_pushed w runs fits inside = record {
+      id = v.id;
+      has = v.has;
+      there = v.there;
+      production = v.production;
+      is = v.is;
+      under = v.under;
+      own = v.own;
+      on_top = w;
+      values_are = ap (λ (l : List Value). l ++ w ∷ []) v.values_are;
+      kind = v.kind;
+      kinds = v.kinds;
+      inside = v.inside;
+      top_inside = inside;
+      values_fit = v.values_fit;
+      top_fits = fits;
+      way_fits = v.way_fits;
+      runs = runs;
+    }
 
     -- an expression that has its value at once
     pub at_once : (w : Value) → ((rest : t.Value → Walk) → walk_expression operations q vs e rest ≡ rest (value_in trees w))
-        → IsIn (length trees) w → IsEvaluating a operations trees m site nodes tasks (values ++ w ∷ [])
+        → IsIn (length trees) w → IsGoing a operations trees m site way code (values ++ w ∷ [])
     at_once w is inside =
-        value_pushed w (subst (Runs a operations trees m) (is rest_of) v.runs)
+        value_pushed w (subst (Runs a operations trees v.under m) (is rest_of) v.runs)
         (value_fits (value_in trees w) (subst (λ (u : Walk). Goes (Sound s) u (done (value (value_in trees w))))
         (sym (is (finish operations))) stay))
         inside
@@ -165,13 +146,13 @@ module _ (a : AttributionParts) (operations : Operations) (trees : List Tree) wh
     -- one that reads an instance
     module _ (key : Key) (is_key : IsKey m.memo key)
         (is : (rest : t.Value → Walk) → walk_expression operations q vs e rest ≡ read (named m.memo key) rest) where
-      abbrev reading : Runs a operations trees m (read (named m.memo key) rest_of)
+      abbrev reading : Runs a operations trees v.under m (read (named m.memo key) rest_of)
       reading = record {
         machine = v.runs.machine;
         come = subst (HasCome a operations v.runs.machine.top m.attribute v.runs.machine.all v.runs.machine.this) (is rest_of) v.runs.come;
       }
 
-      pub read_known : (w : Value) → known m.memo key ≡ Some w → IsEvaluating a operations trees m site nodes tasks (values ++ w ∷ [])
+      pub read_known : (w : Value) → known m.memo key ≡ Some w → IsGoing a operations trees m site way code (values ++ w ∷ [])
       read_known w has =
           let (runs, inside) = runs_on a operations trees m key w rest_of reading is_key has in
           let it = value_known a operations trees m key w rest_of reading is_key has in
@@ -181,10 +162,12 @@ module _ (a : AttributionParts) (operations : Operations) (trees : List Tree) wh
           (sym (is (finish operations))) goes))
           inside
 
-      pub read_new : known m.memo key ≡ None → (place : ℕ) → Stands nodes place e
-          → Parks a operations trees m site nodes (tasks ++ task.Visit place ∷ []) values key
+      pub read_new : known m.memo key ≡ None → Parks a operations trees m site (does (visit e) way ∷ code) values key
       unfolding resume
-      read_new none place stands = record {
+      read_new none = record {
+        under = v.under;
+        own = v.own;
+        values_are = v.values_are;
         wants = record {
           next = rest_of;
           runs = reading;
@@ -197,12 +180,15 @@ module _ (a : AttributionParts) (operations : Operations) (trees : List Tree) wh
           there = v.there;
           production = v.production;
           is = v.is;
-          jobs = visit e ∷ v.rest;
-          stacked = stacked operations.signatures nodes tasks (task.Visit place) (visit e) [] v.rest v.stacked (stands, v.small);
           kinds = v.kinds;
           inside = v.inside;
           values_fit = v.values_fit;
-          jobs_fit = (v.kind, v.typed, v.jobs_fit);
+          code_fits = (v.kind, v.typed, v.way_fits);
           come = v.runs.come;
+          expression = e;
+          way = way;
+          rest = code;
+          code_is = refl;
+          reads = is;
         };
       }

@@ -1,8 +1,8 @@
 -- Words of private functions.
 pub mod Answering
 pub mod State
-pub mod Tasks
-pub mod Jobs
+pub mod Going
+pub mod Fits
 pub mod Piles
 pub mod Machines
 pub mod Reached

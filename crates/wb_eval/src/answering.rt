@@ -2,7 +2,7 @@
 //!
 //! Instances are entered as they are read, and each goes on where it waited once what it reads is known. What is done at one is in `run`.
 
-ghost use Rattle.std.specs.Prelude.{◌<◌, length, IfOk};
+ghost use Rattle.std.specs.Prelude.{◌≡◌, ◌<◌, [], length, IfOk};
 ghost use Rattle.wb_flow_theory.specs.Modular.{EachProduction};
 ghost use Rattle.wb_flow_theory.specs.WellDefined.{IsWellDefinedProduction};
 ghost use Rattle.wb_eval_theory.specs.Evaluable.{IsEvaluable, IsAsked};
@@ -11,6 +11,7 @@ ghost use Rattle.wb_eval.specs.Inner.Machines.{IsFresh};
 ghost use Rattle.wb_eval.specs.Inner.Answering.{IsAnswered};
 ghost use Rattle.wb_eval.specs.Inner.Works.{IsExtended};
 ghost use Rattle.wb_operations.specs.Kept.{IsKept};
+ghost use Rattle.wb_eval_rules.specs.Codes.{AreCoded};
 ghost use Rattle.wb_eval_rules.specs.Indexes.{AreIndexes};
 ghost use Rattle.wb_types.specs.Rules.{KindsOk};
 ghost use Rattle.wb_values.specs.ValuesIn.{tree_in};
@@ -20,8 +21,7 @@ use crate::evaluated::Evaluated;
 use crate::evaluation::Evaluation;
 use crate::machine::{Key, Machine};
 use crate::run::run;
-use crate::steps::proceed;
-use crate::work::Work;
+use crate::steps::{Turn, proceed};
 use std::alloc::{AllocError, Global};
 use wb_eval_rules::RuleIndex;
 use wb_operations::{Meaning, OperationRefusal, OperationTable};
@@ -30,8 +30,8 @@ use wb_values::{TreeId, TreeStore, Value};
 
 /// The value or the fault of a synthesized attribute of a tree, or that more instances are needed than there are steps.
 ///
-/// Each instance's expression is gone through once: where it reads one whose value isn't known, it waits with what it has, and goes on from
-/// there. Only that read is made again. Memory may run out at any step.
+/// Each instance's code is gone through once: where it reads one whose value isn't known, it waits with its values where they are, and goes on
+/// behind the read. Memory may run out at any step.
 pub fn evaluate<M: Meaning>(
     alloc: Global,
     attributes: &Attribution,
@@ -67,7 +67,8 @@ pub fn evaluate<M: Meaning>(
     }
     let _ = operations.signatures().len();
     let lists = attributes.parts();
-    let rules = RuleIndex::new(alloc, lists.productions.as_slice())?;
+    let signatures = &operations.signatures;
+    let rules = RuleIndex::new(alloc, signatures, lists.productions.as_slice())?;
     let context = Context {
         definitions: Definitions {
             attributes: lists,
@@ -95,6 +96,7 @@ fn evaluate_root<M: Meaning>(
     requires asked { IsAsked context.now.definitions.attributes.now (tree_in store.old root.0) attribute }
     requires steps { 0 < context.now.steps }
     requires rules { AreIndexes context.now.definitions.attributes.now.productions context.now.definitions.rules.now.rows.items }
+    requires coded { AreCoded context.now.operations.now.signatures context.now.definitions.attributes.now.productions context.now.definitions.rules.now.codes.items }
     requires kept { IsKept context.now.operations.now.signatures context.now.operations.now.built_in context.now.operations.now.runs.items M.meaning
         (λ run vs. ⟦<Box<dyn Fn(&[Value]) -> Result<Value, OperationRefusal>> as Fn(&[Value]) -> Result<Value, OperationRefusal>>⟧.pre run vs)
         (λ run vs r. ⟦<Box<dyn Fn(&[Value]) -> Result<Value, OperationRefusal>> as Fn(&[Value]) -> Result<Value, OperationRefusal>>⟧.post run vs r) }
@@ -106,7 +108,7 @@ fn evaluate_root<M: Meaning>(
     let machine = Machine::new(alloc, root, attribute, attributes.len().min(16))?;
     let mut evaluation = Evaluation {
         machine,
-        work: Work::new(alloc),
+        values: Vec::new(alloc),
     };
     let answer = take_turns(context, &mut evaluation, store);
     drop(evaluation);
@@ -119,9 +121,11 @@ fn take_turns<'a, M: Meaning>(
     evaluation: &mut Evaluation<'a>,
     store: &mut TreeStore,
 ) -> Result<Evaluated, AllocError>
+    requires values { evaluation.old.values.items ≡ [] }
     requires fresh { IsFresh context.now.definitions.attributes.now (record { signatures = context.now.operations.now.signatures; meaning = M.meaning }) store.old evaluation.old.machine }
     requires steps { 0 < context.now.steps }
     requires rules { AreIndexes context.now.definitions.attributes.now.productions context.now.definitions.rules.now.rows.items }
+    requires coded { AreCoded context.now.operations.now.signatures context.now.definitions.attributes.now.productions context.now.definitions.rules.now.codes.items }
     requires kept { IsKept context.now.operations.now.signatures context.now.operations.now.built_in context.now.operations.now.runs.items M.meaning
         (λ run vs. ⟦<Box<dyn Fn(&[Value]) -> Result<Value, OperationRefusal>> as Fn(&[Value]) -> Result<Value, OperationRefusal>>⟧.pre run vs)
         (λ run vs r. ⟦<Box<dyn Fn(&[Value]) -> Result<Value, OperationRefusal>> as Fn(&[Value]) -> Result<Value, OperationRefusal>>⟧.post run vs r) }
@@ -131,11 +135,13 @@ fn take_turns<'a, M: Meaning>(
     let attribute = evaluation.machine.attribute;
     evaluation
         .machine
-        .push(Key::Synthesized { site: 0, attribute })?;
+        .start(Key::Synthesized { site: 0, attribute })?;
+    let mut frame = None;
     'turns: loop {
-        let ran = run(context, evaluation, store)?;
-        if let Some(answer) = proceed(&mut evaluation.machine, ran, context.steps)? {
-            return Ok(answer);
+        let ran = run(context, evaluation, store, frame)?;
+        match proceed(evaluation, ran, context.steps)? {
+            Turn::Over(answer) => return Ok(answer),
+            Turn::Goes(next) => frame = next,
         }
     }
 }

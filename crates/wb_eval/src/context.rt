@@ -1,8 +1,8 @@
 //! What does an evaluation rest on, and which expression does it evaluate?
 
-use wb_eval_rules::RuleIndex;
-use wb_operations::{Meaning, OperationTable};
-use wb_syntax_resolved::{AttributionParts, Node};
+use wb_eval_rules::{Op, RuleIndex};
+use wb_operations::{Meaning, OperationSignatures, OperationTable};
+use wb_syntax_resolved::AttributionParts;
 
 // Definitions, the operations that their expressions call, and how many instances may be entered.
 #[derive(Drop)]
@@ -19,9 +19,9 @@ pub(crate) struct Definitions<'a> {
     pub rules: &'a RuleIndex,
 }
 
-// An expression at a site.
+// Code at a site.
 #[derive(Clone, Copy)]
 pub(crate) struct Expression<'a> {
     pub site: usize,
-    pub nodes: &'a [Node],
+    pub code: &'a [Op],
 }

@@ -1,21 +1,20 @@
 //! What does an evaluation go on with?
 //!
-//! With what is known of instances, and with what is left to do of the expression that it has come to.
+//! With what is known of instances, and with the values of all code that is at work or waits.
 
-use crate::frames::Frames;
 use crate::machine::Machine;
-use crate::work::Work;
+use wb_values::Value;
 
-// What is kept from one instance to the next, and the work on the expression of the last.
+// What is kept from one instance to the next, and the values, those of the instance at work last.
 pub(crate) struct Evaluation<'a> {
     pub machine: Machine<'a>,
-    pub work: Work,
+    pub values: Vec<Value>,
 }
 
 // By hand, so that all is let go of in one function.
 impl<'a> Drop for Evaluation<'a> {
     fn drop(self) {
-        let Evaluation { machine, work } = self;
+        let Evaluation { machine, values } = self;
         let Machine {
             memo,
             stack,
@@ -24,18 +23,9 @@ impl<'a> Drop for Evaluation<'a> {
             attribute: _,
             entered: _,
         } = machine;
-        let Frames {
-            rows,
-            tasks,
-            values,
-        } = frames;
         drop(memo);
         drop(stack);
-        drop(rows);
-        drop(tasks);
-        drop(values);
-        let Work { tasks, values } = work;
-        drop(tasks);
+        drop(frames);
         drop(values);
     }
 }

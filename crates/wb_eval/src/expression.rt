@@ -1,6 +1,6 @@
 //! How is an expression evaluated at a site?
 //!
-//! A task at a time, until its value is there, an operation fails, or an instance is read that wasn't entered. Which expression: `run`.
+//! By small steps: a value is pushed, or an instance is read. Which step is next is in `perform`.
 
 ghost use Rattle.std.specs.Prelude.{◌≡◌, ◌≤◌, IfOk};
 ghost use Rattle.wb_eval.specs.Inner.Machines.{IsKey};
@@ -12,20 +12,24 @@ ghost use Rattle.wb_eval.specs.Inner.Works.{IsReading, HasChildAt, IsChildPushed
 
 use crate::evaluation::Evaluation;
 use crate::machine::{Key, Machine, tree_at};
-use crate::work::Work;
 use std::alloc::AllocError;
+use wb_base::push;
 use wb_eval_memo::Step;
 use wb_syntax_resolved::Place;
 use wb_values::{TreeStore, Value};
 
 // Reads the instance of a key, which is then on the values, or wasn't entered.
-pub(crate) fn read(machine: &Machine, work: &mut Work, key: Key) -> Result<Option<Key>, AllocError>
+pub(crate) fn read(
+    machine: &Machine,
+    values: &mut Vec<Value>,
+    key: Key,
+) -> Result<Option<Key>, AllocError>
     requires whole { IsWhole machine.now.memo }
     requires key { IsKey machine.now.memo key }
-    ensures { IfOk result (IsReading machine.now work.old work.new key) }
+    ensures { IfOk result (IsReading machine.now values.old.items values.new.items key) }
 {
     match machine.known(key)? {
-        Some(value) => visit_value(work, value),
+        Some(value) => visit_value(values, value),
         None => Ok(Some(key)),
     }
 }
@@ -34,23 +38,23 @@ pub(crate) fn read(machine: &Machine, work: &mut Work, key: Key) -> Result<Optio
 pub(crate) fn visit_child(
     machine: &Machine,
     store: &TreeStore,
-    work: &mut Work,
+    values: &mut Vec<Value>,
     site: usize,
     k: usize,
 ) -> Result<Option<Key>, AllocError>
     requires { HasChildAt store.now machine.now site k }
-    ensures { IfOk result (IsChildPushed store.now machine.now work.old work.new site k) }
+    ensures { IfOk result (IsChildPushed store.now machine.now values.old.items values.new.items site k) }
 {
     let tree = tree_at(&machine.memo, site);
     let value = store.child(tree, k)?;
-    visit_value(work, value)
+    visit_value(values, value)
 }
 
 // Pushes a value, and waits for nothing.
-pub(crate) fn visit_value(work: &mut Work, value: Value) -> Result<Option<Key>, AllocError>
-    ensures { IfOk result (IsPushed work.old work.new value) }
+pub(crate) fn visit_value(values: &mut Vec<Value>, value: Value) -> Result<Option<Key>, AllocError>
+    ensures { IfOk result (IsPushed values.old.items values.new.items value) }
 {
-    work.push_value(value)?;
+    push(values, value)?;
     Ok(None)
 }
 
@@ -65,14 +69,14 @@ pub(crate) fn read_below(
     requires whole { IsWhole evaluation.old.machine.memo }
     requires there { site ≤ count evaluation.old.machine.memo }
     requires ready { IsReady store.now evaluation.old.machine.memo site step }
-    ensures { IfOk result (IsReadBelow store.now evaluation.old.machine evaluation.new.machine site step (λ below. Synthesized below attribute) evaluation.old.work evaluation.new.work) }
+    ensures { IfOk result (IsReadBelow store.now evaluation.old.machine evaluation.new.machine site step (λ below. Synthesized below attribute) evaluation.old.values.items evaluation.new.values.items) }
 {
     let below = evaluation.machine.below(store, site, step)?;
     let key = Key::Synthesized {
         site: below,
         attribute,
     };
-    read(&evaluation.machine, &mut evaluation.work, key)
+    read(&evaluation.machine, &mut evaluation.values, key)
 }
 
 // Reads the tree of a local.
@@ -84,11 +88,11 @@ pub(crate) fn read_local(
 ) -> Result<Option<Key>, AllocError>
     requires whole { IsWhole evaluation.old.machine.memo }
     requires there { site ≤ count evaluation.old.machine.memo }
-    ensures { IfOk result (IsReadBelow store.now evaluation.old.machine evaluation.new.machine site (Local local) (λ below. Tree below) evaluation.old.work evaluation.new.work) }
+    ensures { IfOk result (IsReadBelow store.now evaluation.old.machine evaluation.new.machine site (Local local) (λ below. Tree below) evaluation.old.values.items evaluation.new.values.items) }
 {
     let below = evaluation.machine.below(store, site, Step::Local(local))?;
     let key = Key::Tree { site: below };
-    read(&evaluation.machine, &mut evaluation.work, key)
+    read(&evaluation.machine, &mut evaluation.values, key)
 }
 
 // The step to a child or local.

@@ -9,14 +9,14 @@ mod context;
 mod evaluated;
 mod evaluation;
 mod expression;
-mod frames;
+mod frame;
 mod machine;
 mod perform;
+mod ran;
 mod run;
 mod start;
 mod steps;
 mod visit;
-mod work;
 
 pub use answering::evaluate;
 pub use evaluated::Evaluated;

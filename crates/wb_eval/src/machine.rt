@@ -3,13 +3,12 @@
 //! The memo, and the instances that wait, each for the one above it. How one is worked on is in `run`.
 
 ghost use Rattle.std.specs.Prelude.{◌≡◌, ◌≤◌, ◌<◌, ◌+◌, ◌^◌, OnOk, IfOk};
-ghost use Rattle.wb_eval.specs.Inner.Machines.{HasMore, HasTree, IsBlank, IsKey, IsTreeKnown, known, with_memo};
-ghost use Rattle.wb_eval.specs.Inner.Piles.{IsPiled};
+ghost use Rattle.wb_eval.specs.Inner.Machines.{HasMore, HasTree, IsBlank, IsFirst, IsKey, IsTreeKnown, known, with_memo};
 ghost use Rattle.wb_eval_memo.specs.Memos.{count, IsWhole, IsGrown};
 ghost use Rattle.wb_eval_memo.specs.Sites.{link};
 ghost use Rattle.wb_eval.specs.Inner.Reached.{IsReady, IsGivenTree, IsReached};
 
-use crate::frames::Frames;
+use crate::frame::Frame;
 use std::alloc::{AllocError, Global};
 use wb_base::push;
 use wb_eval_memo::{Memo, Step};
@@ -23,14 +22,14 @@ pub(crate) enum Key {
     Tree { site: usize },
 }
 
-// The memo, the attribute that is asked of the root, the instances that wait with the one at work last, the frames of those whose
-// expressions wait, and how many were entered.
+// The memo, the attribute that is asked of the root, the instances that wait with the one at work last, a frame or none for each that
+// waits, and how many were entered.
 pub(crate) struct Machine<'a> {
     pub memo: Memo,
     pub root: TreeId,
     pub attribute: usize,
     pub stack: Vec<Key>,
-    pub frames: Frames<'a>,
+    pub frames: Vec<Option<Frame<'a>>>,
     pub entered: u64,
 }
 
@@ -50,18 +49,27 @@ impl<'a> Machine<'a> {
             root,
             attribute,
             stack: Vec::new(alloc),
-            frames: Frames::new(alloc),
+            frames: Vec::new(alloc),
             entered: 0,
         })
     }
 
-    // Enters the instance of a key, for the one at work to wait for.
-    pub(crate) fn push(&mut self, key: Key) -> Result<(), AllocError>
-        requires piled { IsPiled self.old.frames }
+    // Enters the first instance.
+    pub(crate) fn start(&mut self, key: Key) -> Result<(), AllocError>
         requires room { self.old.entered + 1 < 2 ^ 64 }
-        ensures { OnOk result (HasMore self.old self.new key) }
+        ensures { OnOk result (IsFirst self.old self.new key) }
     {
-        push(&mut self.frames.rows, None)?;
+        push(&mut self.stack, key)?;
+        self.entered += 1;
+        Ok(())
+    }
+
+    // Enters the instance of a key, for which the one at work waits by a frame or none.
+    pub(crate) fn push(&mut self, key: Key, frame: Option<Frame<'a>>) -> Result<(), AllocError>
+        requires room { self.old.entered + 1 < 2 ^ 64 }
+        ensures { OnOk result (HasMore self.old self.new key frame.entry) }
+    {
+        push(&mut self.frames, frame)?;
         push(&mut self.stack, key)?;
         self.entered += 1;
         Ok(())

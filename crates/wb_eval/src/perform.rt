@@ -1,137 +1,93 @@
-//! What does an evaluation do for a task, and until when?
+//! How does code go on, instruction by instruction?
 //!
-//! It visits a node, builds a tree, calls an operation or chooses a branch, until nothing is left to do.
+//! It visits an expression without parts, builds a tree or calls an operation, until all is done, an operation fails, or an instance is
+//! read that wasn't entered.
 
-ghost use Rattle.std.specs.Prelude.{◌≡◌, ◌≤◌, ◌<◌, ◌+◌, ◌-◌, ◌++◌, ◌∷◌, ℕ, List, [], All, Some, length, slice_get, IfOk};
-ghost use Rattle.wb_operations.specs.Given.{FitKinds, Given, plains_of};
+ghost use Rattle.std.specs.Prelude.{◌≡◌, ◌≤◌, ◌<◌, ◌+◌, ◌^◌, ◌∷◌, List, All, Some, drop, length, slice_get, IfOk, OnOk};
+ghost use Rattle.wb_operations.specs.Given.{FitKinds, plains_of};
 ghost use Rattle.wb_operations.specs.Kept.{IsKept};
+ghost use Rattle.wb_eval_rules.specs.Code.{Instruction, does, job_of, way_of, instructions};
+ghost use Rattle.wb_eval.specs.Inner.Works.{IsEvaluating, IsExtended, IsVisit, IsStopped, HasRun, HasDone, IsBuilt, IsCalled, HasTruth, HasTruthFor, IsFollowed};
+ghost use Rattle.wb_operations.specs.Operations.{Operations};
 ghost use Rattle.wb_syntax_resolved.specs.declared.attribution.AttributionParts.{AttributionParts};
-ghost use Rattle.wb_values.specs.Tree.{Plain};
-ghost use Rattle.wb_eval.specs.Inner.Piles.{HasNoFrame};
-ghost use Rattle.wb_eval.specs.Inner.Works.{IsEvaluating, IsExtended, HasRun, IsOver, IsBuilt, IsChosen, IsCalled, HasTruth, left_to_do, task_size};
 ghost use Rattle.wb_values.specs.ValuesIn.{IsIn, last};
 ghost use Rattle.wb_values.specs.declared.value.Value.TheVariants.{Bool};
-ghost use Rattle.wb_eval.specs.declared.work.Task.TheVariants.{Visit};
 
 use crate::context::{Context, Expression};
 use crate::evaluation::Evaluation;
+use crate::frame::Frame;
+use crate::ran::{Ran, Stop};
 use crate::visit::visit;
-use crate::work::{Ran, Task, Work};
 use std::alloc::AllocError;
-use wb_operations::{Meaning, OperationRefusal, OperationSignatures, OperationTable};
+use wb_base::push;
+use wb_eval_rules::{After, Op, Task};
+use wb_operations::{Meaning, OperationRefusal, OperationTable};
 use wb_values::{TreeStore, Value};
 
-// Evaluates the expression whose work is left, which is kept where it waits.
-pub(crate) fn evaluate_tasks<'a, M: Meaning>(
+// Evaluates code from a place on.
+pub(crate) fn evaluate_code<'a, M: Meaning>(
     context: &Context<'a, '_, M>,
     expression: &Expression<'a>,
+    start: usize,
     evaluation: &mut Evaluation<'a>,
     store: &mut TreeStore,
-) -> Result<Ran, AllocError>
-    requires evaluating { IsEvaluating context.now.definitions.attributes.now (record { signatures = context.now.operations.now.signatures; meaning = M.meaning }) store.old evaluation.old.machine expression.now.site expression.now.nodes.now evaluation.old.work.tasks.items evaluation.old.work.values.items }
-    requires none { HasNoFrame evaluation.old.machine.frames }
+) -> Result<Ran<'a>, AllocError>
+    requires evaluating { IsEvaluating context.now.definitions.attributes.now (record { signatures = context.now.operations.now.signatures; meaning = M.meaning }) store.old evaluation.old.machine expression.now.site (drop start (instructions expression.now.code.now)) evaluation.old.values.items }
     requires kept { IsKept context.now.operations.now.signatures context.now.operations.now.built_in context.now.operations.now.runs.items M.meaning
         (λ run vs. ⟦<Box<dyn Fn(&[Value]) -> Result<Value, OperationRefusal>> as Fn(&[Value]) -> Result<Value, OperationRefusal>>⟧.pre run vs)
         (λ run vs r. ⟦<Box<dyn Fn(&[Value]) -> Result<Value, OperationRefusal>> as Fn(&[Value]) -> Result<Value, OperationRefusal>>⟧.post run vs r) }
-    ensures ran { IfOk result (HasRun context.now.definitions.attributes.now (record { signatures = context.now.operations.now.signatures; meaning = M.meaning }) store.new evaluation.old.machine evaluation.new.machine) }
+    ensures ran { IfOk result (HasRun context.now.definitions.attributes.now (record { signatures = context.now.operations.now.signatures; meaning = M.meaning }) store.new evaluation.old.machine evaluation.new.machine evaluation.new.values.items) }
     ensures store { IsExtended store.old store.new }
 {
-    'tasks: while let Some(task) = evaluation.work.tasks.pop() {
-        if let Some(ran) = perform(context, expression, evaluation, store, task)? {
-            return Ok(ran);
+    let code = expression.code;
+    let site = expression.site;
+    let mut at = start;
+    'ops: while at < code.len() {
+        let op = &code[at];
+        if let Some(stop) = perform(context.operations, evaluation, store, site, op)? {
+            return Ok(stopped(expression, at, stop));
         }
+        at = follow(&mut evaluation.values, op.after, at);
     }
-    Ok(Ran::Value(evaluation.work.values.take_last()))
+    Ok(Ran::Value(evaluation.values.take_last()))
 }
 
-// Does a task, which was on top: what the work comes to, where it is over.
-fn perform<'a, M: Meaning>(
-    context: &Context<'a, '_, M>,
-    expression: &Expression<'a>,
-    evaluation: &mut Evaluation<'a>,
-    store: &mut TreeStore,
-    task: Task,
-) -> Result<Option<Ran>, AllocError>
-    requires evaluating { IsEvaluating context.now.definitions.attributes.now (record { signatures = context.now.operations.now.signatures; meaning = M.meaning }) store.old evaluation.old.machine expression.now.site expression.now.nodes.now (evaluation.old.work.tasks.items ++ task ∷ []) evaluation.old.work.values.items }
-    requires none { HasNoFrame evaluation.old.machine.frames }
-    requires kept { IsKept context.now.operations.now.signatures context.now.operations.now.built_in context.now.operations.now.runs.items M.meaning
-        (λ run vs. ⟦<Box<dyn Fn(&[Value]) -> Result<Value, OperationRefusal>> as Fn(&[Value]) -> Result<Value, OperationRefusal>>⟧.pre run vs)
-        (λ run vs r. ⟦<Box<dyn Fn(&[Value]) -> Result<Value, OperationRefusal>> as Fn(&[Value]) -> Result<Value, OperationRefusal>>⟧.post run vs r) }
-    ensures over { IfOk result (IsOver context.now.definitions.attributes.now (record { signatures = context.now.operations.now.signatures; meaning = M.meaning }) store.new evaluation.old.machine evaluation.new.machine expression.now.site expression.now.nodes.now evaluation.new.work (left_to_do expression.now.nodes.now evaluation.old.work.tasks.items + task_size expression.now.nodes.now task)) }
-    ensures store { IsExtended store.old store.new }
+// What the work comes to that stops at a place.
+fn stopped<'a>(expression: &Expression<'a>, at: usize, stop: Stop) -> Ran<'a>
+    ensures { IsStopped expression.now at stop result }
 {
-    match task {
-        Task::Visit(at) => {
-            let signatures = &context.operations.signatures;
-            visit_or_wait(signatures, expression, evaluation, store, at)
-        }
-        Task::Build { production, count } => {
-            build_tree(store, &mut evaluation.work, production, count)
-        }
-        Task::Call { operation, count } => {
-            call(context.operations, &mut evaluation.work, operation, count)
-        }
-        Task::Choose { holds, fails } => choose(&mut evaluation.work, holds, fails),
+    match stop {
+        Stop::Fault { operation, code } => Ran::Fault { operation, code },
+        Stop::Needs(key) => Ran::Needs {
+            key,
+            frame: Some(Frame {
+                site: expression.site,
+                code: expression.code,
+                at,
+            }),
+        },
     }
 }
 
-// Visits a node. Where that waits for an instance, it is left to do, and what is left of the expression is kept.
-fn visit_or_wait<'a>(
-    signatures: &OperationSignatures,
-    expression: &Expression<'a>,
-    evaluation: &mut Evaluation<'a>,
-    store: &TreeStore,
-    at: usize,
-) -> Result<Option<Ran>, AllocError>
-    requires there { at < length expression.now.nodes.now }
-    requires evaluating { (a : AttributionParts) × (meaning : ℕ → List Plain → Given) × IsEvaluating a (record { signatures = signatures.now; meaning = meaning }) store.now evaluation.old.machine expression.now.site expression.now.nodes.now (evaluation.old.work.tasks.items ++ Visit at ∷ []) evaluation.old.work.values.items }
-    requires none { HasNoFrame evaluation.old.machine.frames }
-    ensures { (a : AttributionParts) (meaning : ℕ → List Plain → Given) → IsEvaluating a (record { signatures = signatures.now; meaning = meaning }) store.now evaluation.old.machine expression.now.site expression.now.nodes.now (evaluation.old.work.tasks.items ++ Visit at ∷ []) evaluation.old.work.values.items → IfOk result (IsOver a (record { signatures = signatures.now; meaning = meaning }) store.now evaluation.old.machine evaluation.new.machine expression.now.site expression.now.nodes.now evaluation.new.work (left_to_do expression.now.nodes.now evaluation.old.work.tasks.items + task_size expression.now.nodes.now (Visit at))) }
+// The place where code goes on, with the value of the instruction at a place.
+pub(crate) fn follow(values: &mut Vec<Value>, after: After, at: usize) -> usize
+    requires room { at + 1 < 2 ^ 64 }
+    requires truth { HasTruthFor after values.old.items }
+    ensures { IsFollowed after values.old.items values.new.items at result }
 {
-    match visit(signatures, expression, evaluation, store, at) {
-        Ok(Some(key)) => {
-            evaluation.work.push_task(Task::Visit(at))?;
-            let frames = &mut evaluation.machine.frames;
-            frames.keep(expression.site, expression.nodes, &mut evaluation.work)?;
-            Ok(Some(Ran::Needs(key)))
+    match after {
+        After::Next => at + 1,
+        After::Skip(count) => (at + 1).saturating_add(count),
+        After::Unless(count) => {
+            let last = values.len() - 1;
+            let truth = truth_at(values.as_slice(), last);
+            values.truncate(last);
+            if truth {
+                at + 1
+            } else {
+                (at + 1).saturating_add(count)
+            }
         }
-        Ok(None) => Ok(None),
-        Err(error) => Err(error),
-    }
-}
-
-// Builds a tree of the last values.
-fn build_tree(
-    store: &mut TreeStore,
-    work: &mut Work,
-    production: usize,
-    count: usize,
-) -> Result<Option<Ran>, AllocError>
-    requires enough { count ≤ length work.old.values.items }
-    requires inside { All (IsIn (length store.old)) (last count work.old.values.items) }
-    ensures built { IfOk result (IsBuilt store.old store.new work.old work.new production count) }
-    ensures store { IsExtended store.old store.new }
-{
-    let tree = store.build_from(production, &mut work.values, count)?;
-    work.push_value(Value::Tree(tree))?;
-    Ok(None)
-}
-
-// Chooses a branch by the last value.
-fn choose(work: &mut Work, holds: usize, fails: usize) -> Result<Option<Ran>, AllocError>
-    requires some { 0 < length work.old.values.items }
-    requires truth { HasTruth work.old.values.items (length work.old.values.items - 1) }
-    ensures { IfOk result (IsChosen work.old work.new holds fails) }
-{
-    let at = work.values.len() - 1;
-    let truth = truth_at(work.values.as_slice(), at);
-    work.values.truncate(at);
-    if truth {
-        work.push_task(Task::Visit(holds))?;
-        Ok(None)
-    } else {
-        work.push_task(Task::Visit(fails))?;
-        Ok(None)
     }
 }
 
@@ -146,30 +102,93 @@ fn truth_at(values: &[Value], at: usize) -> bool
     }
 }
 
-// Calls an operation on the last values: its fault, where it fails.
-fn call<M: Meaning>(
+// Does an instruction: why code stops there, where it does.
+fn perform<M: Meaning>(
     operations: &OperationTable<M>,
-    work: &mut Work,
-    operation: usize,
-    count: usize,
-) -> Result<Option<Ran>, AllocError>
-    requires enough { count ≤ length work.old.values.items }
-    requires there { operation < length operations.now.signatures }
-    requires fits { (s : _) → slice_get operations.now.signatures operation ≡ Some s → FitKinds s.takes (last count work.old.values.items) }
+    evaluation: &mut Evaluation,
+    store: &mut TreeStore,
+    site: usize,
+    op: &Op,
+) -> Result<Option<Stop>, AllocError>
+    requires evaluating { (a : AttributionParts) × (rest : List Instruction) × IsEvaluating a (record { signatures = operations.now.signatures; meaning = M.meaning }) store.old evaluation.old.machine site (does (job_of op.now.task) (way_of op.now.after) ∷ rest) evaluation.old.values.items }
     requires kept { IsKept operations.now.signatures operations.now.built_in operations.now.runs.items M.meaning
         (λ run vs. ⟦<Box<dyn Fn(&[Value]) -> Result<Value, OperationRefusal>> as Fn(&[Value]) -> Result<Value, OperationRefusal>>⟧.pre run vs)
         (λ run vs r. ⟦<Box<dyn Fn(&[Value]) -> Result<Value, OperationRefusal>> as Fn(&[Value]) -> Result<Value, OperationRefusal>>⟧.post run vs r) }
-    ensures { IfOk result (IsCalled (M.meaning operation (plains_of (last count work.old.values.items))) work.old work.new operation count) }
+    ensures done { (a : AttributionParts) (rest : List Instruction) → IsEvaluating a (record { signatures = operations.now.signatures; meaning = M.meaning }) store.old evaluation.old.machine site (does (job_of op.now.task) (way_of op.now.after) ∷ rest) evaluation.old.values.items → IfOk result (HasDone a (record { signatures = operations.now.signatures; meaning = M.meaning }) store.new evaluation.old.machine evaluation.new.machine site (does (job_of op.now.task) (way_of op.now.after)) (way_of op.now.after) rest evaluation.new.values.items) }
+    ensures store { IsExtended store.old store.new }
 {
-    let start = work.values.len() - count;
-    let answer = operations.call(operation, &work.values.as_slice()[start..]);
-    match answer {
-        Ok(value) => {
-            work.values.truncate(start);
-            work.push_value(value)?;
+    match &op.task {
+        Task::Build { production, count } => {
+            build_tree(store, &mut evaluation.values, *production, *count)?;
             Ok(None)
         }
-        Err(OperationRefusal::Fault(code)) => Ok(Some(Ran::Fault { operation, code })),
+        Task::Call { operation, count } => {
+            call(operations, &mut evaluation.values, *operation, *count)
+        }
+        Task::Stay => Ok(None),
+        _ => visit_or_wait(evaluation, store, site, op),
+    }
+}
+
+// Visits an expression without parts.
+fn visit_or_wait(
+    evaluation: &mut Evaluation,
+    store: &TreeStore,
+    site: usize,
+    op: &Op,
+) -> Result<Option<Stop>, AllocError>
+    requires visit { IsVisit op.now.task }
+    requires evaluating { (a : AttributionParts) × (operations : Operations) × (rest : List Instruction) × IsEvaluating a operations store.now evaluation.old.machine site (does (job_of op.now.task) (way_of op.now.after) ∷ rest) evaluation.old.values.items }
+    ensures { (a : AttributionParts) (operations : Operations) (rest : List Instruction) → IsEvaluating a operations store.now evaluation.old.machine site (does (job_of op.now.task) (way_of op.now.after) ∷ rest) evaluation.old.values.items → IfOk result (HasDone a operations store.now evaluation.old.machine evaluation.new.machine site (does (job_of op.now.task) (way_of op.now.after)) (way_of op.now.after) rest evaluation.new.values.items) }
+{
+    match visit(evaluation, store, site, op) {
+        Ok(Some(key)) => Ok(Some(Stop::Needs(key))),
+        Ok(None) => Ok(None),
+        Err(error) => Err(error),
+    }
+}
+
+// Builds a tree of the last values.
+fn build_tree(
+    store: &mut TreeStore,
+    values: &mut Vec<Value>,
+    production: usize,
+    count: usize,
+) -> Result<(), AllocError>
+    requires enough { count ≤ length values.old.items }
+    requires inside { All (IsIn (length store.old)) (last count values.old.items) }
+    ensures built { OnOk result (IsBuilt store.old store.new values.old.items values.new.items production count) }
+    ensures store { IsExtended store.old store.new }
+{
+    let tree = store.build_from(production, values, count)?;
+    push(values, Value::Tree(tree))?;
+    Ok(())
+}
+
+// Calls an operation on the last values: its fault, where it fails.
+fn call<M: Meaning>(
+    operations: &OperationTable<M>,
+    values: &mut Vec<Value>,
+    operation: usize,
+    count: usize,
+) -> Result<Option<Stop>, AllocError>
+    requires enough { count ≤ length values.old.items }
+    requires there { operation < length operations.now.signatures }
+    requires fits { (s : _) → slice_get operations.now.signatures operation ≡ Some s → FitKinds s.takes (last count values.old.items) }
+    requires kept { IsKept operations.now.signatures operations.now.built_in operations.now.runs.items M.meaning
+        (λ run vs. ⟦<Box<dyn Fn(&[Value]) -> Result<Value, OperationRefusal>> as Fn(&[Value]) -> Result<Value, OperationRefusal>>⟧.pre run vs)
+        (λ run vs r. ⟦<Box<dyn Fn(&[Value]) -> Result<Value, OperationRefusal>> as Fn(&[Value]) -> Result<Value, OperationRefusal>>⟧.post run vs r) }
+    ensures { IfOk result (IsCalled (M.meaning operation (plains_of (last count values.old.items))) values.old.items values.new.items operation count) }
+{
+    let start = values.len() - count;
+    let answer = operations.call(operation, &values.as_slice()[start..]);
+    match answer {
+        Ok(value) => {
+            values.truncate(start);
+            push(values, value)?;
+            Ok(None)
+        }
+        Err(OperationRefusal::Fault(code)) => Ok(Some(Stop::Fault { operation, code })),
         Err(OperationRefusal::NoMemory(error)) => Err(error),
     }
 }

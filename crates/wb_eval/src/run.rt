@@ -1,119 +1,106 @@
 //! How does an evaluation work on one instance?
 //!
-//! By an expression, by another instance, or through the forwarded tree. Which of them is in `start`, which instance is next in `evaluate`.
+//! By code, by another instance, or through the forwarded tree. Which of them is in `start`, which instance is next in `steps`.
 
-ghost use Rattle.std.specs.Prelude.{IfOk};
+ghost use Rattle.std.specs.Prelude.{List, IfOk};
 ghost use Rattle.wb_operations.specs.Kept.{IsKept};
 ghost use Rattle.wb_operations.specs.Operations.{Operations};
 ghost use Rattle.wb_syntax_resolved.specs.declared.attribution.AttributionParts.{AttributionParts};
 ghost use Rattle.wb_eval.specs.Inner.Machines.{IsMachine, IsKey};
 ghost use Rattle.wb_eval_memo.specs.Memos.{IsWhole};
-ghost use Rattle.wb_eval.specs.Inner.Piles.{HasNoFrame};
-ghost use Rattle.wb_eval.specs.Inner.Starts.{IsForwarding, IsNext, IsResumed};
-ghost use Rattle.wb_eval.specs.Inner.Works.{IsExtended, HasRun, IsRead};
+ghost use Rattle.wb_eval.specs.Inner.Starts.{IsForwarding};
+ghost use Rattle.wb_eval.specs.Inner.Works.{IsExtended, HasRun, IsRead, IsTurn};
+ghost use Rattle.wb_eval_rules.specs.Codes.{AreCoded};
 ghost use Rattle.wb_eval_rules.specs.Indexes.{AreIndexes};
+ghost use Rattle.wb_values.specs.declared.value.Value as stored;
 
-use crate::context::{Context, Definitions, Expression};
+use crate::context::{Context, Expression};
 use crate::evaluation::Evaluation;
+use crate::frame::Frame;
 use crate::machine::{Key, Machine};
-use crate::perform::evaluate_tasks;
+use crate::perform::{evaluate_code, follow};
+use crate::ran::Ran;
 use crate::start::{Start, start_of};
-use crate::work::{Ran, Work};
 use std::alloc::AllocError;
 use wb_eval_memo::Step;
 use wb_operations::{Meaning, OperationRefusal};
 use wb_values::{TreeStore, Value};
 
-// Works on the last instance, on from where it waited.
+// Works on the last instance, on from its frame or from the start.
 pub(crate) fn run<'a, M: Meaning>(
     context: &Context<'a, '_, M>,
     evaluation: &mut Evaluation<'a>,
     store: &mut TreeStore,
-) -> Result<Ran, AllocError>
-    requires whole { IsMachine context.now.definitions.attributes.now (record { signatures = context.now.operations.now.signatures; meaning = M.meaning }) store.old evaluation.old.machine }
+    frame: Option<Frame<'a>>,
+) -> Result<Ran<'a>, AllocError>
+    requires turn { IsTurn context.now.definitions.attributes.now (record { signatures = context.now.operations.now.signatures; meaning = M.meaning }) store.old evaluation.old.machine evaluation.old.values.items frame }
     requires rules { AreIndexes context.now.definitions.attributes.now.productions context.now.definitions.rules.now.rows.items }
+    requires coded { AreCoded context.now.operations.now.signatures context.now.definitions.attributes.now.productions context.now.definitions.rules.now.codes.items }
     requires kept { IsKept context.now.operations.now.signatures context.now.operations.now.built_in context.now.operations.now.runs.items M.meaning
         (λ run vs. ⟦<Box<dyn Fn(&[Value]) -> Result<Value, OperationRefusal>> as Fn(&[Value]) -> Result<Value, OperationRefusal>>⟧.pre run vs)
         (λ run vs r. ⟦<Box<dyn Fn(&[Value]) -> Result<Value, OperationRefusal>> as Fn(&[Value]) -> Result<Value, OperationRefusal>>⟧.post run vs r) }
-    ensures ran { IfOk result (HasRun context.now.definitions.attributes.now (record { signatures = context.now.operations.now.signatures; meaning = M.meaning }) store.new evaluation.old.machine evaluation.new.machine) }
+    ensures ran { IfOk result (HasRun context.now.definitions.attributes.now (record { signatures = context.now.operations.now.signatures; meaning = M.meaning }) store.new evaluation.old.machine evaluation.new.machine evaluation.new.values.items) }
     ensures store { IsExtended store.old store.new }
 {
-    let next = resume(&context.definitions, evaluation, store)?;
-    match next {
-        Start::Expression { site, nodes } => {
-            let expression = Expression { site, nodes };
-            evaluate_tasks(context, &expression, evaluation, store)
+    match frame {
+        Some(frame) => {
+            let at = follow(&mut evaluation.values, frame.code[frame.at].after, frame.at);
+            let expression = Expression {
+                site: frame.site,
+                code: frame.code,
+            };
+            evaluate_code(context, &expression, at, evaluation, store)
+        }
+        None => begin(context, evaluation, store),
+    }
+}
+
+// Works on the last instance from the start.
+fn begin<'a, M: Meaning>(
+    context: &Context<'a, '_, M>,
+    evaluation: &mut Evaluation<'a>,
+    store: &mut TreeStore,
+) -> Result<Ran<'a>, AllocError>
+    requires whole { IsMachine context.now.definitions.attributes.now (record { signatures = context.now.operations.now.signatures; meaning = M.meaning }) store.old evaluation.old.values.items evaluation.old.machine }
+    requires rules { AreIndexes context.now.definitions.attributes.now.productions context.now.definitions.rules.now.rows.items }
+    requires coded { AreCoded context.now.operations.now.signatures context.now.definitions.attributes.now.productions context.now.definitions.rules.now.codes.items }
+    requires kept { IsKept context.now.operations.now.signatures context.now.operations.now.built_in context.now.operations.now.runs.items M.meaning
+        (λ run vs. ⟦<Box<dyn Fn(&[Value]) -> Result<Value, OperationRefusal>> as Fn(&[Value]) -> Result<Value, OperationRefusal>>⟧.pre run vs)
+        (λ run vs r. ⟦<Box<dyn Fn(&[Value]) -> Result<Value, OperationRefusal>> as Fn(&[Value]) -> Result<Value, OperationRefusal>>⟧.post run vs r) }
+    ensures ran { IfOk result (HasRun context.now.definitions.attributes.now (record { signatures = context.now.operations.now.signatures; meaning = M.meaning }) store.new evaluation.old.machine evaluation.new.machine evaluation.new.values.items) }
+    ensures store { IsExtended store.old store.new }
+{
+    let last = evaluation.machine.stack.len() - 1;
+    let key = evaluation.machine.stack[last];
+    match start_of(&context.definitions, &evaluation.machine, store, key) {
+        Start::Expression { site, code } => {
+            let expression = Expression { site, code };
+            evaluate_code(context, &expression, 0, evaluation, store)
         }
         Start::Read(key) => read_alone(&evaluation.machine, key),
         Start::Forward { site, attribute } => {
             run_forward(&mut evaluation.machine, store, site, attribute)
         }
-        Start::Needs(key) => Ok(Ran::Needs(key)),
-    }
-}
-
-// From what the last instance is evaluated: an expression's work is there, from where it waited or from the start.
-fn resume<'a>(
-    definitions: &Definitions<'a>,
-    evaluation: &mut Evaluation<'a>,
-    store: &TreeStore,
-) -> Result<Start<'a>, AllocError>
-    requires whole { (operations : Operations) × IsMachine definitions.now.attributes.now operations store.now evaluation.old.machine }
-    requires rules { AreIndexes definitions.now.attributes.now.productions definitions.now.rules.now.rows.items }
-    ensures { (operations : Operations) → IsMachine definitions.now.attributes.now operations store.now evaluation.old.machine → IfOk result (IsResumed definitions.now.attributes.now operations store.now evaluation.old.machine evaluation.new.machine evaluation.new.work) }
-{
-    match evaluation.machine.frames.take(&mut evaluation.work) {
-        Ok(Some(frame)) => Ok(Start::Expression {
-            site: frame.site,
-            nodes: frame.nodes,
-        }),
-        Ok(None) => begin(
-            definitions,
-            &evaluation.machine,
-            store,
-            &mut evaluation.work,
-        ),
-        Err(error) => Err(error),
-    }
-}
-
-// Like `resume`, from the start.
-fn begin<'a>(
-    definitions: &Definitions<'a>,
-    machine: &Machine,
-    store: &TreeStore,
-    work: &mut Work,
-) -> Result<Start<'a>, AllocError>
-    requires whole { (operations : Operations) × IsMachine definitions.now.attributes.now operations store.now machine.now }
-    requires rules { AreIndexes definitions.now.attributes.now.productions definitions.now.rules.now.rows.items }
-    ensures { (operations : Operations) → IsMachine definitions.now.attributes.now operations store.now machine.now → IfOk result (IsNext definitions.now.attributes.now operations store.now machine.now work.new) }
-{
-    let at = machine.stack.len() - 1;
-    let start = start_of(definitions, machine, store, machine.stack[at]);
-    match start {
-        Start::Expression { nodes, .. } => {
-            let last = nodes.len() - 1;
-            work.start(last)?;
-            Ok(start)
-        }
-        _ => Ok(start),
+        Start::Needs(key) => Ok(Ran::Needs { key, frame: None }),
     }
 }
 
 // Works on a synthesized attribute that is that of the forwarded tree.
-fn run_forward(
-    machine: &mut Machine,
+fn run_forward<'a>(
+    machine: &mut Machine<'a>,
     store: &TreeStore,
     site: usize,
     attribute: usize,
-) -> Result<Ran, AllocError>
-    requires forwarding { (a : AttributionParts) × (operations : Operations) × IsForwarding a operations store.now machine.old site attribute }
-    requires none { HasNoFrame machine.old.frames }
-    ensures { (a : AttributionParts) (operations : Operations) → IsForwarding a operations store.now machine.old site attribute → IfOk result (HasRun a operations store.now machine.old machine.new) }
+) -> Result<Ran<'a>, AllocError>
+    requires forwarding { (a : AttributionParts) × (operations : Operations) × (values : List stored.Value) × IsForwarding a operations store.now values machine.old site attribute }
+    ensures { (a : AttributionParts) (operations : Operations) (values : List stored.Value) → IsForwarding a operations store.now values machine.old site attribute → IfOk result (HasRun a operations store.now machine.old machine.new values) }
 {
     let below = machine.below(store, site, Step::Forward)?;
     if machine.memo.trees[below].is_none() {
-        return Ok(Ran::Needs(Key::Tree { site: below }));
+        return Ok(Ran::Needs {
+            key: Key::Tree { site: below },
+            frame: None,
+        });
     }
     let key = Key::Synthesized {
         site: below,
@@ -123,13 +110,13 @@ fn run_forward(
 }
 
 // Reads one instance, whose value is the value.
-fn read_alone(machine: &Machine, key: Key) -> Result<Ran, AllocError>
+fn read_alone<'a>(machine: &Machine<'a>, key: Key) -> Result<Ran<'a>, AllocError>
     requires whole { IsWhole machine.now.memo }
     requires key { IsKey machine.now.memo key }
     ensures { IfOk result (IsRead machine.now.memo key) }
 {
     match machine.known(key)? {
         Some(value) => Ok(Ran::Value(value)),
-        None => Ok(Ran::Needs(key)),
+        None => Ok(Ran::Needs { key, frame: None }),
     }
 }

@@ -2,27 +2,29 @@
 //!
 //! From its rule, if there is one at the production where it would be. What is done then is in `run`.
 
-ghost use Rattle.std.specs.Prelude.{◌≡◌, ◌<◌, length, IfSome, IfNone};
-ghost use Rattle.wb_flow_theory.specs.Rules.{target_vertex, IsRule, HasRule};
+ghost use Rattle.std.specs.Prelude.{◌≡◌, ◌<◌, List, length, IfSome, IfNone};
+ghost use Rattle.wb_flow_theory.specs.Rules.{target_vertex, HasRule};
 ghost use Rattle.wb_flow_theory.specs.Vertices.{inherited, tree_of};
 ghost use Rattle.wb_eval.specs.Inner.Starts.{IsAtWork, HasProduction, IsProductionAt, IsStart, made_by};
 ghost use Rattle.wb_eval_memo.specs.Sites.{step_of};
-ghost use Rattle.wb_operations.specs.Operations.{Operations};
+ghost use Rattle.wb_operations.specs.Operations.{OperationSignature, Operations};
+ghost use Rattle.wb_eval_rules.specs.Codes.{AreCoded, IsCoded, HasCode};
 ghost use Rattle.wb_eval_rules.specs.Indexes.{AreIndexes, IsIndexOf};
 ghost use Rattle.wb_eval.specs.declared.machine.Key.TheVariants.{Synthesized, Inherited, Tree};
+ghost use Rattle.wb_values.specs.declared.value.Value.{Value};
 
 use crate::context::Definitions;
 use crate::machine::{Key, Machine, tree_at};
 use wb_eval_memo::Step;
-use wb_eval_rules::{Rules, equation_for, forward_nodes, local_nodes};
-use wb_syntax_resolved::{Node, Place, Production, Target};
+use wb_eval_rules::{Op, Rules, equation_for, forward_code, local_code};
+use wb_syntax_resolved::{Place, Target};
 use wb_values::TreeStore;
 
 // What an instance is evaluated from.
 #[derive(Clone, Copy)]
 pub(crate) enum Start<'a> {
-    // The expression of these nodes, at a site.
-    Expression { site: usize, nodes: &'a [Node] },
+    // The expression of this code, at a site.
+    Expression { site: usize, code: &'a [Op] },
     // One other instance, whose value is its value.
     Read(Key),
     // This attribute of the forwarded tree.
@@ -38,9 +40,10 @@ pub(crate) fn start_of<'a>(
     store: &TreeStore,
     key: Key,
 ) -> Start<'a>
-    requires works { (operations : Operations) × IsAtWork definitions.now.attributes.now operations store.now machine.now key }
+    requires works { (operations : Operations) × (under : List Value) × IsAtWork definitions.now.attributes.now operations store.now under machine.now key }
     requires rules { AreIndexes definitions.now.attributes.now.productions definitions.now.rules.now.rows.items }
-    ensures { (operations : Operations) → IsAtWork definitions.now.attributes.now operations store.now machine.now key → IsStart definitions.now.attributes.now operations store.now machine.now result }
+    requires coded { (signatures : List OperationSignature) × AreCoded signatures definitions.now.attributes.now.productions definitions.now.rules.now.codes.items }
+    ensures { (operations : Operations) (under : List Value) → IsAtWork definitions.now.attributes.now operations store.now under machine.now key → AreCoded operations.signatures definitions.now.attributes.now.productions definitions.now.rules.now.codes.items → IsStart definitions.now.attributes.now operations store.now under machine.now result }
 {
     match key {
         Key::Synthesized { site, attribute } => {
@@ -60,29 +63,32 @@ fn start_of_tree<'a>(
     store: &TreeStore,
     site: usize,
 ) -> Start<'a>
-    requires works { (operations : Operations) × IsAtWork definitions.now.attributes.now operations store.now machine.now (Tree site) }
+    requires works { (operations : Operations) × (under : List Value) × IsAtWork definitions.now.attributes.now operations store.now under machine.now (Tree site) }
     requires rules { AreIndexes definitions.now.attributes.now.productions definitions.now.rules.now.rows.items }
-    ensures { (operations : Operations) → IsAtWork definitions.now.attributes.now operations store.now machine.now (Tree site) → IsStart definitions.now.attributes.now operations store.now machine.now result }
+    requires coded { (signatures : List OperationSignature) × AreCoded signatures definitions.now.attributes.now.productions definitions.now.rules.now.codes.items }
+    ensures { (operations : Operations) (under : List Value) → IsAtWork definitions.now.attributes.now operations store.now under machine.now (Tree site) → AreCoded operations.signatures definitions.now.attributes.now.productions definitions.now.rules.now.codes.items → IsStart definitions.now.attributes.now operations store.now under machine.now result }
 {
     let origin = machine.memo.sites.origins[site - 1];
     let rules = rules_at(definitions, machine, store, origin.parent);
-    match tree_nodes(rules.production, origin.step) {
-        Some(nodes) => Start::Expression {
+    match tree_code(&rules, origin.step) {
+        Some(code) => Start::Expression {
             site: origin.parent,
-            nodes,
+            code,
         },
         None => unreachable!(),
     }
 }
 
-// The expression of a local or forward.
-fn tree_nodes(production: &Production, step: Step) -> Option<&[Node]>
-    ensures some { IfSome result (λ nodes. made_by step (λ k. IsRule production.now (tree_of k) nodes.now)) }
-    ensures none { IfNone result (made_by step (λ k. ¬ HasRule production.now (tree_of k))) }
+// The code of a local or forward.
+fn tree_code<'a>(rules: &Rules<'a>, step: Step) -> Option<&'a [Op]>
+    requires { (signatures : List OperationSignature) × IsCoded signatures rules.now.production.now rules.now.codes.now }
+    ensures some { (signatures : List OperationSignature) → IsCoded signatures rules.now.production.now rules.now.codes.now
+        → IfSome result (λ code. made_by step (λ k. HasCode signatures rules.now.production.now (tree_of k) code.now)) }
+    ensures none { IfNone result (made_by step (λ k. ¬ HasRule rules.now.production.now (tree_of k))) }
 {
     match step {
-        Step::Local(x) => local_nodes(production, x),
-        Step::Forward => forward_nodes(production),
+        Step::Local(x) => local_code(rules, x),
+        Step::Forward => forward_code(rules),
         Step::Child(_) => None,
     }
 }
@@ -95,16 +101,17 @@ fn start_of_inherited<'a>(
     site: usize,
     attribute: usize,
 ) -> Start<'a>
-    requires works { (operations : Operations) × IsAtWork definitions.now.attributes.now operations store.now machine.now (Inherited site attribute) }
+    requires works { (operations : Operations) × (under : List Value) × IsAtWork definitions.now.attributes.now operations store.now under machine.now (Inherited site attribute) }
     requires rules { AreIndexes definitions.now.attributes.now.productions definitions.now.rules.now.rows.items }
-    ensures { (operations : Operations) → IsAtWork definitions.now.attributes.now operations store.now machine.now (Inherited site attribute) → IsStart definitions.now.attributes.now operations store.now machine.now result }
+    requires coded { (signatures : List OperationSignature) × AreCoded signatures definitions.now.attributes.now.productions definitions.now.rules.now.codes.items }
+    ensures { (operations : Operations) (under : List Value) → IsAtWork definitions.now.attributes.now operations store.now under machine.now (Inherited site attribute) → AreCoded operations.signatures definitions.now.attributes.now.productions definitions.now.rules.now.codes.items → IsStart definitions.now.attributes.now operations store.now under machine.now result }
 {
     let origin = machine.memo.sites.origins[site - 1];
     let rules = rules_at(definitions, machine, store, origin.parent);
     match equation_for(&rules, target_below(origin.step, attribute)) {
-        Some(nodes) => Start::Expression {
+        Some(code) => Start::Expression {
             site: origin.parent,
-            nodes,
+            code,
         },
         None => Start::Read(Key::Inherited {
             site: origin.parent,
@@ -121,16 +128,17 @@ fn start_of_synthesized<'a>(
     site: usize,
     attribute: usize,
 ) -> Start<'a>
-    requires works { (operations : Operations) × IsAtWork definitions.now.attributes.now operations store.now machine.now (Synthesized site attribute) }
+    requires works { (operations : Operations) × (under : List Value) × IsAtWork definitions.now.attributes.now operations store.now under machine.now (Synthesized site attribute) }
     requires rules { AreIndexes definitions.now.attributes.now.productions definitions.now.rules.now.rows.items }
-    ensures { (operations : Operations) → IsAtWork definitions.now.attributes.now operations store.now machine.now (Synthesized site attribute) → IsStart definitions.now.attributes.now operations store.now machine.now result }
+    requires coded { (signatures : List OperationSignature) × AreCoded signatures definitions.now.attributes.now.productions definitions.now.rules.now.codes.items }
+    ensures { (operations : Operations) (under : List Value) → IsAtWork definitions.now.attributes.now operations store.now under machine.now (Synthesized site attribute) → AreCoded operations.signatures definitions.now.attributes.now.productions definitions.now.rules.now.codes.items → IsStart definitions.now.attributes.now operations store.now under machine.now result }
 {
     if machine.memo.trees[site].is_none() {
         return Start::Needs(Key::Tree { site });
     }
     let rules = rules_at(definitions, machine, store, site);
     match equation_for(&rules, Target::Top(attribute)) {
-        Some(nodes) => Start::Expression { site, nodes },
+        Some(code) => Start::Expression { site, code },
         None => Start::Forward { site, attribute },
     }
 }
@@ -144,8 +152,10 @@ fn rules_at<'a>(
 ) -> Rules<'a>
     requires production { HasProduction definitions.now.attributes.now store.now machine.now site }
     requires rules { AreIndexes definitions.now.attributes.now.productions definitions.now.rules.now.rows.items }
+    requires coded { (signatures : List OperationSignature) × AreCoded signatures definitions.now.attributes.now.productions definitions.now.rules.now.codes.items }
     ensures production { IsProductionAt definitions.now.attributes.now store.now machine.now site result.production.now }
     ensures equations { IsIndexOf result.production.now.equations (length result.production.now.equations) result.equations.now }
+    ensures codes { (signatures : List OperationSignature) → AreCoded signatures definitions.now.attributes.now.productions definitions.now.rules.now.codes.items → IsCoded signatures result.production.now result.codes.now }
 {
     let tree = tree_at(&machine.memo, site);
     let number = store.production(tree);
@@ -153,6 +163,7 @@ fn rules_at<'a>(
     Rules {
         production: &productions[number],
         equations: &definitions.rules.rows[number],
+        codes: &definitions.rules.codes[number],
     }
 }
 

@@ -2,59 +2,88 @@
 //!
 //! It leaves one, whose value is then kept in the memo, or enters one that is needed. What is done at one is in `run`.
 
-ghost use Rattle.std.specs.Prelude.{◌≤◌, List, OnOk, IfOk};
+ghost use Rattle.std.specs.Prelude.{◌≡◌, ◌≤◌, List, OnOk, IfOk};
 ghost use Rattle.wb_operations.specs.Operations.{Operations};
 ghost use Rattle.wb_syntax_resolved.specs.declared.attribution.AttributionParts.{AttributionParts};
 ghost use Rattle.wb_values.specs.Tree.{Tree};
 ghost use Rattle.wb_eval_memo.specs.Memos.{IsWhole};
-ghost use Rattle.wb_eval.specs.Inner.Answering.{IsLeaving, IsLeftWith, IsTurned};
+ghost use Rattle.wb_eval.specs.Inner.Answering.{with_answer, IsLeaving, IsLeftWith, IsTurned};
 ghost use Rattle.wb_eval.specs.Inner.Machines.{IsKey, IsFor, IsSet};
 ghost use Rattle.wb_eval.specs.Inner.Works.{IsRan};
 
 use crate::evaluated::Evaluated;
-use crate::machine::{Key, Machine};
-use crate::work::Ran;
+use crate::evaluation::Evaluation;
+use crate::frame::Frame;
+use crate::machine::Key;
+use crate::ran::Ran;
 use std::alloc::AllocError;
+use wb_base::push;
 use wb_eval_memo::Memo;
 use wb_values::Value;
 
-// Leaves the instance at work with what its work came to, or enters the one that it needs: the answer, where that is known.
-pub(crate) fn proceed(
-    machine: &mut Machine,
-    ran: Ran,
+// What an evaluation does next: it is over, or goes on with the last instance, by its frame or from the start.
+#[derive(Drop)]
+pub(crate) enum Turn<'a> {
+    Over(Evaluated),
+    Goes(Option<Frame<'a>>),
+}
+
+// Leaves the instance at work with what its work came to, or enters the one that it needs.
+pub(crate) fn proceed<'a>(
+    evaluation: &mut Evaluation<'a>,
+    ran: Ran<'a>,
     steps: u64,
-) -> Result<Option<Evaluated>, AllocError>
-    requires ran { (a : AttributionParts) × (operations : Operations) × (trees : List Tree) × IsRan a operations trees machine.old ran }
-    requires within { machine.old.entered ≤ steps }
-    ensures { (a : AttributionParts) (operations : Operations) (trees : List Tree) → IsRan a operations trees machine.old ran → IfOk result (IsTurned a operations trees machine.old machine.new steps) }
+) -> Result<Turn<'a>, AllocError>
+    requires ran { (a : AttributionParts) × (operations : Operations) × (trees : List Tree) × IsRan a operations trees evaluation.old.machine evaluation.old.values.items ran }
+    requires within { evaluation.old.machine.entered ≤ steps }
+    ensures { (a : AttributionParts) (operations : Operations) (trees : List Tree) → IsRan a operations trees evaluation.old.machine evaluation.old.values.items ran.entry → IfOk result (IsTurned a operations trees evaluation.old.machine evaluation.new.machine evaluation.new.values.items steps) }
 {
     match ran {
-        Ran::Value(answer) => leave(machine, answer),
-        Ran::Fault { operation, code } => Ok(Some(Evaluated::Fault { operation, code })),
-        Ran::Needs(key) => {
-            if machine.entered >= steps {
-                return Ok(Some(Evaluated::MoreSteps));
+        Ran::Value(answer) => leave(evaluation, answer),
+        Ran::Fault { operation, code } => Ok(Turn::Over(Evaluated::Fault { operation, code })),
+        Ran::Needs { key, frame } => {
+            if evaluation.machine.entered >= steps {
+                return Ok(Turn::Over(Evaluated::MoreSteps));
             }
-            machine.push(key)?;
-            Ok(None)
+            evaluation.machine.push(key, frame)?;
+            Ok(Turn::Goes(None))
         }
     }
 }
 
-// Leaves the instance at work, whose value this is: the answer, where none waits for it.
-fn leave(machine: &mut Machine, answer: Value) -> Result<Option<Evaluated>, AllocError>
-    requires { IsLeaving machine.old answer }
-    ensures { IfOk result (IsLeftWith machine.old machine.new answer) }
+// Leaves the instance at work, whose value this is.
+fn leave<'a>(evaluation: &mut Evaluation<'a>, answer: Value) -> Result<Turn<'a>, AllocError>
+    requires { IsLeaving evaluation.old.machine answer }
+    ensures { IfOk result (IsLeftWith evaluation.old.machine evaluation.new.machine evaluation.old.values.items evaluation.new.values.items answer) }
 {
-    let at = machine.stack.len() - 1;
+    let at = evaluation.machine.stack.len() - 1;
     if at == 0 {
-        return Ok(Some(Evaluated::Value(answer)));
+        return Ok(Turn::Over(Evaluated::Value(answer)));
     }
-    let key = machine.stack[at];
-    keep(&mut machine.memo, key, answer)?;
-    machine.stack.truncate(at);
-    machine.frames.rows.truncate(at);
-    Ok(None)
+    let key = evaluation.machine.stack[at];
+    let frame = evaluation.machine.frames[at - 1];
+    push_answer(&mut evaluation.values, &frame, &answer)?;
+    keep(&mut evaluation.machine.memo, key, answer)?;
+    evaluation.machine.stack.truncate(at);
+    evaluation.machine.frames.truncate(at - 1);
+    Ok(Turn::Goes(frame))
+}
+
+// Pushes the value for which a frame waited.
+fn push_answer(
+    values: &mut Vec<Value>,
+    frame: &Option<Frame>,
+    answer: &Value,
+) -> Result<(), AllocError>
+    ensures { OnOk result (values.new.items ≡ with_answer frame.now values.old.items answer.now) }
+{
+    match frame {
+        Some(_) => {
+            let value = answer.copy()?;
+            push(values, value)
+        }
+        None => Ok(()),
+    }
 }
 
 // Keeps the value of the instance of a key.

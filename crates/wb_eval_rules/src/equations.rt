@@ -2,15 +2,19 @@
 //!
 //! Equations are found by number, in tables that are made once. The tables of all productions are in `index`.
 
-ghost use Rattle.std.specs.Prelude.{◌≡◌, ◌≢◌, ◌<◌, ◌≤◌, [], length, slice_get, Some, OnOk, IfOk, IfSome, IfNone};
-ghost use Rattle.wb_flow_theory.specs.Rules.{IsRule, HasRule, target_vertex};
+ghost use Rattle.std.specs.Prelude.{◌≡◌, ◌≢◌, ◌<◌, ◌≤◌, List, [], length, slice_get, Some, OnOk, IfOk, IfSome, IfNone};
+ghost use Rattle.wb_flow_theory.specs.Rules.{HasRule, target_vertex};
 ghost use Rattle.wb_flow_theory.specs.Vertices.{local, forward, tree_of};
 ghost use Rattle.wb_syntax_resolved.specs.declared.equation.Target.{Target};
+ghost use Rattle.wb_operations.specs.Operations.{OperationSignature};
+ghost use Rattle.wb_eval_rules.specs.Codes.{IsCoded, HasCode};
 ghost use Rattle.wb_eval_rules.specs.Indexes.{number_for, AreFound, IsIndexOf};
 
+use crate::code::Op;
+use crate::codes::Codes;
 use std::alloc::{AllocError, Global};
 use wb_eval_rows::SparseRows;
-use wb_syntax_resolved::{Node, Place, Production, Target};
+use wb_syntax_resolved::{Place, Production, Target};
 
 /// The equations of a production by what they are for, as numbers from 1 on.
 pub struct Equations {
@@ -24,50 +28,55 @@ pub struct Equations {
     pub locals: SparseRows,
 }
 
-/// A production, with its equations by what they are for.
+/// A production, with its equations by what they are for, and the code of its expressions.
 #[derive(Clone, Copy)]
 pub struct Rules<'a> {
     /// The production.
     pub production: &'a Production,
     /// Its equations.
     pub equations: &'a Equations,
+    /// Its code.
+    pub codes: &'a Codes,
 }
 
-/// The nodes of the equation for a target. Takes constant time.
-pub fn equation_for<'a>(rules: &Rules<'a>, target: Target) -> Option<&'a [Node]>
-    requires { IsIndexOf rules.now.production.now.equations (length rules.now.production.now.equations) rules.now.equations.now }
-    ensures some { IfSome result (λ nodes. IsRule rules.now.production.now (target_vertex target) nodes.now) }
+/// The code of the equation for a target. Takes constant time.
+pub fn equation_for<'a>(rules: &Rules<'a>, target: Target) -> Option<&'a [Op]>
+    requires index { IsIndexOf rules.now.production.now.equations (length rules.now.production.now.equations) rules.now.equations.now }
+    requires coded { (signatures : List OperationSignature) × IsCoded signatures rules.now.production.now rules.now.codes.now }
+    ensures some { (signatures : List OperationSignature) → IsCoded signatures rules.now.production.now rules.now.codes.now
+        → IfSome result (λ code. HasCode signatures rules.now.production.now (target_vertex target) code.now) }
     ensures none { IfNone result (¬ HasRule rules.now.production.now (target_vertex target)) }
 {
     let number = rules.equations.get(target);
     if number == 0 {
         None
     } else {
-        let equations = rules.production.equations.as_slice();
-        Some(equations[number - 1].nodes.as_slice())
+        Some(rules.codes.equations[number - 1].ops.as_slice())
     }
 }
 
-/// The nodes of the tree of a local.
-pub fn local_nodes(production: &Production, x: usize) -> Option<&[Node]>
-    ensures some { IfSome result (λ nodes. IsRule production.now (tree_of (local x)) nodes.now) }
-    ensures none { IfNone result (¬ HasRule production.now (tree_of (local x))) }
+/// The code of the tree of a local.
+pub fn local_code<'a>(rules: &Rules<'a>, x: usize) -> Option<&'a [Op]>
+    requires { (signatures : List OperationSignature) × IsCoded signatures rules.now.production.now rules.now.codes.now }
+    ensures some { (signatures : List OperationSignature) → IsCoded signatures rules.now.production.now rules.now.codes.now
+        → IfSome result (λ code. HasCode signatures rules.now.production.now (tree_of (local x)) code.now) }
+    ensures none { IfNone result (¬ HasRule rules.now.production.now (tree_of (local x))) }
 {
-    let locals = production.locals.as_slice();
-    if x < locals.len() {
-        Some(locals[x].nodes.as_slice())
+    if x < rules.codes.locals.len() {
+        Some(rules.codes.locals[x].ops.as_slice())
     } else {
         None
     }
 }
 
-/// The nodes of the forwarded tree.
-pub fn forward_nodes(production: &Production) -> Option<&[Node]>
-    ensures some { IfSome result (λ nodes. IsRule production.now (tree_of forward) nodes.now) }
-    ensures none { IfNone result (¬ HasRule production.now (tree_of forward)) }
+/// The code of the forwarded tree.
+pub fn forward_code<'a>(rules: &Rules<'a>) -> Option<&'a [Op]>
+    ensures some { (signatures : List OperationSignature) → IsCoded signatures rules.now.production.now rules.now.codes.now
+        → IfSome result (λ code. HasCode signatures rules.now.production.now (tree_of forward) code.now) }
+    ensures none { IfNone result (¬ HasRule rules.now.production.now (tree_of forward)) }
 {
-    match &production.forward {
-        Some(forward) => Some(forward.nodes.as_slice()),
+    match &rules.production.forward {
+        Some(_) => Some(rules.codes.forward.ops.as_slice()),
         None => None,
     }
 }

@@ -1,5 +1,5 @@
 -- What an evaluation has come to after a turn.
-use Rattle.std.specs.Prelude.{◌≡◌, ◌≢◌, ◌≤◌, ◌<◌, ◌+◌, ◌*◌, ◌-◌, ℕ, suc, List, Option, Some, None, length, slice_get, take}
+use Rattle.std.specs.Prelude.{◌≡◌, ◌≢◌, ◌≤◌, ◌<◌, ◌+◌, ◌*◌, ◌-◌, ◌++◌, ℕ, suc, List, [], ◌∷◌, Option, Some, None, length, slice_get, take}
 use Rattle.wb_operations.specs.Operations.{Operations}
 use Rattle.wb_syntax_resolved.specs.declared.attribution.AttributionParts.{AttributionParts}
 use Rattle.wb_values.specs.declared.value.TreeId.{TreeId}
@@ -12,7 +12,10 @@ use Rattle.wb_eval.specs.declared.machine.Key.{Key}
 use Rattle.wb_eval.specs.declared.machine.Machine.{Machine}
 use Rattle.wb_eval.specs.Evaluates.{IsValue, IsFault, AsksMore}
 use Rattle.wb_eval.specs.Inner.Machines.{IsKey, IsMachine, IsFor, IsSet}
-use Rattle.wb_eval.specs.Inner.Piles.{waits, IsPiled, HasNoFrame}
+use Rattle.wb_eval.specs.Inner.Works.{IsTurn}
+use Rattle.wb_eval.specs.declared.frame.Frame.{Frame}
+use Rattle.wb_eval.specs.declared.steps.Turn.{Turn}
+use Rattle.wb_eval.specs.declared.steps.Turn.TheVariants as turn
 use Rattle.wb_eval_memo.specs.Memos.{IsWhole}
 
 -- how much is left to do: an instance is entered and left
@@ -20,8 +23,9 @@ abbrev pub turns_left : ℕ → Machine → ℕ
 turns_left steps m = 2 * (steps - m.entered) + length m.stack.items
 
 -- the evaluation goes on, with less left to do
-pub record GoesOn (a : AttributionParts) (operations : Operations) (trees : List Tree) (old new : Machine) (steps : ℕ) : Type 0 where
-  pub whole : IsMachine a operations trees new
+pub record GoesOn (a : AttributionParts) (operations : Operations) (trees : List Tree) (old new : Machine) (values : List Value) (steps : ℕ)
+    (frame : Option Frame) : Type 0 where
+  pub turn : IsTurn a operations trees new values frame
   pub root : new.root ≡ old.root
   pub attribute : new.attribute ≡ old.attribute
   pub within : new.entered ≤ steps
@@ -35,25 +39,22 @@ pub record IsAnswered (a : AttributionParts) (operations : Operations) (trees : 
   pub more : AsksMore a operations (tree_in trees root.0) attribute steps e
 
 -- after a turn
-abbrev pub IsTurned : AttributionParts → Operations → List Tree → Machine → Machine → ℕ → Option Evaluated → Type 0
-IsTurned a operations trees old new steps None = GoesOn a operations trees old new steps
-IsTurned a operations trees old new steps (Some e) = IsAnswered a operations trees old.root old.attribute steps e
-
--- the instance at work was left, and the one that waited for it is at work
-pub record IsBack (a : AttributionParts) (operations : Operations) (trees : List Tree) (old new : Machine) : Type 0 where
-  pub whole : IsMachine a operations trees new
-  pub root : new.root ≡ old.root
-  pub attribute : new.attribute ≡ old.attribute
-  pub entered : new.entered ≡ old.entered
-  pub stack : suc (length new.stack.items) ≡ length old.stack.items
+abbrev pub IsTurned : AttributionParts → Operations → List Tree → Machine → Machine → List Value → ℕ → Turn → Type 0
+IsTurned a operations trees old new values steps (turn.Goes frame) = GoesOn a operations trees old new values steps frame
+IsTurned a operations trees old new values steps (turn.Over e) = IsAnswered a operations trees old.root old.attribute steps e
 
 -- an instance was entered, and is at work
 pub record IsAhead (a : AttributionParts) (operations : Operations) (trees : List Tree) (old new : Machine) : Type 0 where
-  pub whole : IsMachine a operations trees new
+  pub whole : IsMachine a operations trees [] new
   pub root : new.root ≡ old.root
   pub attribute : new.attribute ≡ old.attribute
   pub entered : new.entered ≡ old.entered + 1
   pub stack : length new.stack.items ≡ suc (length old.stack.items)
+
+-- the values with that for which a frame waited
+abbrev pub with_answer : Option Frame → List Value → Value → List Value
+with_answer None values v = values
+with_answer (Some f) values v = values ++ v ∷ []
 
 -- the instance at work can be left with this value
 pub record IsLeaving (m : Machine) (v : Value) : Type 0 where
@@ -62,13 +63,10 @@ pub record IsLeaving (m : Machine) (v : Value) : Type 0 where
   pub whole : IsWhole m.memo
   pub is_key : IsKey m.memo key
   pub is_for : IsFor key v
-  pub some : 0 < length m.stack.items
-  pub frames : length m.frames.rows.items ≡ length m.stack.items
-  pub piled : IsPiled m.frames
-  pub none : HasNoFrame m.frames
+  pub frames : suc (length m.frames.items) ≡ length m.stack.items
 
--- it was left, and its value is kept
-pub record IsPopped (old new : Machine) (v : Value) : Type 0 where
+-- it was left, and its value is kept; what waited for it is at work again, by its frame on these values
+pub record IsPopped (old new : Machine) (before after : List Value) (v : Value) (frame : Option Frame) : Type 0 where
   pub key : Key
   pub last : slice_get old.stack.items (length old.stack.items - 1) ≡ Some key
   pub set : IsSet old.memo new.memo key v
@@ -76,10 +74,10 @@ pub record IsPopped (old new : Machine) (v : Value) : Type 0 where
   pub attribute : new.attribute ≡ old.attribute
   pub entered : new.entered ≡ old.entered
   pub stack : new.stack.items ≡ take (length old.stack.items - 1) old.stack.items
-  pub frames : waits new.frames ≡ take (length old.frames.rows.items - 1) (waits old.frames)
-  pub piled : IsPiled new.frames
+  pub frames : old.frames.items ≡ new.frames.items ++ frame ∷ []
+  pub values : after ≡ with_answer frame before v
 
 -- it was left with its value, which is the answer where none waits for it
-abbrev pub IsLeftWith : Machine → Machine → Value → Option Evaluated → Type 0
-IsLeftWith old new v None = IsPopped old new v × (length old.stack.items ≢ 1)
-IsLeftWith old new v (Some e) = (e ≡ evaluated.Value v) × (length old.stack.items ≡ 1)
+abbrev pub IsLeftWith : Machine → Machine → List Value → List Value → Value → Turn → Type 0
+IsLeftWith old new before after v (turn.Goes frame) = IsPopped old new before after v frame × (length old.stack.items ≢ 1)
+IsLeftWith old new before after v (turn.Over e) = (e ≡ evaluated.Value v) × (length old.stack.items ≡ 1)

@@ -1,6 +1,6 @@
 -- What an evaluation keeps from one instance to the next.
 use Rattle.std.specs.List.{slice_set}
-use Rattle.std.specs.Prelude.{◌≡◌, ◌≢◌, ◌⊎◌, ◌≤◌, ◌<◌, ◌+◌, ℕ, List, [], ◌∷◌, ◌++◌, Option, Some, None, All, Contains, length, slice_get}
+use Rattle.std.specs.Prelude.{◌≡◌, ◌≢◌, ◌⊎◌, ◌≤◌, ◌<◌, ◌+◌, ℕ, suc, List, [], ◌∷◌, ◌++◌, Option, Some, None, All, Contains, length, slice_get}
 use Rattle.wb_flow_theory.specs.Modular.{IsProduction}
 use Rattle.wb_flow_theory.specs.Occurrences.{Goes}
 use Rattle.wb_flow_theory.specs.Vertices.{Made, child, made}
@@ -9,7 +9,7 @@ use Rattle.wb_operations.specs.Operations.{Operations}
 use Rattle.wb_syntax_resolved.specs.declared.attributes.Direction.TheVariants.{Synthesized, Inherited}
 use Rattle.wb_syntax_resolved.specs.declared.attribution.AttributionParts.{AttributionParts}
 use Rattle.wb_syntax_resolved.specs.declared.production.Production.{Production}
-use Rattle.wb_syntax_resolved.specs.Expression.{Node}
+use Rattle.wb_syntax_resolved.specs.Expression.{Expression}
 use Rattle.wb_values.specs.declared.value.TreeId.{TreeId}
 use Rattle.wb_values.specs.declared.value.Value.{Value}
 use Rattle.wb_values.specs.declared.value.Value.TheVariants as stored
@@ -18,19 +18,19 @@ use Rattle.wb_values.specs.ValuesIn.{tree_in, value_in, IsIn}
 use Rattle.wb_eval_theory.specs.Answers.{IsNodeAt, HasAnswer}
 use Rattle.wb_eval_theory.specs.Evaluable.{IsEvaluable, IsAsked}
 use Rattle.wb_eval_theory.specs.Instances.{Path, down, Instance, synthesized_at, inherited_at, tree_at}
-use Rattle.wb_eval_theory.specs.Walks.{value, Walk, read}
-use Rattle.wb_eval.specs.Inner.Jobs.{stack_of, Stacked, ValuesFit, JobsFit}
+use Rattle.wb_eval_rules.specs.Code.{visit, Way, Instruction, does}
+use Rattle.wb_eval_theory.specs.Walks.{value, Walk, read, walk_expression}
+use Rattle.wb_eval.specs.Inner.Fits.{stack_of, ValuesFit, CodeFits}
 use Rattle.wb_eval_memo.specs.Memos.{count, path_in, recall, IsWhole}
 use Rattle.wb_eval.specs.Inner.State.{IsState, HasCome}
-use Rattle.wb_eval.specs.Inner.Tasks.{Job, resume}
-use Rattle.wb_eval.specs.Inner.Piles.{Wait, waits, IsPiled}
-use Rattle.wb_eval.specs.declared.frames.Frames.{Frames}
+use Rattle.wb_eval.specs.Inner.Going.{resume}
+use Rattle.wb_eval.specs.Inner.Piles.{Wait, piled, AreWaits}
+use Rattle.wb_eval.specs.declared.frame.Frame.{Frame}
 use Rattle.wb_eval.specs.declared.machine.Key.{Key}
 use Rattle.wb_eval.specs.declared.machine.Key.TheVariants as key
 use Rattle.wb_eval.specs.declared.machine.Machine.{Machine}
 use Rattle.wb_eval_memo.specs.declared.memo.Memo.{Memo}
 use Rattle.wb_eval_memo.specs.declared.sites.Origin.{Origin}
-use Rattle.wb_eval.specs.declared.work.Task.{Task}
 
 -- the site has this tree
 abbrev pub HasTree : Memo → ℕ → TreeId → Type 0
@@ -87,8 +87,7 @@ pub record IsBlank (root : TreeId) (attribute : ℕ) (m : Machine) : Type 0 wher
   pub its_trees : m.memo.trees.items ≡ Some root ∷ []
   pub values : m.memo.values.items ≡ []
   pub stack : m.stack.items ≡ []
-  pub frames : waits m.frames ≡ []
-  pub piled : IsPiled m.frames
+  pub frames : m.frames.items ≡ []
   pub entered : m.entered ≡ 0
 
 module _ (a : AttributionParts) (operations : Operations) (trees : List Tree) where
@@ -117,31 +116,38 @@ module _ (a : AttributionParts) (operations : Operations) (trees : List Tree) wh
     pub inherited : (site x : ℕ) (v : Value) → site ≤ count m → Goes a Inherited x → recall m site x ≡ Some v
         → IsValueOf top all (inherited_at (path_in m site) x) v
 
-  -- an expression at a site waits: the tasks that are left, on these values, are what is left of the instance's walk
-  pub record IsSuspended (top : Tree) (attribute : ℕ) (all : List Instance) (m : Memo) (i : Instance) (site : ℕ) (nodes : List Node)
-      (tasks : List Task) (values : List Value) : Type 0 where
+  -- an expression at a site waits for an instance, which the first instruction of its code reads; its code on these values is what is left
+  -- of the walk of its own instance
+  pub record IsSuspended (top : Tree) (attribute : ℕ) (all : List Instance) (m : Memo) (i r : Instance) (site : ℕ)
+      (code : List Instruction) (values : List Value) : Type 0 where
     pub id : TreeId
     pub has : HasTree m site id
     pub there : site ≤ count m
     pub production : Production
     pub is : IsProduction a (production_of (tree_in trees id.0)) production
-    pub jobs : List Job
-    pub stacked : Stacked operations.signatures nodes tasks [] jobs
     pub kinds : List Kind
     pub inside : All (IsIn (length trees)) values
     pub values_fit : ValuesFit a.signatures (stack_of trees values) kinds
-    pub jobs_fit : JobsFit a operations production jobs kinds
+    pub code_fits : CodeFits a operations production code 0 kinds
     pub come : HasCome a operations top attribute all i
-        (resume operations (path_in m site) (children_of (tree_in trees id.0)) jobs (stack_of trees values))
+        (resume operations (path_in m site) (children_of (tree_in trees id.0)) code 0 (stack_of trees values))
+    pub expression : Expression
+    pub way : Way
+    pub rest : List Instruction
+    pub code_is : code ≡ does (visit expression) way ∷ rest
+    pub reads : (next : Rattle.wb_values.specs.Tree.Value → Walk)
+        → walk_expression operations (path_in m site) (children_of (tree_in trees id.0)) expression next ≡ read r next
 
-  -- each key has an expression that waits or none, and it is that of the key's instance
+  -- each key but the last has an expression that waits or none, and it is that of the key's instance and waits for that of the next key
   pub record AreSuspended (top : Tree) (attribute : ℕ) (all : List Instance) (m : Memo) (keys : List Key)
-      (frames : List (Option Wait)) : Type 0 where
-    pub count : length frames ≡ length keys
-    pub each : (i : ℕ) (k : Key) (f : Wait) → slice_get keys i ≡ Some k → slice_get frames i ≡ Some (Some f)
-        → IsKey m k × IsSuspended top attribute all m (named m k) f.site f.nodes f.tasks f.values
+      (waits : List (Option Wait)) : Type 0 where
+    pub count : suc (length waits) ≡ length keys
+    pub each : (i : ℕ) (k l : Key) (w : Wait) → slice_get keys i ≡ Some k → slice_get keys (suc i) ≡ Some l
+        → slice_get waits i ≡ Some (Some w)
+        → IsKey m k × IsKey m l × IsSuspended top attribute all m (named m k) (named m l) w.site w.code w.values
 
-  pub record IsMachine (m : Machine) : Type 0 where
+  -- the values below are those of all that wait
+  pub record IsMachine (under : List Value) (m : Machine) : Type 0 where
     pub top : Tree
     pub root_inside : m.root.0 < length trees
     pub root_is : tree_in trees m.root.0 ≡ top
@@ -155,8 +161,10 @@ module _ (a : AttributionParts) (operations : Operations) (trees : List Tree) wh
     pub memo : IsMemo top all m.memo
     pub complete : (r : Instance) → Contains all r → Contains (this ∷ waiting) r ⊎ IsRecalled m.memo r
     pub stack : AreNamed m.memo m.stack.items [] (this ∷ waiting)
-    pub frames : AreSuspended top m.attribute all m.memo m.stack.items (waits m.frames)
-    pub piled : IsPiled m.frames
+    pub waits : List (Option Wait)
+    pub frames : AreWaits m.frames.items waits
+    pub piled_is : under ≡ piled waits
+    pub suspended : AreSuspended top m.attribute all m.memo m.stack.items waits
 
   -- an attribute can be evaluated, and no instance was entered
   pub record IsFresh (m : Machine) : Type 0 where
@@ -166,19 +174,19 @@ module _ (a : AttributionParts) (operations : Operations) (trees : List Tree) wh
     pub blank : IsBlank m.root m.attribute m
 
   -- the walk of the instance at work has come to this
-  pub record Runs (m : Machine) (w : Walk) : Type 0 where
-    pub machine : IsMachine m
+  pub record Runs (under : List Value) (m : Machine) (w : Walk) : Type 0 where
+    pub machine : IsMachine under m
     pub come : HasCome a operations machine.top m.attribute machine.all machine.this w
 
   -- it reads the instance of the key, which wasn't entered
-  pub record Wants (m : Machine) (k : Key) : Type 0 where
+  pub record Wants (under : List Value) (m : Machine) (k : Key) : Type 0 where
     pub next : Rattle.wb_values.specs.Tree.Value → Walk
-    pub runs : Runs m (read (named m.memo k) next)
+    pub runs : Runs under m (read (named m.memo k) next)
     pub is_key : IsKey m.memo k
     pub fresh : ¬ Contains runs.machine.all (named m.memo k)
 
   -- a memo that knows what the other does, and the value of the instance at work
-  pub record IsKeptIn (m : Machine) (r : IsMachine m) (new : Memo) : Type 0 where
+  pub record IsKeptIn (under : List Value) (m : Machine) (r : IsMachine under m) (new : Memo) : Type 0 where
     pub memo : IsMemo r.top r.all new
     pub recalled : (i : Instance) → IsRecalled m.memo i → IsRecalled new i
     pub this_recalled : IsRecalled new r.this
@@ -193,11 +201,6 @@ module _ (a : AttributionParts) (operations : Operations) (trees : List Tree) wh
 abbrev pub with_memo : Machine → Memo → Machine
 with_memo m memo = record { memo = memo; root = m.root; attribute = m.attribute; stack = m.stack; frames = m.frames; entered = m.entered }
 
--- a machine with other frames
-abbrev pub with_frames : Machine → Frames → Machine
-with_frames m frames =
-    record { memo = m.memo; root = m.root; attribute = m.attribute; stack = m.stack; frames = frames; entered = m.entered }
-
 -- two machines have the same instances on the stack, and ask the same
 pub record IsSame (old new : Machine) : Type 0 where
   pub root : new.root ≡ old.root
@@ -210,15 +213,23 @@ pub record IsSteady (old new : Machine) : Type 0 where
   pub same : IsSame old new
   pub frames : new.frames ≡ old.frames
 
--- the instance of a key was entered above those on the stack, and has no expression that waits
-pub record HasMore (old new : Machine) (k : Key) : Type 0 where
+-- the instance of a key was entered above those on the stack, and what waited for it has this frame or none
+pub record HasMore (old new : Machine) (k : Key) (frame : Option Frame) : Type 0 where
   pub memo : new.memo ≡ old.memo
   pub root : new.root ≡ old.root
   pub attribute : new.attribute ≡ old.attribute
   pub stack : new.stack.items ≡ old.stack.items ++ k ∷ []
   pub entered : new.entered ≡ old.entered + 1
-  pub frames : waits new.frames ≡ waits old.frames ++ None ∷ []
-  pub piled : IsPiled new.frames
+  pub frames : new.frames.items ≡ old.frames.items ++ frame ∷ []
+
+-- so it was, where none waited
+pub record IsFirst (old new : Machine) (k : Key) : Type 0 where
+  pub memo : new.memo ≡ old.memo
+  pub root : new.root ≡ old.root
+  pub attribute : new.attribute ≡ old.attribute
+  pub stack : new.stack.items ≡ old.stack.items ++ k ∷ []
+  pub entered : new.entered ≡ old.entered + 1
+  pub frames : new.frames ≡ old.frames
 
 -- the value of an attribute at a site is kept, and nothing else has changed
 pub record IsAttributeSet (old new : Memo) (site x : ℕ) (v : Value) : Type 0 where

@@ -4,6 +4,7 @@ use Rattle.wb_base.specs.Different.{Differ}
 use Rattle.wb_operations.specs.Operations.{Operations, IsPlainSignature, names_of}
 use Rattle.wb_syntax_resolved.specs.declared.attribution.AttributionParts.{AttributionParts}
 use Rattle.wb_syntax_resolved.specs.declared.production.Production.{Production}
+use Rattle.wb_eval_rules.specs.Codes.{AreCoded}
 use Rattle.wb_eval_rules.specs.Indexes.{AreIndexes}
 use Rattle.wb_values.specs.ValuesIn.{tree_in}
 use Rattle.wb_eval_theory.specs.Evaluable.{IsEvaluable, IsAsked}
@@ -84,4 +85,9 @@ returns-in_err-rules-clause-store g c = same_store c.args.store.now
 
 pub evaluate_root-answer-requires-clause-rules : goal.evaluate_root-answer-requires-clause-rules
 evaluate_root-answer-requires-clause-rules g c =
-    subst (λ (ps : List Production). AreIndexes ps c.in_ok-rules.rules.rows.items) c.as_slice.ensures c.in_ok-rules.ensures
+    subst (λ (ps : List Production). AreIndexes ps c.in_ok-rules.rules.rows.items) c.as_slice.ensures c.in_ok-rules.ensures.indexes
+
+pub evaluate_root-answer-requires-clause-coded : goal.evaluate_root-answer-requires-clause-coded
+evaluate_root-answer-requires-clause-coded g c =
+    subst (λ (ps : List Production). AreCoded c.args.operations.now.signatures ps c.in_ok-rules.rules.codes.items) c.as_slice.ensures
+    c.in_ok-rules.ensures.coded

@@ -29,3 +29,6 @@ returns-clause-answered g c =
 
 pub returns-clause-store : goal.returns-clause-store
 returns-clause-store g c = c.take_turns-answer.ensures.store
+
+pub take_turns-answer-requires-clause-coded : goal.take_turns-answer-requires-clause-coded
+take_turns-answer-requires-clause-coded g c = c.requires.coded

@@ -6,5 +6,5 @@ use Rattle.wb_eval.proofs.expression.read.Goals as goal
 pub returns-in-Some : goal.returns-in-Some
 returns-in-Some c =
     IfOk-weaker c.visit_value.result _ _
-    (read_pushed c.args.machine.now c.args.work.now c.visit_value.new.work c.args.key c.in-Some.value
+    (read_pushed c.args.machine.now c.args.values.now.items c.visit_value.new.values.items c.args.key c.in-Some.value
     (sym c.in_ok-value.ensures ∙ c.in-Some.is)) c.visit_value.ensures

@@ -1,60 +1,117 @@
-use Rattle.std.proofs.Common.{◌∙◌, rules, subst, arith, ◌-◌, ◌∷◌, [], List, length, sym}
-use Rattle.wb_eval.proofs.StartLemmas.{at_work, started, stack_some, starts, next_other}
-use Rattle.wb_values.specs.declared.value.Value.{Value}
-use Rattle.wb_eval.specs.Inner.Starts.{IsStart, IsNext}
+use Rattle.std.proofs.Common.{rules, ◌∙◌, ◌≡◌, ◌-◌, List, length, subst, sym, arith}
+use Rattle.std.proofs.lemmas.Result.{IfOk-weaker}
+use Rattle.wb_operations.specs.Operations.{Operations}
+use Rattle.wb_eval_rules.specs.Code.{Instruction, instructions}
+use Rattle.wb_eval.proofs.ForwardLemmas.{alone_ran}
+use Rattle.wb_eval.proofs.PerformLemmas.{drop_none}
+use Rattle.wb_eval.proofs.StartLemmas.{at_work, stack_some, starts}
+use Rattle.wb_eval.proofs.SteadyLemmas.{same_machine, same_store}
+use Rattle.wb_eval.specs.Inner.Starts.{IsStart}
 use Rattle.wb_eval.specs.Inner.Works.{IsEvaluating}
-use Rattle.wb_eval.specs.declared.start.Start.{Start}
-use Rattle.wb_eval.specs.declared.work.Task.{Task}
-use Rattle.wb_eval.specs.declared.work.Task.TheVariants as task
 use Rattle.wb_eval.proofs.run.begin.Goals as goal
 
-pub start_of-start-requires-clause-works : goal.start_of-start-requires-clause-works
-start_of-start-requires-clause-works c =
-    let (operations, whole) = c.requires.whole in
-    (operations, at_work whole c.index.result.now (search rules))
-
-pub start_of-start-requires-clause-rules : goal.start_of-start-requires-clause-rules
-start_of-start-requires-clause-rules c = c.requires.rules
-
-pub overflow_sub-at : goal.overflow_sub-at
-overflow_sub-at c =
-    let some = stack_some c.requires.whole.1 in
-    let is = c.len-at.ensures in
-    let count = c.args.machine.now.stack.ok.0 in
-    omega (arith, some, is, count)
-
-pub index-requires : goal.index-requires
-index-requires c =
-    let some = stack_some c.requires.whole.1 in
-    let is = c.len-at.ensures in
-    let count = c.args.machine.now.stack.ok.0 in
-    omega (arith, some, is, count)
-
 pub overflow_sub-last : goal.overflow_sub-last
-overflow_sub-last c =
-    let (operations, whole) = c.requires.whole in
-    let starting = subst (IsStart c.args.definitions.now.attributes.now operations c.args.store.now c.args.machine.now) c.in-Expression.is
-    (started whole c.index.result.now c.len-at.result (c.len-at.ensures ∙ c.args.machine.now.stack.ok.0) c.index.ensures
-    c.start_of-start.result c.start_of-start.ensures) in
-    (starts c.in-Expression.site c.in-Expression.nodes.now starting).0
+overflow_sub-last g c =
+    let some = stack_some c.requires.whole in
+    let is = c.len-last.ensures in
+    let count = c.args.evaluation.now.machine.stack.ok.0 in
+    omega (arith, some, is, count)
 
-pub returns-in_ok-start-in-Expression : goal.returns-in_ok-start-in-Expression
-returns-in_ok-start-in-Expression c = λ operations whole.
-    let a = c.args.definitions.now.attributes.now in
-    let starting = subst (IsStart a operations c.args.store.now c.args.machine.now) c.in-Expression.is
-    (started whole c.index.result.now c.len-at.result (c.len-at.ensures ∙ c.args.machine.now.stack.ok.0) c.index.ensures
-    c.start_of-start.result c.start_of-start.ensures) in
-    let begun = c.in_ok-start-in-Expression.ensures in
-    subst (λ (s : Start). IsNext a operations c.args.store.now c.args.machine.now c.start.new.self s) (sym c.in-Expression.is)
-    (subst (λ (ts : List Task). IsEvaluating a operations c.args.store.now c.args.machine.now
-    c.in-Expression.site c.in-Expression.nodes.now ts c.start.new.self.values.items) (sym begun.tasks)
-    (subst (λ (vs : List Value). IsEvaluating a operations c.args.store.now c.args.machine.now
-    c.in-Expression.site c.in-Expression.nodes.now (task.Visit (length c.in-Expression.nodes.now - 1) ∷ []) vs) (sym begun.values)
-    (starts c.in-Expression.site c.in-Expression.nodes.now starting).1))
+pub index-key-requires : goal.index-key-requires
+index-key-requires g c =
+    let some = stack_some c.requires.whole in
+    let is = c.len-last.ensures in
+    let count = c.args.evaluation.now.machine.stack.ok.0 in
+    omega (arith, some, is, count)
 
-pub returns-in_default : goal.returns-in_default
-returns-in_default c = λ operations whole.
-    next_other c.args.definitions.now.attributes.now operations c.args.store.now c.args.machine.now c.args.work.now
-    c.start_of-start.result c.in_default.not-Expression
-    (started whole c.index.result.now c.len-at.result (c.len-at.ensures ∙ c.args.machine.now.stack.ok.0) c.index.ensures
-    c.start_of-start.result c.start_of-start.ensures)
+pub start_of-requires-clause-works : goal.start_of-requires-clause-works
+start_of-requires-clause-works g c = (_, _, at_work c.requires.whole c.index-key.result.now (search rules))
+
+pub start_of-requires-clause-rules : goal.start_of-requires-clause-rules
+start_of-requires-clause-rules g c = c.requires.rules
+
+pub start_of-requires-clause-coded : goal.start_of-requires-clause-coded
+start_of-requires-clause-coded g c = (_, c.requires.coded)
+
+pub evaluate_code-requires-clause-evaluating : goal.evaluate_code-requires-clause-evaluating
+evaluate_code-requires-clause-evaluating g c =
+    let a = c.args.context.now.definitions.attributes.now in
+    let operations : Operations = record { signatures = c.args.context.now.operations.now.signatures; meaning = g.M.Meaning.meaning } in
+    let m = c.args.evaluation.now in
+    let starting = c.start_of.ensures operations m.values.items
+    (at_work c.requires.whole c.index-key.result.now (search rules)) c.requires.coded in
+    let it = subst (IsStart a operations c.args.store.now m.values.items m.machine) c.in-Expression.is starting in
+    subst (λ (l : List Instruction). IsEvaluating a operations c.args.store.now m.machine c.in-Expression.site l m.values.items)
+    (sym (drop_none (instructions c.in-Expression.code.now)))
+    (starts c.in-Expression.site (instructions c.in-Expression.code.now) it)
+
+pub evaluate_code-requires-clause-kept : goal.evaluate_code-requires-clause-kept
+evaluate_code-requires-clause-kept g c = c.requires.kept
+
+pub read_alone-requires-clause-whole : goal.read_alone-requires-clause-whole
+read_alone-requires-clause-whole g c = c.requires.whole.memo.whole
+
+pub read_alone-requires-clause-key : goal.read_alone-requires-clause-key
+read_alone-requires-clause-key g c =
+    let a = c.args.context.now.definitions.attributes.now in
+    let operations : Operations = record { signatures = c.args.context.now.operations.now.signatures; meaning = g.M.Meaning.meaning } in
+    let m = c.args.evaluation.now in
+    let starting = c.start_of.ensures operations m.values.items
+    (at_work c.requires.whole c.index-key.result.now (search rules)) c.requires.coded in
+    let it = subst (IsStart a operations c.args.store.now m.values.items m.machine) c.in-Read.is starting in
+    it.is_key
+
+pub run_forward-requires : goal.run_forward-requires
+run_forward-requires g c =
+    let a = c.args.context.now.definitions.attributes.now in
+    let operations : Operations = record { signatures = c.args.context.now.operations.now.signatures; meaning = g.M.Meaning.meaning } in
+    let m = c.args.evaluation.now in
+    let starting = c.start_of.ensures operations m.values.items
+    (at_work c.requires.whole c.index-key.result.now (search rules)) c.requires.coded in
+    let it = subst (IsStart a operations c.args.store.now m.values.items m.machine) c.in-Forward.is starting in
+    record { forwarding = (_, _, _, it) }
+
+pub returns-in-Expression-clause-ran : goal.returns-in-Expression-clause-ran
+returns-in-Expression-clause-ran g c = c.evaluate_code.ensures.ran
+
+pub returns-in-Expression-clause-store : goal.returns-in-Expression-clause-store
+returns-in-Expression-clause-store g c = c.evaluate_code.ensures.store
+
+pub returns-in-Read-clause-ran : goal.returns-in-Read-clause-ran
+returns-in-Read-clause-ran g c =
+    let a = c.args.context.now.definitions.attributes.now in
+    let operations : Operations = record { signatures = c.args.context.now.operations.now.signatures; meaning = g.M.Meaning.meaning } in
+    let m = c.args.evaluation.now in
+    let starting = c.start_of.ensures operations m.values.items
+    (at_work c.requires.whole c.index-key.result.now (search rules)) c.requires.coded in
+    let it = subst (IsStart a operations c.args.store.now m.values.items m.machine) c.in-Read.is starting in
+    IfOk-weaker c.read_alone.result _ _ (λ r read. (same_machine m.machine, alone_ran c.in-Read.key it r read)) c.read_alone.ensures
+
+pub returns-in-Read-clause-store : goal.returns-in-Read-clause-store
+returns-in-Read-clause-store g c = same_store c.args.store.now
+
+pub returns-in-Forward-clause-ran : goal.returns-in-Forward-clause-ran
+returns-in-Forward-clause-ran g c =
+    let a = c.args.context.now.definitions.attributes.now in
+    let operations : Operations = record { signatures = c.args.context.now.operations.now.signatures; meaning = g.M.Meaning.meaning } in
+    let m = c.args.evaluation.now in
+    let starting = c.start_of.ensures operations m.values.items
+    (at_work c.requires.whole c.index-key.result.now (search rules)) c.requires.coded in
+    let it = subst (IsStart a operations c.args.store.now m.values.items m.machine) c.in-Forward.is starting in
+    c.run_forward.ensures a operations m.values.items it
+
+pub returns-in-Forward-clause-store : goal.returns-in-Forward-clause-store
+returns-in-Forward-clause-store g c = same_store c.args.store.now
+
+pub returns-in-Needs-clause-ran : goal.returns-in-Needs-clause-ran
+returns-in-Needs-clause-ran g c =
+    let a = c.args.context.now.definitions.attributes.now in
+    let operations : Operations = record { signatures = c.args.context.now.operations.now.signatures; meaning = g.M.Meaning.meaning } in
+    let m = c.args.evaluation.now in
+    let starting = c.start_of.ensures operations m.values.items
+    (at_work c.requires.whole c.index-key.result.now (search rules)) c.requires.coded in
+    let it = subst (IsStart a operations c.args.store.now m.values.items m.machine) c.in-Needs.is starting in
+    (same_machine m.machine, it)
+
+pub returns-in-Needs-clause-store : goal.returns-in-Needs-clause-store
+returns-in-Needs-clause-store g c = same_store c.args.store.now

@@ -1,104 +1,90 @@
-use Rattle.std.proofs.Common.{subst}
-use Rattle.std.proofs.lemmas.Result.{IfOk-weaker}
+use Rattle.std.proofs.Common.{rules, ◌≡◌, ◌<◌, ◌+◌, ◌^◌, get_or, length, subst, sym, arith}
 use Rattle.wb_operations.specs.Operations.{Operations}
-use Rattle.wb_eval.proofs.ForwardLemmas.{alone_ran}
-use Rattle.wb_eval.proofs.SteadyLemmas.{run_through, same_store}
-use Rattle.wb_eval.specs.Inner.Starts.{IsResumed}
+use Rattle.wb_eval.proofs.PerformLemmas.{followed, going_here, truth_for}
+use Rattle.wb_eval_rules.specs.declared.code.Op.{Op}
+use Rattle.wb_eval.specs.Inner.Works.{HasTruthFor, IsFollowed, IsTurn}
 use Rattle.wb_eval.proofs.run.run.Goals as goal
 
-pub resume-requires-clause-whole : goal.resume-requires-clause-whole
-resume-requires-clause-whole g c = (_, c.requires.whole)
+pub bounds-frame-frame : goal.bounds-frame-frame
+bounds-frame-frame g c =
+    let a = c.args.context.now.definitions.attributes.now in
+    let operations : Operations = record { signatures = c.args.context.now.operations.now.signatures; meaning = g.M.Meaning.meaning } in
+    let m = c.args.evaluation.now in
+    let f = c.in-Some.frame in
+    let turn = subst (IsTurn a operations c.args.store.now m.machine m.values.items) c.in-Some.is c.requires.turn in
+    turn.at_within
 
-pub resume-requires-clause-rules : goal.resume-requires-clause-rules
-resume-requires-clause-rules g c = c.requires.rules
+pub offset_bounds-frame-frame : goal.offset_bounds-frame-frame
+offset_bounds-frame-frame g c =
+    let a = c.args.context.now.definitions.attributes.now in
+    let operations : Operations = record { signatures = c.args.context.now.operations.now.signatures; meaning = g.M.Meaning.meaning } in
+    let m = c.args.evaluation.now in
+    let f = c.in-Some.frame in
+    let turn = subst (IsTurn a operations c.args.store.now m.machine m.values.items) c.in-Some.is c.requires.turn in
+    let within : f.at < length f.code.now = turn.at_within in
+    search rules
 
-pub evaluate_tasks-requires-clause-evaluating : goal.evaluate_tasks-requires-clause-evaluating
-evaluate_tasks-requires-clause-evaluating g c =
-    let context = c.args.context.now in
-    let operations : Operations = record { signatures = context.operations.now.signatures; meaning = g.M.Meaning.meaning } in
-    let (same, none, next) = subst (IsResumed context.definitions.attributes.now operations c.args.store.now c.args.evaluation.now.machine
-    c.resume.new.evaluation.machine c.resume.new.evaluation.work) c.in-Expression.is (c.in_ok-next.ensures operations c.requires.whole) in
-    next
+pub follow-at-requires-clause-room : goal.follow-at-requires-clause-room
+follow-at-requires-clause-room g c =
+    let a = c.args.context.now.definitions.attributes.now in
+    let operations : Operations = record { signatures = c.args.context.now.operations.now.signatures; meaning = g.M.Meaning.meaning } in
+    let m = c.args.evaluation.now in
+    let f = c.in-Some.frame in
+    let turn = subst (IsTurn a operations c.args.store.now m.machine m.values.items) c.in-Some.is c.requires.turn in
+    let within : f.at < length f.code.now = turn.at_within in
+    search rules
 
-pub evaluate_tasks-requires-clause-none : goal.evaluate_tasks-requires-clause-none
-evaluate_tasks-requires-clause-none g c = (c.in_ok-next.ensures _ c.requires.whole).1
+pub follow-at-requires-clause-truth : goal.follow-at-requires-clause-truth
+follow-at-requires-clause-truth g c =
+    let a = c.args.context.now.definitions.attributes.now in
+    let operations : Operations = record { signatures = c.args.context.now.operations.now.signatures; meaning = g.M.Meaning.meaning } in
+    let m = c.args.evaluation.now in
+    let f = c.in-Some.frame in
+    let turn = subst (IsTurn a operations c.args.store.now m.machine m.values.items) c.in-Some.is c.requires.turn in
+    let op = c.index-frame-frame.result in
+    subst (λ (o : Op). HasTruthFor o.after m.values.items) c.index-frame-frame.is
+    (truth_for a operations c.args.store.now m.machine f.site op.after _ m.values.items (going_here f m.values.items op turn c.index-frame-frame.is))
 
-pub evaluate_tasks-requires-clause-kept : goal.evaluate_tasks-requires-clause-kept
-evaluate_tasks-requires-clause-kept g c = c.requires.kept
+pub evaluate_code-requires-clause-evaluating : goal.evaluate_code-requires-clause-evaluating
+evaluate_code-requires-clause-evaluating g c =
+    let a = c.args.context.now.definitions.attributes.now in
+    let operations : Operations = record { signatures = c.args.context.now.operations.now.signatures; meaning = g.M.Meaning.meaning } in
+    let m = c.args.evaluation.now in
+    let f = c.in-Some.frame in
+    let turn = subst (IsTurn a operations c.args.store.now m.machine m.values.items) c.in-Some.is c.requires.turn in
+    let op = c.index-frame-frame.result in
+    let short : length f.code.now < 2 ^ 64 = search rules in
+    followed a operations c.args.store.now m.machine f.site f.code.now op.after m.values.items c.follow-at.new.values.items f.at c.follow-at.result short
+    (subst (λ (o : Op). IsFollowed o.after m.values.items c.follow-at.new.values.items f.at c.follow-at.result) (sym c.index-frame-frame.is)
+    c.follow-at.ensures) (going_here f m.values.items op turn c.index-frame-frame.is)
 
-pub read_alone-requires-clause-whole : goal.read_alone-requires-clause-whole
-read_alone-requires-clause-whole g c =
-    let context = c.args.context.now in
-    let operations : Operations = record { signatures = context.operations.now.signatures; meaning = g.M.Meaning.meaning } in
-    let (same, none, next) = subst (IsResumed context.definitions.attributes.now operations c.args.store.now c.args.evaluation.now.machine
-    c.resume.new.evaluation.machine c.resume.new.evaluation.work) c.in-Read.is (c.in_ok-next.ensures operations c.requires.whole) in
-    next.runs.machine.memo.whole
+pub evaluate_code-requires-clause-kept : goal.evaluate_code-requires-clause-kept
+evaluate_code-requires-clause-kept g c = c.requires.kept
 
-pub read_alone-requires-clause-key : goal.read_alone-requires-clause-key
-read_alone-requires-clause-key g c =
-    let context = c.args.context.now in
-    let operations : Operations = record { signatures = context.operations.now.signatures; meaning = g.M.Meaning.meaning } in
-    let (same, none, next) = subst (IsResumed context.definitions.attributes.now operations c.args.store.now c.args.evaluation.now.machine
-    c.resume.new.evaluation.machine c.resume.new.evaluation.work) c.in-Read.is (c.in_ok-next.ensures operations c.requires.whole) in
-    next.is_key
+pub begin-requires-clause-whole : goal.begin-requires-clause-whole
+begin-requires-clause-whole g c =
+    let a = c.args.context.now.definitions.attributes.now in
+    let operations : Operations = record { signatures = c.args.context.now.operations.now.signatures; meaning = g.M.Meaning.meaning } in
+    let m = c.args.evaluation.now in
+    subst (IsTurn a operations c.args.store.now m.machine m.values.items) c.in-None.is c.requires.turn
 
-pub run_forward-requires-clause-forwarding : goal.run_forward-requires-clause-forwarding
-run_forward-requires-clause-forwarding g c =
-    let context = c.args.context.now in
-    let operations : Operations = record { signatures = context.operations.now.signatures; meaning = g.M.Meaning.meaning } in
-    let (same, none, next) = subst (IsResumed context.definitions.attributes.now operations c.args.store.now c.args.evaluation.now.machine
-    c.resume.new.evaluation.machine c.resume.new.evaluation.work) c.in-Forward.is (c.in_ok-next.ensures operations c.requires.whole) in
-    (_, _, next)
+pub begin-requires-clause-rules : goal.begin-requires-clause-rules
+begin-requires-clause-rules g c = c.requires.rules
 
-pub run_forward-requires-clause-none : goal.run_forward-requires-clause-none
-run_forward-requires-clause-none g c = (c.in_ok-next.ensures _ c.requires.whole).1
+pub begin-requires-clause-coded : goal.begin-requires-clause-coded
+begin-requires-clause-coded g c = c.requires.coded
 
-pub returns-in-Expression-clause-ran : goal.returns-in-Expression-clause-ran
-returns-in-Expression-clause-ran g c =
-    let context = c.args.context.now in
-    let operations : Operations = record { signatures = context.operations.now.signatures; meaning = g.M.Meaning.meaning } in
-    IfOk-weaker c.evaluate_tasks.result _ _
-    (run_through context.definitions.attributes.now operations c.evaluate_tasks.new.store c.args.evaluation.now.machine
-    c.resume.new.evaluation.machine c.evaluate_tasks.new.evaluation.machine (c.in_ok-next.ensures operations c.requires.whole).0)
-    c.evaluate_tasks.ensures.ran
+pub begin-requires-clause-kept : goal.begin-requires-clause-kept
+begin-requires-clause-kept g c = c.requires.kept
 
-pub returns-in-Expression-clause-store : goal.returns-in-Expression-clause-store
-returns-in-Expression-clause-store g c = c.evaluate_tasks.ensures.store
+pub returns-in-Some-clause-ran : goal.returns-in-Some-clause-ran
+returns-in-Some-clause-ran g c = c.evaluate_code.ensures.ran
 
-pub returns-in-Read-clause-ran : goal.returns-in-Read-clause-ran
-returns-in-Read-clause-ran g c =
-    let context = c.args.context.now in
-    let operations : Operations = record { signatures = context.operations.now.signatures; meaning = g.M.Meaning.meaning } in
-    let (same, none, next) = subst (IsResumed context.definitions.attributes.now operations c.args.store.now c.args.evaluation.now.machine
-    c.resume.new.evaluation.machine c.resume.new.evaluation.work) c.in-Read.is (c.in_ok-next.ensures operations c.requires.whole) in
-    IfOk-weaker c.read_alone.result _ _ (λ r read. (same, alone_ran c.in-Read.key next none r read)) c.read_alone.ensures
+pub returns-in-Some-clause-store : goal.returns-in-Some-clause-store
+returns-in-Some-clause-store g c = c.evaluate_code.ensures.store
 
-pub returns-in-Read-clause-store : goal.returns-in-Read-clause-store
-returns-in-Read-clause-store g c = same_store c.args.store.now
+pub returns-in-None-clause-ran : goal.returns-in-None-clause-ran
+returns-in-None-clause-ran g c = c.begin.ensures.ran
 
-pub returns-in-Forward-clause-ran : goal.returns-in-Forward-clause-ran
-returns-in-Forward-clause-ran g c =
-    let context = c.args.context.now in
-    let operations : Operations = record { signatures = context.operations.now.signatures; meaning = g.M.Meaning.meaning } in
-    let (same, none, next) = subst (IsResumed context.definitions.attributes.now operations c.args.store.now c.args.evaluation.now.machine
-    c.resume.new.evaluation.machine c.resume.new.evaluation.work) c.in-Forward.is (c.in_ok-next.ensures operations c.requires.whole) in
-    IfOk-weaker c.run_forward.result _ _
-    (run_through context.definitions.attributes.now operations c.args.store.now c.args.evaluation.now.machine
-    c.resume.new.evaluation.machine c.run_forward.new.machine same) (c.run_forward.ensures _ operations next)
-
-pub returns-in-Forward-clause-store : goal.returns-in-Forward-clause-store
-returns-in-Forward-clause-store g c = same_store c.args.store.now
-
-pub returns-in-Needs-clause-ran : goal.returns-in-Needs-clause-ran
-returns-in-Needs-clause-ran g c =
-    let context = c.args.context.now in
-    let operations : Operations = record { signatures = context.operations.now.signatures; meaning = g.M.Meaning.meaning } in
-    let (same, none, next) = subst (IsResumed context.definitions.attributes.now operations c.args.store.now c.args.evaluation.now.machine
-    c.resume.new.evaluation.machine c.resume.new.evaluation.work) c.in-Needs.is (c.in_ok-next.ensures operations c.requires.whole) in
-    (same, next)
-
-pub returns-in-Needs-clause-store : goal.returns-in-Needs-clause-store
-returns-in-Needs-clause-store g c = same_store c.args.store.now
-
-pub returns-in_err-next-clause-store : goal.returns-in_err-next-clause-store
-returns-in_err-next-clause-store g c = same_store c.args.store.now
+pub returns-in-None-clause-store : goal.returns-in-None-clause-store
+returns-in-None-clause-store g c = c.begin.ensures.store

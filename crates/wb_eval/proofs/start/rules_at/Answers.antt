@@ -56,3 +56,23 @@ offset_bounds-productions-number c =
     (number_within c.args.definitions.now.attributes.now c.args.store.now c.args.machine.now c.args.site c.requires.production
     c.tree_at-tree.result c.tree_at-tree.ensures c.production-number.result c.production-number.ensures) in
     search rules
+
+pub index-requires-2 : goal.index-requires-2
+index-requires-2 c =
+    let within = number_within c.args.definitions.now.attributes.now c.args.store.now c.args.machine.now c.args.site c.requires.production
+    c.tree_at-tree.result c.tree_at-tree.ensures c.production-number.result c.production-number.ensures in
+    let count = c.requires.coded.1.count in
+    let rows = c.args.definitions.now.rules.now.codes.ok.0 in
+    omega (arith, within, count, rows)
+
+pub returns-clause-codes : goal.returns-clause-codes
+returns-clause-codes c = λ signatures coded.
+    let productions = c.args.definitions.now.attributes.now.productions in
+    let codes = c.args.definitions.now.rules.now.codes.items in
+    let within = number_within c.args.definitions.now.attributes.now c.args.store.now c.args.machine.now c.args.site c.requires.production
+    c.tree_at-tree.result c.tree_at-tree.ensures c.production-number.result c.production-number.ensures in
+    let count = coded.count in
+    coded.each c.production-number.result c.index-productions-number.result c.index-2.result.now
+    (read_at productions c.as_slice-productions.result.now c.production-number.result c.index-productions-number.result
+    c.as_slice-productions.ensures within c.index-productions-number.is)
+    (read_at codes codes c.production-number.result c.index-2.result.now refl (omega (arith, within, count)) c.index-2.ensures)

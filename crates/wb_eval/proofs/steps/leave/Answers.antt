@@ -1,58 +1,57 @@
-use Rattle.std.proofs.Common.{◌≡◌, ◌∙◌, ◌-◌, Some, length, slice_get, take, refl, sym, ap, subst, arith}
+use Rattle.std.proofs.Common.{◌≡◌, ◌∙◌, ◌-◌, ◌<◌, ◌≢◌, ◌++◌, ◌∷◌, [], suc, Some, length, slice_get, take, refl, sym, ap, subst, arith}
 use Rattle.wb_lemmas.proofs.Places.{at_once, read_at}
-use Rattle.wb_eval.proofs.PileLemmas.{left_piled, left_waits}
+use Rattle.wb_eval.proofs.StepLemmas.{last_key}
 use Rattle.wb_eval.specs.Inner.Machines.{IsKey, IsFor}
-use Rattle.wb_eval.specs.declared.frames.Frames.{Frames}
 use Rattle.wb_eval.specs.declared.machine.Key.{Key}
 use Rattle.wb_eval.proofs.steps.leave.Goals as goal
 
 pub overflow_sub-at : goal.overflow_sub-at
 overflow_sub-at c =
-    let some = c.requires.some in
-    let is = c.len-at.ensures ∙ c.args.machine.now.stack.ok.0 in
-    omega (arith, some, is)
-
-pub index-key-requires : goal.index-key-requires
-index-key-requires c =
-    let some = c.requires.some in
-    let is = c.len-at.ensures in
-    let count = c.args.machine.now.stack.ok.0 in
-    omega (arith, some, is, count)
+    let frames = c.requires.frames in
+    let is = c.len-at.ensures ∙ c.args.evaluation.now.machine.stack.ok.0 in
+    omega (arith, frames, is)
 
 pub keep-requires-clause-whole : goal.keep-requires-clause-whole
 keep-requires-clause-whole c = c.requires.whole
 
 pub keep-requires-clause-there : goal.keep-requires-clause-there
 keep-requires-clause-there c =
-    let keys = c.args.machine.now.stack.items in
-    let some = c.requires.some in
-    let is = c.len-at.ensures ∙ c.args.machine.now.stack.ok.0 in
+    let m = c.args.evaluation.now.machine in
+    let keys = m.stack.items in
+    let frames = c.requires.frames in
+    let is = c.len-at.ensures ∙ m.stack.ok.0 in
     let at : slice_get keys (length keys - 1) ≡ Some c.index-key.result.now =
     ap (λ n. slice_get keys (n - 1)) (sym is)
-    ∙ read_at keys keys (c.len-at.result - 1) c.index-key.result.now refl (omega (arith, some, is)) c.index-key.ensures in
-    subst (IsKey c.args.machine.now.memo) (at_once keys (length keys - 1) _ _ c.requires.last at) c.requires.is_key
+    ∙ read_at keys keys (c.len-at.result - 1) c.index-key.result.now refl (omega (arith, frames, is)) c.index-key.ensures in
+    subst (IsKey m.memo) (at_once keys (length keys - 1) _ _ c.requires.last at) c.requires.is_key
 
 pub keep-requires-clause-tree : goal.keep-requires-clause-tree
 keep-requires-clause-tree c =
-    let keys = c.args.machine.now.stack.items in
-    let some = c.requires.some in
-    let is = c.len-at.ensures ∙ c.args.machine.now.stack.ok.0 in
+    let m = c.args.evaluation.now.machine in
+    let keys = m.stack.items in
+    let frames = c.requires.frames in
+    let is = c.len-at.ensures ∙ m.stack.ok.0 in
     let at : slice_get keys (length keys - 1) ≡ Some c.index-key.result.now =
     ap (λ n. slice_get keys (n - 1)) (sym is)
-    ∙ read_at keys keys (c.len-at.result - 1) c.index-key.result.now refl (omega (arith, some, is)) c.index-key.ensures in
+    ∙ read_at keys keys (c.len-at.result - 1) c.index-key.result.now refl (omega (arith, frames, is)) c.index-key.ensures in
     subst (λ (k : Key). IsFor k c.args.answer) (at_once keys (length keys - 1) _ _ c.requires.last at) c.requires.is_for
 
 pub returns : goal.returns
 returns c =
-    let keys = c.args.machine.now.stack.items in
-    let some = c.requires.some in
-    let is = c.len-at.ensures ∙ c.args.machine.now.stack.ok.0 in
+    let m = c.args.evaluation.now.machine in
+    let keys = m.stack.items in
+    let rows = m.frames.items in
+    let frames = c.requires.frames in
+    let is = c.len-at.ensures ∙ m.stack.ok.0 in
+    let some = c.if-at-eq0.false in
     let at : slice_get keys (length keys - 1) ≡ Some c.index-key.result.now =
     ap (λ n. slice_get keys (n - 1)) (sym is)
-    ∙ read_at keys keys (c.len-at.result - 1) c.index-key.result.now refl (omega (arith, some, is)) c.index-key.ensures in
-    let frames = c.args.machine.now.frames in
-    let shorter : Frames = record { rows = c.truncate-2.new.self; tasks = frames.tasks; values = frames.values } in
-    let rows = c.truncate-2.ensures.items ∙ ap (λ n. take (n - 1) frames.rows.items) (is ∙ sym c.requires.frames) in (
+    ∙ read_at keys keys (c.len-at.result - 1) c.index-key.result.now refl (omega (arith, frames, is)) c.index-key.ensures in
+    let places : c.len-at.result - 1 - 1 ≡ length rows - 1 = omega (arith, frames, is) in
+    let others : length keys ≢ 1 = λ one. some (omega (arith, one, is)) in
+    let last : slice_get rows (length rows - 1) ≡ Some c.index.result.now =
+    ap (slice_get rows) (sym places)
+    ∙ read_at rows rows (c.len-at.result - 1 - 1) c.index.result.now refl (omega (arith, frames, is, some)) c.index.ensures in (
       record {
         key = c.index-key.result.now;
         last = at;
@@ -61,15 +60,16 @@ returns c =
         attribute = refl;
         entered = refl;
         stack = c.truncate.ensures.items ∙ ap (λ n. take (n - 1) keys) is;
-        frames = left_waits frames c.requires.piled c.requires.none shorter rows refl refl;
-        piled = left_piled frames c.requires.piled c.requires.none shorter rows refl refl;
+        frames = sym (last_key rows c.index.result.now last)
+            ∙ ap (λ l. l ++ c.index.result.now ∷ []) (sym (c.truncate-2.ensures.items ∙ ap (λ n. take n rows) places));
+        values = c.in_ok-push_answer.ensures;
       },
-      λ one. c.if-at-eq0.false (omega (arith, one, is)),
+      others,
     )
 
 pub returns-then-at-eq0 : goal.returns-then-at-eq0
 returns-then-at-eq0 c =
-    let some = c.requires.some in
-    let is = c.len-at.ensures ∙ c.args.machine.now.stack.ok.0 in
+    let frames = c.requires.frames in
+    let is = c.len-at.ensures ∙ c.args.evaluation.now.machine.stack.ok.0 in
     let first = c.if-at-eq0.true in
-    (refl, omega (arith, some, is, first))
+    (refl, omega (arith, frames, is, first))

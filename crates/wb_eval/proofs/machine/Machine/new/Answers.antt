@@ -12,7 +12,6 @@ returns c =
       its_trees = e.trees;
       values = e.values;
       stack = c.new-2.ensures.items;
-      frames = c.new-3.ensures.waits;
-      piled = c.new-3.ensures.piled;
+      frames = c.new-3.ensures.items;
       entered = refl;
     }
