@@ -2,13 +2,14 @@
 //!
 //! Where an attribute of a child or local is read, its flow type says which are needed. What the forwarded tree lacks is the top's.
 
-ghost use Rattle.std.specs.Prelude.{◌≡◌, ◌≢◌, ℕ, IfSome, IfNone, Contains};
+ghost use Rattle.std.specs.Prelude.{◌≡◌, ◌≢◌, ◌↔◌, ℕ, IfSome, IfNone, Contains};
 ghost use Rattle.wb_flow_theory.specs.Rules.{IsTreeAt};
 ghost use Rattle.wb_flow_theory.specs.WellDefined.{DefinesBelow};
 ghost use Rattle.wb_complete.specs.Inner.Tests.{DefinesRead, DefinesReads, LacksNeeds, LacksRead, LacksReads};
 ghost use Rattle.wb_complete.specs.Refusals.{LacksBelow};
 ghost use Rattle.wb_base.specs.declared.symbol.Kind.TheVariants.{Tree};
 ghost use Rattle.wb_flow.specs.Occurrences.{IsIndexOf};
+ghost use Rattle.wb_flow.specs.declared.vertex.Vertex.{Vertex};
 ghost use Rattle.wb_flow.specs.Rules.{attribute_at, IsDefined};
 ghost use Rattle.wb_syntax_resolved.specs.Attribution.{IsAttribution};
 ghost use Rattle.wb_syntax_resolved.specs.declared.equation.Equation.{Equation};
@@ -16,37 +17,47 @@ ghost use Rattle.wb_syntax_resolved.specs.declared.production.ChildKind.TheVaria
 ghost use Rattle.wb_syntax_resolved.specs.declared.production.Local.{Local};
 
 use wb_base::Kind;
-use wb_flow::{Scope, Vertex, defines};
+use wb_flow::{Scope, Vertex, VertexSet};
 use wb_syntax_resolved::{ChildKind, Node, Place, Production};
 
-// An inherited attribute of a child or local that the production needs and has no equation for.
-pub(crate) fn lacking_below(scope: &Scope, production: &Production) -> Option<Vertex>
+// An inherited attribute of a child or local that the production needs and has no equation for. It is given for what it has equations.
+pub(crate) fn lacking_below(
+    scope: &Scope,
+    production: &Production,
+    defined: &VertexSet,
+) -> Option<Vertex>
     requires attribution { IsAttribution scope.now.attributes.now }
     requires index { IsIndexOf scope.now.attributes.now.occurrences scope.now.index.now }
+    requires defined { (v : Vertex) → Contains defined.now v ↔ IsDefined production.now v }
     ensures some { IfSome result (LacksBelow scope.now.attributes.now production.now) }
     ensures none { IfNone result (DefinesBelow scope.now.attributes.now production.now) }
 {
-    if let Some(vertex) = lacking_in_equations(scope, production) {
+    if let Some(vertex) = lacking_in_equations(scope, production, defined) {
         return Some(vertex);
     }
-    if let Some(vertex) = lacking_in_locals(scope, production) {
+    if let Some(vertex) = lacking_in_locals(scope, production, defined) {
         return Some(vertex);
     }
     match &production.forward {
-        Some(forward) => lacking_in(scope, production, forward.nodes.as_slice()),
+        Some(forward) => lacking_in(scope, production, defined, forward.nodes.as_slice()),
         None => None,
     }
 }
 
 // One that an equation needs.
-fn lacking_in_equations(scope: &Scope, production: &Production) -> Option<Vertex>
+fn lacking_in_equations(
+    scope: &Scope,
+    production: &Production,
+    defined: &VertexSet,
+) -> Option<Vertex>
     requires attribution { IsAttribution scope.now.attributes.now }
     requires index { IsIndexOf scope.now.attributes.now.occurrences scope.now.index.now }
+    requires defined { (v : Vertex) → Contains defined.now v ↔ IsDefined production.now v }
     ensures some { IfSome result (LacksBelow scope.now.attributes.now production.now) }
     ensures none { IfNone result ((e : Equation) → Contains production.now.equations e → DefinesReads scope.now.attributes.now production.now e.nodes) }
 {
     'equations: for equation in production.equations.as_slice() {
-        if let Some(vertex) = lacking_in(scope, production, equation.nodes.as_slice()) {
+        if let Some(vertex) = lacking_in(scope, production, defined, equation.nodes.as_slice()) {
             return Some(vertex);
         }
     }
@@ -54,14 +65,15 @@ fn lacking_in_equations(scope: &Scope, production: &Production) -> Option<Vertex
 }
 
 // One that the expression of a local needs.
-fn lacking_in_locals(scope: &Scope, production: &Production) -> Option<Vertex>
+fn lacking_in_locals(scope: &Scope, production: &Production, defined: &VertexSet) -> Option<Vertex>
     requires attribution { IsAttribution scope.now.attributes.now }
     requires index { IsIndexOf scope.now.attributes.now.occurrences scope.now.index.now }
+    requires defined { (v : Vertex) → Contains defined.now v ↔ IsDefined production.now v }
     ensures some { IfSome result (LacksBelow scope.now.attributes.now production.now) }
     ensures none { IfNone result ((l : Local) → Contains production.now.locals l → DefinesReads scope.now.attributes.now production.now l.nodes) }
 {
     'locals: for local in production.locals.as_slice() {
-        if let Some(vertex) = lacking_in(scope, production, local.nodes.as_slice()) {
+        if let Some(vertex) = lacking_in(scope, production, defined, local.nodes.as_slice()) {
             return Some(vertex);
         }
     }
@@ -69,14 +81,20 @@ fn lacking_in_locals(scope: &Scope, production: &Production) -> Option<Vertex>
 }
 
 // One that a node of an expression needs.
-fn lacking_in(scope: &Scope, production: &Production, nodes: &[Node]) -> Option<Vertex>
+fn lacking_in(
+    scope: &Scope,
+    production: &Production,
+    defined: &VertexSet,
+    nodes: &[Node],
+) -> Option<Vertex>
     requires attribution { IsAttribution scope.now.attributes.now }
     requires index { IsIndexOf scope.now.attributes.now.occurrences scope.now.index.now }
+    requires defined { (v : Vertex) → Contains defined.now v ↔ IsDefined production.now v }
     ensures some { IfSome result (LacksReads scope.now.attributes.now production.now nodes.now) }
     ensures none { IfNone result (DefinesReads scope.now.attributes.now production.now nodes.now) }
 {
     'nodes: for node in nodes {
-        if let Some(vertex) = lacking_at(scope, production, node) {
+        if let Some(vertex) = lacking_at(scope, production, defined, node) {
             return Some(vertex);
         }
     }
@@ -84,9 +102,15 @@ fn lacking_in(scope: &Scope, production: &Production, nodes: &[Node]) -> Option<
 }
 
 // One that this node needs.
-fn lacking_at(scope: &Scope, production: &Production, node: &Node) -> Option<Vertex>
+fn lacking_at(
+    scope: &Scope,
+    production: &Production,
+    defined: &VertexSet,
+    node: &Node,
+) -> Option<Vertex>
     requires attribution { IsAttribution scope.now.attributes.now }
     requires index { IsIndexOf scope.now.attributes.now.occurrences scope.now.index.now }
+    requires defined { (v : Vertex) → Contains defined.now v ↔ IsDefined production.now v }
     ensures some { IfSome result (LacksRead scope.now.attributes.now production.now node.now) }
     ensures none { IfNone result (DefinesRead scope.now.attributes.now production.now node.now) }
 {
@@ -96,17 +120,28 @@ fn lacking_at(scope: &Scope, production: &Production, node: &Node) -> Option<Ver
     let Some(nonterminal) = nonterminal_at(production, *label) else {
         return None;
     };
-    lacking_of(production, *label, scope.needs(*attribute, nonterminal))
+    lacking_of(
+        production,
+        defined,
+        *label,
+        scope.needs(*attribute, nonterminal),
+    )
 }
 
 // One of these of a child or local that has no equation.
-fn lacking_of(production: &Production, at: Place, needs: &[usize]) -> Option<Vertex>
+fn lacking_of(
+    production: &Production,
+    defined: &VertexSet,
+    at: Place,
+    needs: &[usize],
+) -> Option<Vertex>
+    requires defined { (v : Vertex) → Contains defined.now v ↔ IsDefined production.now v }
     ensures some { IfSome result (LacksNeeds production.now at needs.now) }
     ensures none { IfNone result ((i : ℕ) → Contains needs.now i → IsDefined production.now (attribute_at at i)) }
 {
     'needs: for &inherited in needs {
         let vertex = inherited_at(at, inherited);
-        if !defines(production, vertex) {
+        if !defined.contains(vertex) {
             return Some(vertex);
         }
     }

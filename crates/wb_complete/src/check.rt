@@ -12,8 +12,8 @@ ghost use Rattle.wb_syntax_resolved.specs.Attribution.{IsAttribution};
 
 use crate::below::lacking_below;
 use crate::top::lacking_top;
-use std::alloc::Global;
-use wb_flow::{AttributeRefusal, OccurrenceIndex, Scope, Vertex};
+use std::alloc::{AllocError, Global};
+use wb_flow::{AttributeRefusal, OccurrenceIndex, Scope, Vertex, defined_vertices};
 use wb_syntax_resolved::{Attribution, Production};
 
 /// Whether a start has no inherited attribute, an extension's productions on the host's nonterminals forward, each production has an
@@ -21,8 +21,7 @@ use wb_syntax_resolved::{Attribution, Production};
 /// one in its flow type has an equation.
 ///
 /// The extension is given by its owner's number, and by none for a host. Rules are tested in this order, each on all productions. The time
-/// is about linear in the attribution and, for each production, in its reads, what their flow types have, and its equations; no clause
-/// bounds it.
+/// is about linear in the attribution and, for each production, in what the flow types of its reads have; no clause bounds it.
 pub fn check_complete(
     alloc: Global,
     attributes: &Attribution,
@@ -35,6 +34,7 @@ pub fn check_complete(
     let parts = attributes.parts();
     let index = OccurrenceIndex::new(alloc, parts)?;
     let answer = check_in(
+        alloc,
         &Scope {
             attributes: parts,
             index: &index,
@@ -48,6 +48,7 @@ pub fn check_complete(
 
 // Like `check_complete`, where occurrences are by nonterminal.
 fn check_in(
+    alloc: Global,
     scope: &Scope,
     start: Option<usize>,
     extension: Option<usize>,
@@ -63,13 +64,13 @@ fn check_in(
     if let Some(production) = without_forward(scope, extension) {
         return Err(AttributeRefusal::NoForward(production));
     }
-    if let Some((production, attribute)) = without_equation(scope) {
+    if let Some((production, attribute)) = without_equation(alloc, scope)? {
         return Err(AttributeRefusal::NoEquation {
             production,
             attribute,
         });
     }
-    if let Some((production, vertex)) = without_inherited(scope) {
+    if let Some((production, vertex)) = without_inherited(alloc, scope)? {
         return Err(AttributeRefusal::NoInherited { production, vertex });
     }
     Ok(())
@@ -123,33 +124,69 @@ fn is_bridging(scope: &Scope, extension: usize, production: &Production) -> bool
 }
 
 // A production with a synthesized attribute of its left side that it lacks an equation for, where it doesn't forward.
-fn without_equation(scope: &Scope) -> Option<(usize, usize)>
+fn without_equation(alloc: Global, scope: &Scope) -> Result<Option<(usize, usize)>, AllocError>
     requires attribution { IsAttribution scope.now.attributes.now }
     requires index { IsIndexOf scope.now.attributes.now.occurrences scope.now.index.now }
-    ensures some { IfSome result (λ found. IsSo scope.now.attributes.now found.0 (λ production. LacksTop scope.now.attributes.now production found.1)) }
-    ensures none { IfNone result (EachProduction scope.now.attributes.now (DefinesTop scope.now.attributes.now)) }
+    ensures some { IfOk result (λ o. IfSome o (λ found. IsSo scope.now.attributes.now found.0 (λ production. LacksTop scope.now.attributes.now production found.1))) }
+    ensures none { IfOk result (λ o. IfNone o (EachProduction scope.now.attributes.now (DefinesTop scope.now.attributes.now))) }
 {
     let productions = scope.attributes.productions.as_slice();
     'productions: for number in 0..productions.len() {
-        if let Some(attribute) = lacking_top(scope, &productions[number]) {
-            return Some((number, attribute));
+        let found = top_of(alloc, scope, &productions[number])?;
+        if let Some(attribute) = found {
+            return Ok(Some((number, attribute)));
         }
     }
-    None
+    Ok(None)
+}
+
+// Like `lacking_top`, where it isn't known for what there are equations.
+fn top_of(
+    alloc: Global,
+    scope: &Scope,
+    production: &Production,
+) -> Result<Option<usize>, AllocError>
+    requires attribution { IsAttribution scope.now.attributes.now }
+    requires index { IsIndexOf scope.now.attributes.now.occurrences scope.now.index.now }
+    ensures some { IfOk result (λ o. IfSome o (LacksTop scope.now.attributes.now production.now)) }
+    ensures none { IfOk result (λ o. IfNone o (DefinesTop scope.now.attributes.now production.now)) }
+{
+    let defined = defined_vertices(alloc, production)?;
+    let found = lacking_top(scope, production, &defined);
+    drop(defined);
+    Ok(found)
 }
 
 // A production with an inherited attribute one step down that is needed and that it lacks an equation for.
-fn without_inherited(scope: &Scope) -> Option<(usize, Vertex)>
+fn without_inherited(alloc: Global, scope: &Scope) -> Result<Option<(usize, Vertex)>, AllocError>
     requires attribution { IsAttribution scope.now.attributes.now }
     requires index { IsIndexOf scope.now.attributes.now.occurrences scope.now.index.now }
-    ensures some { IfSome result (λ found. IsSo scope.now.attributes.now found.0 (λ production. LacksBelow scope.now.attributes.now production found.1)) }
-    ensures none { IfNone result (EachProduction scope.now.attributes.now (DefinesBelow scope.now.attributes.now)) }
+    ensures some { IfOk result (λ o. IfSome o (λ found. IsSo scope.now.attributes.now found.0 (λ production. LacksBelow scope.now.attributes.now production found.1))) }
+    ensures none { IfOk result (λ o. IfNone o (EachProduction scope.now.attributes.now (DefinesBelow scope.now.attributes.now))) }
 {
     let productions = scope.attributes.productions.as_slice();
     'productions: for number in 0..productions.len() {
-        if let Some(vertex) = lacking_below(scope, &productions[number]) {
-            return Some((number, vertex));
+        let found = below_of(alloc, scope, &productions[number])?;
+        if let Some(vertex) = found {
+            return Ok(Some((number, vertex)));
         }
     }
-    None
+    Ok(None)
+}
+
+// Like `lacking_below`, where it isn't known for what there are equations.
+fn below_of(
+    alloc: Global,
+    scope: &Scope,
+    production: &Production,
+) -> Result<Option<Vertex>, AllocError>
+    requires attribution { IsAttribution scope.now.attributes.now }
+    requires index { IsIndexOf scope.now.attributes.now.occurrences scope.now.index.now }
+    ensures some { IfOk result (λ o. IfSome o (LacksBelow scope.now.attributes.now production.now)) }
+    ensures none { IfOk result (λ o. IfNone o (DefinesBelow scope.now.attributes.now production.now)) }
+{
+    let defined = defined_vertices(alloc, production)?;
+    let found = lacking_below(scope, production, &defined);
+    drop(defined);
+    Ok(found)
 }
