@@ -1,0 +1,13 @@
+pub mod AdvanceLemmas
+pub mod CrossingLemmas
+pub mod FollowLemmas
+pub mod GrowLemmas
+pub mod HoleLemmas
+pub mod HostLemmas
+pub mod MovedLemmas
+pub mod NumberLemmas
+pub mod OrderedLemmas
+pub mod PrefixLemmas
+pub mod RunLemmas
+pub mod StartLemmas
+pub mod WholeLemmas
