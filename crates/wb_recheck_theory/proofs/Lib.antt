@@ -1,0 +1,17 @@
+pub mod CertificateLemmas
+pub mod ClosureLemmas
+pub mod DeadEntries
+pub mod DeadLemmas
+pub mod DeadLines
+pub mod EntriesLemmas
+pub mod ExampleLemmas
+pub mod GrowLemmas
+pub mod LineListLemmas
+pub mod LinesLemmas
+pub mod ListsLemmas
+pub mod NumberedLemmas
+pub mod OneEntries
+pub mod OneLemmas
+pub mod KernelListLemmas
+pub mod PrefixLemmas
+pub mod RangeLemmas
