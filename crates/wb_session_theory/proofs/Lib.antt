@@ -1,0 +1,13 @@
+pub mod FrontLemmas
+pub mod ScanLemmas
+pub mod FrameLemmas
+pub mod SpineLemmas
+pub mod RejoinLemmas
+pub mod ReadLemmas
+pub mod SessionLemmas
+pub mod NumberLemmas
+pub mod RunLemmas
+pub mod ValueLemmas
+pub mod SeenLemmas
+pub mod LinkLemmas
+pub mod OverLemmas
