@@ -6,11 +6,11 @@ use Rattle.wb_operations.specs.Operations.{OperationSignature, Operations}
 use Rattle.wb_reading_compose.specs.Readings.{IsUnionReading}
 use Rattle.wb_reading_compose.specs.declared.answer.TextReading.{TextReading}
 use Rattle.wb_reading_compose.specs.declared.answer.TextReading.TheVariants as reading
-use Rattle.wb_reading_compose_theory.specs.Readings.{HasHostReading}
-use Rattle.wb_reading_compose_theory.specs.Roots.{HasSameRoots, IsHostAttribute}
-use Rattle.wb_reading_compose_theory.proofs.AnswerLemmas.{answer_there}
-use Rattle.wb_reading_compose_theory.proofs.AskedLemmas.{same_roots}
-use Rattle.wb_reading_compose_theory.proofs.ValueLemmas.{text_value_there}
+use Rattle.wb_reading_compose.specs.HostReadings.{HasHostReading}
+use Rattle.wb_reading_compose.specs.Roots.{HasSameRoots, IsHostAttribute}
+use Rattle.wb_reading_compose.proofs.AnswerLemmas.{answer_there}
+use Rattle.wb_reading_compose.proofs.AskedLemmas.{same_roots}
+use Rattle.wb_reading_compose.proofs.ValueLemmas.{text_value_there}
 use Rattle.wb_report.specs.Lines.{report_of}
 use Rattle.wb_report.specs.declared.done.Done.TheVariants as done
 use Rattle.wb_report.specs.declared.outcome.Outcome.TheVariants as o

@@ -4,7 +4,7 @@ use Rattle.wb_compose_texts.specs.Names.{name_at, terminals_of}
 use Rattle.wb_lemmas.proofs.NotNot.{bind, certain, follows}
 use Rattle.wb_operations.specs.Operations.{OperationSignature, Operations}
 use Rattle.wb_reading_compose.specs.declared.answer.TextReading.TheVariants as reading
-use Rattle.wb_reading_compose_theory.specs.UnionMarkers.{union_markers}
+use Rattle.wb_reading_compose.specs.UnionMarkers.{union_markers}
 use Rattle.wb_reading_theory.specs.Markers.{IsMarkerAt}
 use Rattle.wb_report.specs.Lines.{report_of}
 use Rattle.wb_report.specs.declared.done.Done.TheVariants as done

@@ -2,7 +2,7 @@
 use Rattle.std.specs.Prelude.{◌≡◌, [], ℕ, List, Some}
 use Rattle.wb_certify_files.specs.HostContents.{IsHostText}
 use Rattle.wb_operations.specs.Operations.{OperationSignature, Operations}
-use Rattle.wb_reading_compose_theory.specs.Roots.{IsHostAttribute}
+use Rattle.wb_reading_compose.specs.Roots.{IsHostAttribute}
 use Rattle.wb_report.specs.Lines.{report_of}
 use Rattle.wb_report.specs.declared.done.Done.TheVariants as done
 use Rattle.wb_report.specs.declared.outcome.Outcome.TheVariants as o

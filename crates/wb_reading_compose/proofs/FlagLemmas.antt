@@ -19,7 +19,7 @@ use Rattle.wb_compose_texts.specs.Unions.{all_resolved}
 use Rattle.wb_compose_texts.proofs.TableLemmas.{all_next, part_next, resolved_next}
 use Rattle.wb_compose_theory_order.specs.Names.{all_of}
 use Rattle.wb_determinism.specs.Images.{is_marker_row, is_marking}
-use Rattle.wb_reading_compose_theory.specs.UnionMarkers.{added_markers, grammar_markers}
+use Rattle.wb_reading_compose.specs.UnionMarkers.{added_markers, grammar_markers}
 use Rattle.wb_reading_compose.specs.Inner.Sets.{IsFilled}
 use Rattle.wb_syntax_resolved.specs.Resolved.{IsResolved}
 use Rattle.wb_syntax_resolved.specs.declared.resolved.ResolvedParts.{ResolvedParts}
@@ -71,40 +71,6 @@ none_filled flags made is = record {
     λ both. absurd (omega (arith, both.0)),
   );
 }
-
--- with one flag more that is set
-pub filled_on : (flags : List Bool) (i : ℕ) (old new : List Bool) → i < length flags → IsFilled flags i old → IsMember flags i →
-    new ≡ set old i true → IsFilled flags (i + 1) new
-filled_on flags i old new within was flag is = record {
-  len = ap length is ∙ (length-set old i true ∙ was.len);
-  each = λ t. (
-    λ has. forth t (IsMember-insert old i t (subst (λ s. IsMember s t) is has)),
-    λ both. subst (λ s. IsMember s t) (sym is) (back t both),
-  );
-} where
-  forth : (t : ℕ) → (IsMember old t) ⊎ (t ≡ i) → (t < i + 1) × IsMember flags t
-  forth t (inl before) = let both = (was.each t).0 before in let low = both.0 in (omega (arith, low), both.1)
-  forth t (inr same) = (omega (arith, same), subst (IsMember flags) (sym same) flag)
-
-  back : (t : ℕ) → (t < i + 1) × IsMember flags t → IsMember (set old i true) t
-  back t (low, has) = elim (eqb_tells t i) [
-    | inl same ↦
-        let inside : i < length old = let len = was.len in omega (arith, within, len) in
-        subst (IsMember (set old i true)) (sym same.1) (IsMember-insert_same old i inside)
-    | inr differs ↦ (let other = differs.1 in IsSubset-insert old i t ((was.each t).1 (omega (arith, low, other), has)))
-  ]
-
--- or that isn't
-pub filled_off : (flags : List Bool) (i : ℕ) (old : List Bool) → IsFilled flags i old → ¬ IsMember flags i → IsFilled flags (i + 1) old
-filled_off flags i old was off = record {
-  len = was.len;
-  each = λ t. (λ has. (let both = (was.each t).0 has in let low = both.0 in (omega (arith, low), both.1)), λ both. back t both);
-} where
-  back : (t : ℕ) → (t < i + 1) × IsMember flags t → IsMember old t
-  back t (low, has) = elim (eqb_tells t i) [
-    | inl same ↦ absurd (off (subst (IsMember flags) same.1 has))
-    | inr differs ↦ (let other = differs.1 in (was.each t).1 (omega (arith, low, other), has))
-  ]
 
 -- all are in
 pub all_filled : (flags : List Bool) (i : ℕ) (made : List Bool) → length flags ≤ i → IsFilled flags i made → (t : ℕ) →

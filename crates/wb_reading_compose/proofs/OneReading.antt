@@ -12,7 +12,7 @@ use Rattle.wb_determinism_host.specs.Lexicons.{lexicon_of}
 use Rattle.wb_operations.specs.Operations.{OperationSignature}
 use Rattle.wb_reading_theory.specs.Markers.{IsMarkerAt}
 use Rattle.wb_reading_theory.proofs.MarkerLemmas.{one_marker}
-use Rattle.wb_reading_compose_theory.specs.UnionMarkers.{union_markers}
+use Rattle.wb_reading_compose.specs.UnionMarkers.{union_markers}
 use Rattle.wb_reading_compose.specs.Readings.{HasFirstMarker, HasOneReading, IsReadingIn, IsUnionReading}
 use Rattle.wb_reading_compose.specs.declared.answer.TextReading.{TextReading}
 use Rattle.wb_reading_compose.specs.declared.answer.TextReading.TheVariants.{Host, MarkerAt}

@@ -12,8 +12,8 @@ use Rattle.wb_reading.specs.Answers.{IsHostReading}
 use Rattle.wb_reading.specs.declared.reading.HostReading.{HostReading}
 use Rattle.wb_reading.specs.declared.reading.HostReading.TheVariants as found
 use Rattle.wb_reading_theory.specs.Extends.{Extends}
-use Rattle.wb_reading_compose_theory.specs.Composed.{AreComposed}
-use Rattle.wb_reading_compose_theory.specs.UnionMarkers.{AreUnionMarkers, union_markers}
+use Rattle.wb_reading_compose.specs.Composed.{AreComposed}
+use Rattle.wb_reading_compose.specs.UnionMarkers.{AreUnionMarkers, union_markers}
 use Rattle.wb_reading_compose.specs.Inner.Pairs.{IsMarkerFound, IsPair}
 use Rattle.wb_reading_compose.specs.Readings.{IsReadingIn, IsUnionReading}
 use Rattle.wb_reading_compose.specs.declared.answer.TextReading.{TextReading}

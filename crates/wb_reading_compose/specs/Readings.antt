@@ -6,7 +6,7 @@ use Rattle.wb_syntax_resolved.specs.declared.resolved.ResolvedParts.{ResolvedPar
 use Rattle.wb_compose_texts.specs.Names.{name_at, terminals_of}
 use Rattle.wb_compose_texts.specs.Unions.{IsLanguageOf, Union}
 use Rattle.wb_reading_theory.specs.Markers.{IsMarkerAt, IsPlain}
-use Rattle.wb_reading_compose_theory.specs.UnionMarkers.{union_markers}
+use Rattle.wb_reading_compose.specs.UnionMarkers.{union_markers}
 use Rattle.wb_reading_compose.specs.declared.answer.TextReading.{TextReading}
 use Rattle.wb_reading_compose.specs.declared.answer.TextReading.TheVariants.{Host, MarkerAt}
 

@@ -1,7 +1,7 @@
 //! Does a text mean to a host with certified extensions what it means to the host?
 //!
-//! Both are composed, and the text is read in the language of all together until a marker is next. The laws that this rests on are in
-//! `wb_reading_compose_theory`.
+//! Both are composed, and the text is read in the language of all together until a marker is next. That language extends the host's, so
+//! a text without markers has the same answers in both: these are the laws in `laws`.
 #![tactic(auto)]
 
 mod answer;

@@ -8,8 +8,8 @@ ghost use Rattle.wb_determinism.specs.Images.{is_marker_row};
 ghost use Rattle.wb_determinism.specs.Images as image;
 ghost use Rattle.wb_compose_theory_order.specs.Names.{all_of};
 ghost use Rattle.wb_compose_texts.specs.Unions.{all_resolved};
-ghost use Rattle.wb_reading_compose_theory.specs.UnionMarkers.{AreUnionMarkers, added_markers, grammar_markers};
-ghost use Rattle.wb_reading_compose_theory.specs.UnionMarkers as union;
+ghost use Rattle.wb_reading_compose.specs.UnionMarkers.{AreUnionMarkers, added_markers, grammar_markers};
+ghost use Rattle.wb_reading_compose.specs.UnionMarkers as union;
 
 use std::alloc::{AllocError, Global};
 use wb_base::push;

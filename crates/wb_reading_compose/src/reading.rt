@@ -1,6 +1,6 @@
 //! Reads a text in the language of a host with extensions until a marker is next.
 //!
-//! Each function makes one of the things that a host reading compares, and lends it to the next.
+//! Each function makes one of the things that the contract of a host reading speaks of, and lends it to the next.
 
 ghost use Rattle.std.specs.Prelude.{◌≡◌, [], ℕ, List, All, IfOk, map};
 ghost use Rattle.wb_base.specs.Different.{Differ};
@@ -11,6 +11,7 @@ ghost use Rattle.wb_reading_compose.specs.Inner.Pairs.{IsFirstMarker, IsPair};
 ghost use Rattle.wb_reading_compose.specs.Readings.{IsUnionReading};
 
 use crate::TextReading;
+use crate::laws::extends_law;
 use crate::markers::union_markers;
 use crate::pair::Pair;
 use std::alloc::{AllocError, Global};
@@ -19,7 +20,6 @@ use wb_certify_host::CertifiedHost;
 use wb_compose::{Composed, compose, compose_host, composed_attributes};
 use wb_compose_texts::united_name;
 use wb_reading::{HostReading, host_reading};
-use wb_reading_compose_theory::laws::extends_law;
 use wb_syntax_resolved::Attribution;
 
 /// Whether a text means to a host with extensions what it means to the host, or the first marker that may change it.

@@ -6,7 +6,7 @@ use Rattle.wb_compose_texts.specs.Unions.{all_resolved}
 use Rattle.wb_reading.specs.declared.reading.HostReading.{HostReading}
 use Rattle.wb_reading.specs.declared.reading.HostReading.TheVariants.{Same, MarkerAt}
 use Rattle.wb_reading_theory.specs.Markers.{IsMarkerAt, IsPlain}
-use Rattle.wb_reading_compose_theory.specs.UnionMarkers.{union_markers}
+use Rattle.wb_reading_compose.specs.UnionMarkers.{union_markers}
 use Rattle.wb_reading_compose.specs.declared.pair.Pair.{Pair}
 use Rattle.wb_scan_theory.specs.Facts.{IsLanguage}
 use Rattle.wb_scan_theory.specs.Languages.{LanguageView}

@@ -5,7 +5,7 @@ use Rattle.wb_certify.specs.Kept.{ExtensionView}
 use Rattle.wb_certify_shown.specs.Names.{terminals_in}
 use Rattle.wb_compose_theory_order.specs.Names.{all_of}
 use Rattle.wb_compose_texts.specs.Unions.{all_resolved}
-use Rattle.wb_reading_compose_theory.specs.UnionMarkers.{added_markers}
+use Rattle.wb_reading_compose.specs.UnionMarkers.{added_markers}
 use Rattle.wb_reading_compose.proofs.FlagLemmas.{block_next}
 use Rattle.wb_reading_compose.proofs.markers.add_extensions.Goals as goal
 

@@ -1,7 +1,7 @@
 use Rattle.std.proofs.Common.{◌≡◌, ◌++◌, map, take}
 use Rattle.wb_compose_theory_order.specs.Names.{all_of}
 use Rattle.wb_compose_texts.specs.Unions.{all_resolved}
-use Rattle.wb_reading_compose_theory.specs.UnionMarkers.{added_markers}
+use Rattle.wb_reading_compose.specs.UnionMarkers.{added_markers}
 use Rattle.wb_reading_compose.proofs.markers.add_extensions.Given as goal
 
 abbrev pub invariant-extensions : goal.invariant-extensions

@@ -3,7 +3,7 @@ use Rattle.std.proofs.Common.{rules, ◌≡◌, refl, drop, slice_get, arith}
 use Rattle.wb_certify_shown.specs.Names.{terminals_in}
 use Rattle.wb_compose_texts.proofs.TableLemmas.{all_read, none_read}
 use Rattle.wb_determinism.specs.Images.{is_marker_row}
-use Rattle.wb_reading_compose_theory.specs.UnionMarkers.{grammar_markers}
+use Rattle.wb_reading_compose.specs.UnionMarkers.{grammar_markers}
 use Rattle.wb_reading_compose.proofs.FlagLemmas.{flag_next, flags_len}
 use Rattle.wb_reading_compose.proofs.markers.add_flags.Goals as goal
 

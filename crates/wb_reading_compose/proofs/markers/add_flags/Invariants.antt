@@ -1,5 +1,5 @@
 use Rattle.std.proofs.Common.{◌≡◌, ◌++◌, ◌-◌, drop, take}
-use Rattle.wb_reading_compose_theory.specs.UnionMarkers.{grammar_markers}
+use Rattle.wb_reading_compose.specs.UnionMarkers.{grammar_markers}
 use Rattle.wb_reading_compose.proofs.markers.add_flags.Given as goal
 
 abbrev pub invariant-terminals : goal.invariant-terminals

@@ -3,7 +3,7 @@ use Rattle.std.proofs.Common.{rules, ◌≡◌, ◌∙◌, ◌++◌, ap, false, 
 use Rattle.wb_certify_shown.specs.Names.{terminals_in}
 use Rattle.wb_compose_theory_order.specs.Names.{all_of}
 use Rattle.wb_compose_texts.specs.Unions.{all_resolved}
-use Rattle.wb_reading_compose_theory.specs.UnionMarkers.{added_markers}
+use Rattle.wb_reading_compose.specs.UnionMarkers.{added_markers}
 use Rattle.wb_reading_compose.proofs.markers.flags_of.Goals as goal
 
 pub returns : goal.returns

@@ -1,5 +1,5 @@
 -- The set is filled by the flags, one after another.
-use Rattle.wb_reading_compose.proofs.FlagLemmas.{all_filled, filled_off, filled_on, none_filled}
+use Rattle.wb_reading_compose.proofs.FlagLemmas.{all_filled, none_filled}
 use Rattle.wb_reading_compose.proofs.markers.set_of.Goals as goal
 
 pub flags-init : goal.flags-init

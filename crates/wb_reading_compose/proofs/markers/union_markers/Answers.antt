@@ -2,7 +2,7 @@
 use Rattle.std.proofs.Common.{◌≡◌, ◌∙◌, ◌↔◌, ℕ, Bool, List, ap, subst}
 use Rattle.std.proofs.lemmas.Result.{IfOk-weaker}
 use Rattle.wb_compose_texts.specs.Unions.{all_resolved}
-use Rattle.wb_reading_compose_theory.specs.UnionMarkers.{AreUnionMarkers, union_markers}
+use Rattle.wb_reading_compose.specs.UnionMarkers.{AreUnionMarkers, union_markers}
 use Rattle.wb_syntax_resolved.specs.declared.resolved.ResolvedParts.{ResolvedParts}
 use Rattle.wb_termset.specs.Sets.{IsMember}
 use Rattle.wb_reading_compose.proofs.markers.union_markers.Goals as goal

@@ -3,7 +3,7 @@ use Rattle.std.proofs.Common.{◌≡◌, ap, subst}
 use Rattle.std.proofs.lemmas.Result.{IfOk-weaker}
 use Rattle.wb_compose_texts.specs.Unions.{all_resolved}
 use Rattle.wb_reading.specs.Answers.{IsHostReading}
-use Rattle.wb_reading_compose_theory.specs.UnionMarkers.{union_markers}
+use Rattle.wb_reading_compose.specs.UnionMarkers.{union_markers}
 use Rattle.wb_reading_compose.specs.Inner.Pairs.{IsFirstMarker, IsMarkerFound}
 use Rattle.wb_reading_compose.proofs.ReadingLemmas.{extended, marker_found}
 use Rattle.wb_scan.specs.Views.{LanguageParts}

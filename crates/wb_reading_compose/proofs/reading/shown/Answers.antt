@@ -2,7 +2,7 @@
 use Rattle.std.proofs.Common.{subst}
 use Rattle.wb_compose_texts.specs.Unions.{all_resolved}
 use Rattle.wb_reading.specs.declared.reading.HostReading.{HostReading}
-use Rattle.wb_reading_compose_theory.specs.UnionMarkers.{union_markers}
+use Rattle.wb_reading_compose.specs.UnionMarkers.{union_markers}
 use Rattle.wb_reading_compose.specs.Inner.Pairs.{IsMarkerFound}
 use Rattle.wb_reading_compose.specs.declared.answer.TextReading.TheVariants.{Host, MarkerAt}
 use Rattle.wb_reading_compose.proofs.ReadingLemmas.{reading_is}

@@ -22,10 +22,10 @@ use Rattle.wb_compose_texts.proofs.ComposedLemmas.{union_is}
 use Rattle.wb_compose_texts.proofs.OneUnion.{one_attribution, one_extended, one_grammar}
 use Rattle.wb_reading_theory.specs.Extends.{Extends}
 use Rattle.wb_reading_theory.specs.MarkingTerminals.{AreMarking}
-use Rattle.wb_reading_compose_theory.specs.Composed.{AreComposed}
-use Rattle.wb_reading_compose_theory.specs.UnionMarkers.{AreUnionMarkers}
-use Rattle.wb_reading_compose_theory.proofs.MarkerLemmas.{are_marking}
-use Rattle.wb_reading_compose_theory.proofs.UnionLemmas.{numbers, union_extends}
+use Rattle.wb_reading_compose.specs.Composed.{AreComposed}
+use Rattle.wb_reading_compose.specs.UnionMarkers.{AreUnionMarkers}
+use Rattle.wb_reading_compose.proofs.MarkingLemmas.{are_marking}
+use Rattle.wb_reading_compose.proofs.UnionLemmas.{numbers, union_extends}
 
 module _ (host : ResolvedParts) (operations : List OperationSignature) (extensions : List ResolvedParts) where
   -- the union of the same host and no extensions

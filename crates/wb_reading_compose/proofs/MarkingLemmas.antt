@@ -38,8 +38,8 @@ use Rattle.wb_certify_shown.specs.Names.{terminals_in}
 use Rattle.wb_certify_shown.proofs.HoleLemmas.{few_terminals}
 use Rattle.wb_compose_texts.proofs.NameLemmas.{resolved_in}
 use Rattle.wb_reading_theory.specs.MarkingTerminals.{AreMarking, IsMarking}
-use Rattle.wb_reading_compose_theory.specs.UnionMarkers.{AreUnionMarkers, added_markers, grammar_markers, union_markers}
-use Rattle.wb_reading_compose_theory.proofs.BlockLemmas.{at_flag, block_at, flag_at, in_block, take_keeps}
+use Rattle.wb_reading_compose.specs.UnionMarkers.{AreUnionMarkers, added_markers, grammar_markers, union_markers}
+use Rattle.wb_reading_compose.proofs.BlockLemmas.{at_flag, block_at, flag_at, in_block, take_keeps}
 
 -- there is a flag for each terminal of a grammar
 flags_len : (r : ResolvedParts) → IsResolved r → length (grammar_markers r) ≡ terminals_in r.grammar

@@ -5,7 +5,7 @@ use Rattle.wb_operations.specs.Operations.{OperationSignature}
 use Rattle.wb_syntax_resolved.specs.declared.resolved.ResolvedParts.{ResolvedParts}
 use Rattle.wb_compose_texts.specs.Unions.{IsLanguageOf, Union}
 use Rattle.wb_reading_theory.specs.Markers.{IsPlain}
-use Rattle.wb_reading_compose_theory.specs.UnionMarkers.{union_markers}
+use Rattle.wb_reading_compose.specs.UnionMarkers.{union_markers}
 
 -- the host has with the extensions a language, in which the text has no marker of theirs
 pub record HasHostReading (host : ResolvedParts) (operations : List OperationSignature) (extensions : List ResolvedParts)

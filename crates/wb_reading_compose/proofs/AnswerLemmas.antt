@@ -21,11 +21,11 @@ use Rattle.wb_reading_theory.specs.Extends.{Extends}
 use Rattle.wb_reading_theory.specs.Laws.{ReadsAlike, further_kind}
 use Rattle.wb_reading_theory.specs.Markers.{IsPlain}
 use Rattle.wb_reading_theory.proofs.StopLemmas.{reads_alike}
-use Rattle.wb_reading_compose_theory.specs.Readings.{HasHostReading}
-use Rattle.wb_reading_compose_theory.specs.UnionMarkers.{AreUnionMarkers, union_markers}
-use Rattle.wb_reading_compose_theory.proofs.ComposedLemmas.{alone_with, language_in}
-use Rattle.wb_reading_compose_theory.proofs.ShownLemmas.{printed_same, stop_same}
-use Rattle.wb_reading_compose_theory.proofs.UnionLemmas.{grammar_is, numbers, union_extends}
+use Rattle.wb_reading_compose.specs.HostReadings.{HasHostReading}
+use Rattle.wb_reading_compose.specs.UnionMarkers.{AreUnionMarkers, union_markers}
+use Rattle.wb_reading_compose.proofs.ComposedLemmas.{alone_with, language_in}
+use Rattle.wb_reading_compose.proofs.ShownLemmas.{printed_same, stop_same}
+use Rattle.wb_reading_compose.proofs.UnionLemmas.{grammar_is, numbers, union_extends}
 
 module _ (host : ResolvedParts) (operations : List OperationSignature) (extensions : List ResolvedParts)
     (differ : Differ (map name_in extensions)) (none : Union host operations []) (all : Union host operations extensions)

@@ -25,12 +25,12 @@ use Rattle.wb_reading_theory.specs.Attributions.{ExtendsAttribution}
 use Rattle.wb_reading_theory.specs.Markers.{IsPlain}
 use Rattle.wb_reading_theory.proofs.PrintedLemmas.{value_alike}
 use Rattle.wb_reading_theory.proofs.ReadingLemmas.{same_attributes}
-use Rattle.wb_reading_compose_theory.specs.Readings.{HasHostReading}
-use Rattle.wb_reading_compose_theory.specs.UnionMarkers.{AreUnionMarkers, union_markers}
-use Rattle.wb_reading_compose_theory.proofs.AnswerLemmas.{both_extend, reads, stop_there}
-use Rattle.wb_reading_compose_theory.proofs.AskedLemmas.{root_in}
-use Rattle.wb_reading_compose_theory.proofs.ComposedLemmas.{alone_with}
-use Rattle.wb_reading_compose_theory.proofs.UnionLemmas.{are_attribution, host_attribution, numbers}
+use Rattle.wb_reading_compose.specs.HostReadings.{HasHostReading}
+use Rattle.wb_reading_compose.specs.UnionMarkers.{AreUnionMarkers, union_markers}
+use Rattle.wb_reading_compose.proofs.AnswerLemmas.{both_extend, reads, stop_there}
+use Rattle.wb_reading_compose.proofs.AskedLemmas.{root_in}
+use Rattle.wb_reading_compose.proofs.ComposedLemmas.{alone_with}
+use Rattle.wb_reading_compose.proofs.UnionLemmas.{are_attribution, host_attribution, numbers}
 
 module _ {s a : AttributionParts} {t : NumberMap} (is : IsAttribution s) (ok : IsAttribution a) (extends : ExtendsAttribution s a t)
     (alone : s.extensions ≡ []) where

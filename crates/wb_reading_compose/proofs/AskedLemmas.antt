@@ -22,10 +22,10 @@ use Rattle.wb_compose_texts.specs.Unions.{Union}
 use Rattle.wb_compose_texts.proofs.OneUnion.{asked_there}
 use Rattle.wb_reading_theory.specs.Attributions.{ExtendsAttribution}
 use Rattle.wb_reading_theory.proofs.PrintedLemmas.{asked_alike, flow_back}
-use Rattle.wb_reading_compose_theory.specs.Roots.{HasSameRoots, IsHostAttribute}
-use Rattle.wb_reading_compose_theory.proofs.ComposedLemmas.{alone_with}
-use Rattle.wb_reading_compose_theory.proofs.UnionLemmas.{are_attribution, attributes_extend, host_attribution, host_is, numbers}
-use Rattle.wb_reading_compose_theory.proofs.UnionLemmas.{start_stays}
+use Rattle.wb_reading_compose.specs.Roots.{HasSameRoots, IsHostAttribute}
+use Rattle.wb_reading_compose.proofs.ComposedLemmas.{alone_with}
+use Rattle.wb_reading_compose.proofs.UnionLemmas.{are_attribution, attributes_extend, host_attribution, host_is, numbers}
+use Rattle.wb_reading_compose.proofs.UnionLemmas.{start_stays}
 
 -- what something is of an element that may be there
 some_is : {X Y : Type 0} (f : X → Y) (o : Option X) (y : Y) → IsSomeAnd o (λ x. f x ≡ y) → option_map f o ≡ Some y

@@ -39,8 +39,8 @@ use Rattle.wb_reading_theory.specs.Extends.{Extends}
 use Rattle.wb_reading_theory.specs.Languages.{ExtendsLanguage}
 use Rattle.wb_reading_theory.proofs.UnionAttributeLemmas.{concrete, extends}
 use Rattle.wb_reading_theory.proofs.UnionLanguageLemmas.{extends_language, host_alone}
-use Rattle.wb_reading_compose_theory.specs.UnionMarkers.{AreUnionMarkers}
-use Rattle.wb_reading_compose_theory.proofs.MarkerLemmas.{are_marking}
+use Rattle.wb_reading_compose.specs.UnionMarkers.{AreUnionMarkers}
+use Rattle.wb_reading_compose.proofs.MarkingLemmas.{are_marking}
 
 module _ (host : ResolvedParts) (operations : List OperationSignature) (extensions : List ResolvedParts)
     (differ : Differ (map name_in extensions)) (all : Union host operations extensions) where

@@ -8,7 +8,7 @@ use Rattle.wb_certify_host.specs.Hosts.{CertifiedView}
 use Rattle.wb_compose.specs.Composed.{IsComposed, name_of}
 use Rattle.wb_compose.specs.United.{IsOfUnion}
 use Rattle.wb_compose_texts.specs.Unions.{all_resolved}
-use Rattle.wb_reading_compose_theory.specs.UnionMarkers.{AreUnionMarkers}
+use Rattle.wb_reading_compose.specs.UnionMarkers.{AreUnionMarkers}
 
 -- the first language and attributes are composed of the host and no extensions, the second of the host and these extensions, whose names
 -- differ; and the set has the markers of the union
