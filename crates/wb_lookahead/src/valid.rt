@@ -21,7 +21,7 @@ use wb_termset::TermSet;
 
 /// For each kernel the terminals that are valid there, or a conflict. The only other error is out of memory.
 ///
-/// The conflict is that which `tables` would show. No clause bounds the time.
+/// Which conflict is shown, where there are several, is left open. No clause bounds the time.
 pub fn valid_sets(
     alloc: Global,
     grammar: &Grammar,

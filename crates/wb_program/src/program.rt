@@ -19,7 +19,7 @@ use crate::certify::answer_certify;
 use crate::check::answer_check;
 use crate::compose::answer_compose;
 use crate::show::answer_show;
-use crate::texts::{OfText, answer_of_text};
+use crate::texts::{answer_reading, answer_tree};
 use crate::value::answer_value;
 use crate::writing::write_report;
 use std::alloc::{AllocError, Global};
@@ -130,15 +130,7 @@ fn answer_to<S: Shelf, M: Meaning>(
             text,
             host,
             extensions,
-        } => answer_of_text(
-            alloc,
-            shelf,
-            OfText::Tree,
-            text,
-            host,
-            extensions,
-            operations,
-        ),
+        } => answer_tree(alloc, shelf, text, host, extensions, operations),
         Command::Compose { host, extensions } => {
             answer_compose(alloc, shelf, host, extensions, operations)
         }
@@ -164,15 +156,7 @@ fn answer_to<S: Shelf, M: Meaning>(
             text,
             host,
             extensions,
-        } => answer_of_text(
-            alloc,
-            shelf,
-            OfText::Reading,
-            text,
-            host,
-            extensions,
-            operations,
-        ),
+        } => answer_reading(alloc, shelf, text, host, extensions, operations),
     }
 }
 

@@ -12,6 +12,8 @@ ghost use Rattle.wb_program_inputs.specs.SeveralChecks.{SeveralChecks};
 ghost use Rattle.wb_program_inputs.specs.Stopped.{outside};
 ghost use Rattle.wb_program_inputs.specs.Makes.{Answers};
 ghost use Rattle.wb_program_inputs.specs.Texts.{IsText, IsTooLongText, ReadText};
+ghost use Rattle.wb_program.specs.ReadingReport.{ReadingReport};
+ghost use Rattle.wb_program.specs.TreeReport.{TreeReport};
 ghost use Rattle.wb_program.specs.Inner.OfTexts.{OfTextReport};
 
 use crate::reading::reading_of_text;
@@ -36,8 +38,56 @@ pub(crate) enum OfText {
     Reading,
 }
 
+// The answer for the tree of the text of a file, by the files.
+pub(crate) fn answer_tree<S: Shelf, M: Meaning>(
+    alloc: Global,
+    shelf: &mut S,
+    text: &str,
+    host: &str,
+    extensions: &[String],
+    operations: &OperationTable<M>,
+) -> Result<Answer, ReadFailure>
+    ensures { Answers (outside (S.files shelf.old) (S.absences shelf.old) (S.faults shelf.old)) (outside (S.files shelf.new) (S.absences shelf.new) (S.faults shelf.new))
+        result (TreeReport operations.now.signatures (S.files shelf.old) text.now host.now (texts extensions.now))
+        (λ P. StopsComposed operations.now.signatures (S.files shelf.old) host.now (texts extensions.now) P (λ r values. P text.now)) }
+{
+    answer_of_text(
+        alloc,
+        shelf,
+        OfText::Tree,
+        text,
+        host,
+        extensions,
+        operations,
+    )
+}
+
+// The answer for the reading of the text of a file, by the files.
+pub(crate) fn answer_reading<S: Shelf, M: Meaning>(
+    alloc: Global,
+    shelf: &mut S,
+    text: &str,
+    host: &str,
+    extensions: &[String],
+    operations: &OperationTable<M>,
+) -> Result<Answer, ReadFailure>
+    ensures { Answers (outside (S.files shelf.old) (S.absences shelf.old) (S.faults shelf.old)) (outside (S.files shelf.new) (S.absences shelf.new) (S.faults shelf.new))
+        result (ReadingReport operations.now.signatures (S.files shelf.old) text.now host.now (texts extensions.now))
+        (λ P. StopsComposed operations.now.signatures (S.files shelf.old) host.now (texts extensions.now) P (λ r values. P text.now)) }
+{
+    answer_of_text(
+        alloc,
+        shelf,
+        OfText::Reading,
+        text,
+        host,
+        extensions,
+        operations,
+    )
+}
+
 // The answer for the text of a file in the language of a host with extensions, by their files.
-pub(crate) fn answer_of_text<S: Shelf, M: Meaning>(
+fn answer_of_text<S: Shelf, M: Meaning>(
     alloc: Global,
     shelf: &mut S,
     asked: OfText,

@@ -53,7 +53,7 @@ returns-in-Certify g c =
 pub returns-in-Tree : goal.returns-in-Tree
 returns-in-Tree g c =
     let operations : Operations = record { signatures = c.args.operations.now.signatures; meaning = g.M.Meaning.meaning } in
-    of_command operations c.answer_of_text.result c.args.command c.in-Tree.is c.answer_of_text.ensures
+    of_command operations c.answer_tree.result c.args.command c.in-Tree.is c.answer_tree.ensures
     (λ answer report. tree_report report)
     (λ P stops. inr stops)
 
@@ -103,6 +103,6 @@ returns-in-Generate g c =
 pub returns-in-Reading : goal.returns-in-Reading
 returns-in-Reading g c =
     let operations : Operations = record { signatures = c.args.operations.now.signatures; meaning = g.M.Meaning.meaning } in
-    of_command operations c.answer_of_text-in-Reading.result c.args.command c.in-Reading.is c.answer_of_text-in-Reading.ensures
+    of_command operations c.answer_reading.result c.args.command c.in-Reading.is c.answer_reading.ensures
     (λ answer report. reading_report report)
     (λ P stops. inr stops)
