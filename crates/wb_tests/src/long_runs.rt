@@ -3,6 +3,7 @@
 //! A row has the pieces of its files, each with the number of its repetitions.
 
 use crate::runs::{ends_so, expect_none};
+use crate::specifications::DUP;
 use std::alloc::{AllocError, Global};
 use std::process::Abort;
 use wb_program_inputs::Status;
@@ -10,7 +11,7 @@ use wb_program_inputs::Status;
 /// A text and the number of its repetitions.
 pub type Piece = (&'static str, usize);
 
-/// A command line, the pieces of the files `h` and `t`, a status and a report.
+/// A command line, the pieces of the files `h` and `t`, a status and a report. The file `u` is an extension of sums.
 pub type LongRow = (&'static str, [&'static [Piece]; 2], Status, &'static str);
 
 /// Fails at the first row that doesn't end as it says, and shows its number, counted from 0.
@@ -37,7 +38,7 @@ fn long_ends_so(alloc: Global, row: &LongRow) -> Result<bool, AllocError> {
 // Whether a row whose first file has this text ends as it says.
 fn ends_over(alloc: Global, host: &str, row: &LongRow) -> Result<bool, AllocError> {
     let text = text_of(alloc, row.1[1])?;
-    ends_so(alloc, row.0, &[host, text.as_str()], row.2, row.3)
+    ends_so(alloc, row.0, &[host, text.as_str(), DUP], row.2, row.3)
 }
 
 /// The text of the pieces.

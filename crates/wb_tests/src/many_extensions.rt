@@ -69,7 +69,7 @@ fn byte_in(pieces: &[&str], place: usize) -> Option<u8> {
 // A command line and the number of the extensions that it names besides, a status and a report.
 type ManyRow = (&'static str, usize, Status, &'static str);
 
-static MANY: [ManyRow; 5] = [
+static MANY: [ManyRow; 7] = [
     (
         "workbench compose h",
         64,
@@ -96,6 +96,18 @@ static MANY: [ManyRow; 5] = [
     ),
     (
         "workbench tree --text v h",
+        65,
+        Status::TooManyExtensions,
+        "too many extensions\n",
+    ),
+    (
+        "workbench reading --text v h",
+        64,
+        Status::Done,
+        "marker e63:M at 0\n",
+    ),
+    (
+        "workbench reading --text v h",
         65,
         Status::TooManyExtensions,
         "too many extensions\n",

@@ -6,14 +6,13 @@ ghost use Rattle.wb_tests.specs.Inner.Odd.{odd, odd_sum};
 ghost use Rattle.wb_operations.specs.Given.{FitKinds, IsGiven, plains_of};
 ghost use Rattle.wb_operations.specs.Takes.{one_text, two_ints};
 
-use crate::runs::{Row, add_files, expect, fits, status_by};
+use crate::runs::{Row, expect, row_ends_by};
 use crate::specifications::TINY;
 use std::alloc::{AllocError, Global};
 use wb_base::Kind;
 use wb_operations::{Meaning, OperationRefusal, OperationTable, standard_to_int};
 use wb_program_inputs::Status;
 use wb_values::Value;
-use wb_world::{MemoryShelf, MemorySink};
 
 // What the two operations mean.
 struct Odd;
@@ -58,13 +57,8 @@ fn odd_to_int(arguments: &[Value]) -> Result<Value, OperationRefusal>
     standard_to_int(arguments)
 }
 
-// The status of a run by a table of both.
-fn status_to(
-    alloc: Global,
-    line: &str,
-    shelf: &mut MemoryShelf,
-    sink: &mut MemorySink,
-) -> Result<Status, AllocError> {
+// Whether a row ends as it says by a table of both.
+fn ends_so(alloc: Global, row: &Row) -> Result<bool, AllocError> {
     let mut table: OperationTable<Odd> = OperationTable::new(alloc);
     let sum = Box::new(
         alloc,
@@ -82,21 +76,7 @@ fn status_to(
         { odd_to_int(arguments) },
     )?;
     table.add(b"to_int", &[Kind::Text], Kind::Int, read)?;
-    status_by(alloc, line, shelf, sink, &table)
-}
-
-// The same over the files of a row.
-fn row_to(alloc: Global, row: &Row, sink: &mut MemorySink) -> Result<Status, AllocError> {
-    let mut shelf = MemoryShelf::new(alloc);
-    add_files(&mut shelf, row.1)?;
-    status_to(alloc, row.0, &mut shelf, sink)
-}
-
-// Whether a row ends as it says.
-fn ends_so(alloc: Global, row: &Row) -> Result<bool, AllocError> {
-    let mut sink = MemorySink::new(alloc, 1_000, 1_000)?;
-    let ended = row_to(alloc, row, &mut sink)?;
-    Ok(ended == row.2 && fits(row.3, sink.bytes()))
+    row_ends_by(alloc, row, &table)
 }
 
 static SUMS: [Row; 2] = [

@@ -201,6 +201,42 @@ fn a_text_that_is_read_may_be_as_long_as_its_limit(rt: HostRuntime) {
     each_long_ends_so(&rt, &LONG);
 }
 
+// Lists whose leaves are reduced one by one, or all at their end.
+const RIGHT: &str = "format 1; host right; terminal X /x/; nonterminal L; start L; \
+    concrete none : L ::= { } concrete more : L ::= x : X rest : L { }";
+
+static LONG_LISTS: [LongRow; 4] = [
+    (
+        "workbench reading --text t h",
+        [&[(LIST, 1)], &[("1 ", 524_288)]],
+        Status::Done,
+        "host reading\n",
+    ),
+    (
+        "workbench reading --text t h",
+        [&[(RIGHT, 1)], &[("x", 300_000)]],
+        Status::Done,
+        "host reading\n",
+    ),
+    (
+        "workbench reading --text t h u",
+        [&[(TINY, 1)], &[("1+", 200_000), ("d2", 1)]],
+        Status::Done,
+        "marker dup:D at 400000\n",
+    ),
+    (
+        "workbench reading --text t h u",
+        [&[(TINY, 1)], &[(" ", 200_000)]],
+        Status::Done,
+        "host reading\n",
+    ),
+];
+
+#[test]
+fn a_reading_goes_to_the_end_of_a_text(rt: HostRuntime) {
+    each_long_ends_so(&rt, &LONG_LISTS);
+}
+
 #[test]
 fn a_read_that_fails_ends_a_reading(rt: HostRuntime) {
     each_read_may_fail(&rt, &ROWS[1], 4);

@@ -45,7 +45,7 @@ fn word_of(number: usize) -> &'static str {
         8 => "+ minus::-",
         9 => "+m",
         10 => "d",
-        _ => "+3",
+        _ => "+99999999999999999999",
     }
 }
 
@@ -116,47 +116,25 @@ fn first_marker(text: &[u8]) -> Option<(&'static str, usize)> {
     None
 }
 
-// Whether `reading` reports this marker of a text.
-fn has_marker(alloc: Global, text: &str, name: &str, at: usize) -> Result<bool, AllocError> {
-    let line = format!(in alloc; "marker {name} at {at}\n")?;
+// Whether `reading` reports this line of a text.
+fn has_reading(alloc: Global, text: &str, line: &str) -> Result<bool, AllocError> {
     ends_so(
         alloc,
         "workbench reading --text v h t u",
         &[TINY, DUP, MINUS, text],
         Status::Done,
-        line.as_str(),
+        line,
     )
 }
 
-// Whether `reading` reports no marker of a text.
-fn has_none(alloc: Global, text: &str) -> Result<bool, AllocError> {
-    ends_so(
-        alloc,
-        "workbench reading --text v h t u",
-        &[TINY, DUP, MINUS, text],
-        Status::Done,
-        "host reading\n",
-    )
-}
-
-// Whether a run of this line over a text has this status and report.
-fn reports(
-    alloc: Global,
-    line: &str,
-    text: &str,
-    status: Status,
-    report: &[u8],
-) -> Result<bool, AllocError> {
-    let mut sink = MemorySink::new(alloc, 1_000, 1_000)?;
-    let ended = status_of(alloc, line, &[TINY, DUP, MINUS, text], &mut sink)?;
-    Ok(ended == status && sink.bytes() == report)
-}
-
-// Whether runs of both lines over a text report the same.
+// Whether runs of both lines over a text end with one status and one report.
 fn are_same(alloc: Global, line: &str, other: &str, text: &str) -> Result<bool, AllocError> {
+    let files = [TINY, DUP, MINUS, text];
     let mut sink = MemorySink::new(alloc, 1_000, 1_000)?;
-    let ended = status_of(alloc, line, &[TINY, DUP, MINUS, text], &mut sink)?;
-    reports(alloc, other, text, ended, sink.bytes())
+    let ended = status_of(alloc, line, &files, &mut sink)?;
+    let mut beside = MemorySink::new(alloc, 1_000, 1_000)?;
+    let status = status_of(alloc, other, &files, &mut beside)?;
+    Ok(ended == status && sink.bytes() == beside.bytes())
 }
 
 // Whether `tree` and `run` report of a text with the extensions what they report without.
@@ -172,6 +150,11 @@ fn means_the_same(alloc: Global, text: &str) -> Result<bool, AllocError> {
             "workbench run --text v --attr value h t u",
             "workbench run --text v --attr value h",
             text,
+        )? && are_same(
+            alloc,
+            "workbench run --text v --attr value --steps 3 h t u",
+            "workbench run --text v --attr value --steps 3 h",
+            text,
         )?,
     )
 }
@@ -179,20 +162,19 @@ fn means_the_same(alloc: Global, text: &str) -> Result<bool, AllocError> {
 // Whether the reading of a text is right.
 fn reads_right(alloc: Global, text: &str) -> Result<bool, AllocError> {
     match first_marker(text.as_bytes()) {
-        Some((name, at)) => has_marker(alloc, text, name, at),
-        None => Ok(has_none(alloc, text)? && means_the_same(alloc, text)?),
+        Some((name, at)) => {
+            let line = format!(in alloc; "marker {name} at {at}\n")?;
+            has_reading(alloc, text, line.as_str())
+        }
+        None => Ok(has_reading(alloc, text, "host reading\n")? && means_the_same(alloc, text)?),
     }
-}
-
-fn number_reads_right(alloc: Global, number: u64) -> Result<bool, AllocError> {
-    let text = text_of(alloc, number)?;
-    reads_right(alloc, text.as_str())
 }
 
 // The number of the first text that isn't read right.
 fn first_wrong(alloc: Global) -> Result<Option<usize>, AllocError> {
     for number in 0..200 {
-        if !number_reads_right(alloc, number as u64)? {
+        let text = text_of(alloc, number as u64)?;
+        if !reads_right(alloc, text.as_str())? {
             return Ok(Some(number));
         }
     }

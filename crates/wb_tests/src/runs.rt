@@ -168,6 +168,23 @@ pub fn status_by<M: Meaning>(
     Ok(workbench(alloc, &words, shelf, sink, operations))
 }
 
+/// Whether a row ends as it says by this table of operations.
+pub fn row_ends_by<M: Meaning>(
+    alloc: Global,
+    row: &Row,
+    operations: &OperationTable<M>,
+) -> Result<bool, AllocError>
+    requires kept { IsKept operations.now.signatures operations.now.built_in operations.now.runs.items M.meaning
+        (λ run vs. ⟦<Box<dyn Fn(&[Value]) -> Result<Value, OperationRefusal>> as Fn(&[Value]) -> Result<Value, OperationRefusal>>⟧.pre run vs)
+        (λ run vs r. ⟦<Box<dyn Fn(&[Value]) -> Result<Value, OperationRefusal>> as Fn(&[Value]) -> Result<Value, OperationRefusal>>⟧.post run vs r) }
+{
+    let mut shelf = MemoryShelf::new(alloc);
+    add_files(&mut shelf, row.1)?;
+    let mut sink = MemorySink::new(alloc, 1_000, 1_000)?;
+    let ended = status_by(alloc, row.0, &mut shelf, &mut sink, operations)?;
+    Ok(ended == row.2 && fits(row.3, sink.bytes()))
+}
+
 /// The words of a line after the name of the program, each after one space.
 pub fn words_of(alloc: Global, line: &str) -> Result<Vec<String>, AllocError> {
     let mut words = Vec::new(alloc);

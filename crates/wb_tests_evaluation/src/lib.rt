@@ -14,4 +14,6 @@ mod handed_down;
 #[cfg(test)]
 mod hosts;
 #[cfg(test)]
+mod many;
+#[cfg(test)]
 mod step_counts;

@@ -7,7 +7,7 @@ use Rattle.wb_operations.specs.Rows.{inside}
 use Rattle.wb_operations.specs.Standard.{standard_at, standard_operations}
 use Rattle.wb_operations.proofs.KindLemmas.{sound_at, ints_give, chosen, inside_gives}
 use Rattle.wb_tests.specs.Inner.Odd.{odd_sum}
-use Rattle.wb_tests.proofs.odd.status_to.Goals as goal
+use Rattle.wb_tests.proofs.odd.ends_so.Goals as goal
 
 pub add-requires-clause-kind : goal.add-requires-clause-kind
 add-requires-clause-kind c =

@@ -1,7 +1,7 @@
 use Rattle.std.proofs.Common.{arith}
 use Rattle.wb_operations.specs.Standard.{standard_at, standard_operations}
 use Rattle.wb_operations.proofs.KindLemmas.{sound_at}
-use Rattle.wb_tests.proofs.swapped.status_to.Goals as goal
+use Rattle.wb_tests.proofs.swapped.ends_so.Goals as goal
 
 pub add-requires-clause-kind : goal.add-requires-clause-kind
 unfolding standard_at standard_operations
