@@ -3,8 +3,8 @@
 
 usage: bench/hostile.py [NAME..] [--program PATH] [--seconds N] [--memory MB]
 
-NAMEs: groups, attributes, both, options, stars, long, keywords, levels; all of them where none is named. A row has the size of the files,
-the exit status, seconds of processor and the greatest memory. A run is ended after 60 seconds of processor or at 8,000 MB, unless said
+NAMEs: groups, attributes, both, options, scanner, stars, long, keywords, levels; all of them where none is named. A row has the size of the
+files, the exit status, seconds of processor and the greatest memory. A run is ended after 60 seconds of processor or at 8,000 MB, unless said
 otherwise, and is then marked. The files are made in a temporary folder. The default program is the proved one.
 """
 import argparse
@@ -40,6 +40,13 @@ def attributes(inherited=0):
 def options():
     """An expression of many options in a row."""
     return ["check"], {"h.spec": HOST + "terminal Row /" + "a?" * 20000 + "b/; concrete row : S ::= r : Row { }\n"}
+
+
+def scanner():
+    """A text, and a host with an expression of many options in a row, over 26 letters."""
+    row = "".join(f"{chr(97 + k % 26)}?" for k in range(5000))
+    host = HOST + f"terminal Row /{row}!/; concrete row : S ::= r : Row {{ }}\n"
+    return ["tree", "--text", "t.txt"], {"t.txt": "abcabc!", "h.spec": host}
 
 
 def stars():
@@ -78,8 +85,8 @@ def levels():
     return ["compose"], files
 
 
-CASES = {"groups": groups, "attributes": attributes, "both": lambda: attributes(1000), "options": options, "stars": stars, "long": long,
-         "keywords": keywords, "levels": levels}
+CASES = {"groups": groups, "attributes": attributes, "both": lambda: attributes(1000), "options": options, "scanner": scanner,
+         "stars": stars, "long": long, "keywords": keywords, "levels": levels}
 
 
 def run(name, arguments):
@@ -94,7 +101,8 @@ def run(name, arguments):
             resource.setrlimit(resource.RLIMIT_CPU, (arguments.seconds, arguments.seconds))
             resource.setrlimit(resource.RLIMIT_AS, (arguments.memory << 20, arguments.memory << 20))
 
-        child = subprocess.Popen([arguments.program, *words, *files], cwd=folder, stdout=subprocess.PIPE, preexec_fn=limit)
+        specs = [file for file in files if file.endswith(".spec")]
+        child = subprocess.Popen([arguments.program, *words, *specs], cwd=folder, stdout=subprocess.PIPE, preexec_fn=limit)
         line = child.stdout.read().decode(errors="replace").split("\n")[0]
         _, status, used = os.wait4(child.pid, 0)
     ended = f"ended by {-os.waitstatus_to_exitcode(status)}" if os.WIFSIGNALED(status) else f"status {os.WEXITSTATUS(status)}"
