@@ -3,9 +3,9 @@
 
 usage: bench/hostile.py [NAME..] [--program PATH] [--seconds N] [--memory MB]
 
-NAMEs: groups, attributes, both, options, scanner, stars, long, keywords, levels; all of them where none is named. A row has the size of the
-files, the exit status, seconds of processor and the greatest memory. A run is ended after 60 seconds of processor or at 8,000 MB, unless said
-otherwise, and is then marked. The files are made in a temporary folder. The default program is the proved one.
+NAMEs: groups, attributes, both, options, scanner, stars, long, keywords, levels, first; all of them where none is named. A row has the size
+of the files, the exit status, seconds of processor and the greatest memory. A run is ended after 60 seconds of processor or at 8,000 MB,
+unless said otherwise, and is then marked. The files are made in a temporary folder. The default program is the proved one.
 """
 import argparse
 import os
@@ -85,8 +85,19 @@ def levels():
     return ["compose"], files
 
 
+def first():
+    """Many nonterminals, each of which begins with the one before it and with the one after it."""
+    count = 2000
+    out = ["format 1; host h; terminal Up /u/; terminal Down /d/; nonterminal A0; start A0;"]
+    out += [f"nonterminal A{k};" for k in range(1, count)]
+    out += [f"concrete d{k} : A{k} ::= a : A{k - 1} d : Down {{ }}" for k in reversed(range(1, count))]
+    out += [f"concrete u{k} : A{k} ::= a : A{k + 1} u : Up {{ }}" for k in range(count - 1)]
+    out += [f"terminal T{k} /t{k};/; concrete t{k} : A{k} ::= t : T{k} {{ }}" for k in range(count)]
+    return ["check"], {"h.spec": "\n".join(out) + "\n"}
+
+
 CASES = {"groups": groups, "attributes": attributes, "both": lambda: attributes(1000), "options": options, "scanner": scanner,
-         "stars": stars, "long": long, "keywords": keywords, "levels": levels}
+         "stars": stars, "long": long, "keywords": keywords, "levels": levels, "first": first}
 
 
 def run(name, arguments):

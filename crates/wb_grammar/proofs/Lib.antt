@@ -4,7 +4,6 @@ mod CycleLemmas
 mod EdgeLemmas
 mod FirstLemmas
 mod HiddenTestLemmas
-mod OrderLemmas
 mod OccurrenceLemmas
 mod PathLemmas
 mod ReachLemmas

@@ -2,7 +2,6 @@
 pub mod LeastSets
 pub mod Edges
 pub mod Firsts
-pub mod Order
 pub mod Paths
 pub mod Together
 pub mod Worklists

@@ -22,9 +22,9 @@ use wb_termset::TermSet;
 ///
 /// Nonterminals, terminals and productions have the grammar's numbers. Which of several examples a refusal shows is left open.
 ///
-/// Time is linear in the grammar but for two things. First sets are found by passes over the productions from below, until none
-/// grows: a few passes for usual grammars, and at most one for each nonterminal and one more. A refusal for hidden left recursion
-/// looks for its path by as many passes as the path is long. No clause bounds the time.
+/// Time is linear in the grammar but for two things. First sets are found by strongly connected components, and take three unions of
+/// sets for each left corner. A refusal for hidden left recursion looks for its path by as many passes as the path is long. No clause
+/// bounds the time.
 pub fn analyse(alloc: Global, grammar: &Grammar) -> Result<Facts, GrammarRefusal>
     ensures ok { IfOk result (λ facts. AreFacts grammar.now facts) }
     ensures refused { IfErr result (IsTrueRefusal grammar.now) }

@@ -1,6 +1,6 @@
 //! Which terminals begin what each nonterminal derives? Passes over the productions find them, until no set grows.
 //!
-//! The first of a pass goes by the order of `order.rt`, so that few passes are needed. The sets themselves are in `first_sets.rt`.
+//! Each goes by the order of `order.rt`, by which one finds all, and then over all productions, which shows that none is missing.
 
 ghost use Rattle.std.specs.Prelude.{◌≡◌, ℕ, ◌+◌, ◌<◌, ◌↔◌, false, length, All, IfOk, IsTrue, replicate, slice_set};
 ghost use Rattle.wb_base.specs.Grammar.{IsGrammar, IsSymbolBelow};
@@ -27,7 +27,7 @@ pub(crate) fn first_of_all(
     let Some(count) = grammar.terminals().checked_add(1) else {
         return Err(AllocError);
     };
-    let order = bottom_up(alloc, grammar)?;
+    let order = bottom_up(alloc, grammar, nullable)?;
     let mut sets = FirstSets::new(alloc, grammar.nonterminals(), count)?;
     'passes: while pass(alloc, grammar, nullable, &order, &mut sets)? {}
     Ok(sets)

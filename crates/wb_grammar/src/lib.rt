@@ -11,6 +11,7 @@ mod first;
 mod first_sets;
 mod hidden_left_recursion;
 mod least_fixpoint;
+mod neighbours;
 mod occurrence;
 mod order;
 mod paths;

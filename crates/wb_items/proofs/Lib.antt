@@ -9,11 +9,15 @@ pub mod IndexedLemmas
 pub mod KernelNumbers
 pub mod KernelsLemmas
 pub mod MoveLemmas
+pub mod MoveRowLemmas
+pub mod MovedLemmas
 pub mod NumberingLemmas
 pub mod OrderLemmas
+pub mod PartsLemmas
 pub mod ProductionRows
 pub mod PutLemmas
 pub mod RowLemmas
+pub mod SetLemmas
 pub mod SymbolLemmas
 pub mod SymbolOrder
 pub mod TableLemmas

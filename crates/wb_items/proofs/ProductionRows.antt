@@ -1,8 +1,8 @@
 -- The productions of a nonterminal, as a loop over all productions gathers them.
-use Rattle.std.proofs.Common.{◌≡◌, ◌≢◌, ℕ, ◌+◌, ◌<◌, ◌≤◌, zero, suc, List, [], ◌∷◌, ◌++◌, length, Some, refl, sym, ◌∙◌, ap, subst, inl, inr}
+use Rattle.std.proofs.Common.{◌≡◌, ℕ, ◌+◌, ◌≤◌, List, [], ◌∷◌, ◌++◌, length, Some, sym, ◌∙◌, subst, inl, inr}
 use Rattle.std.proofs.Common.{arith, replicate, length-set}
 use Rattle.std.specs.Prelude.{slice_get, slice_set, Contains}
-use Rattle.std.proofs.lemmas.Option.{slice_get_within, same_Some}
+use Rattle.std.proofs.lemmas.Option.{slice_get_within}
 use Rattle.std.proofs.lemmas.List.{length-replicate}
 use Rattle.std.proofs.lemmas.Bool.{cases_eq}
 use Rattle.wb_lemmas.proofs.Places.{at_push, push_last}
@@ -13,6 +13,7 @@ use Rattle.wb_grammar_theory.specs.Productions.{IsProduction}
 use Rattle.wb_grammar_theory.proofs.ProductionLemmas.{production_once, production_within}
 use Rattle.wb_items.specs.Table.{AreProductionsOf, AreProductions}
 use Rattle.wb_items.specs.Inner.Passes.{ProductionsUpTo, RowsUpTo}
+use Rattle.wb_items.proofs.SetLemmas.{set_here, set_elsewhere, empty_at}
 
 rules_start : (g : GrammarView) (b : ℕ) → ProductionsUpTo g b [] 0
 rules_start g b = record {
@@ -71,11 +72,6 @@ rules_done g b numbers n past h = record {
   rising = h.rising;
 }
 
-empty_at : (count b : ℕ) (numbers : List ℕ) → slice_get (replicate count []) b ≡ Some numbers → numbers ≡ []
-empty_at zero b numbers at = cc
-empty_at (suc count) zero numbers at = sym (same_Some [] numbers at)
-empty_at (suc count) (suc b) numbers at = empty_at count b numbers at
-
 -- empty rows
 pub rows_start : (g : GrammarView) → RowsUpTo g (replicate g.nonterminals []) 0
 rows_start g = record {
@@ -100,20 +96,6 @@ rows_more g rows n left right numbers rule here h = record {
         (λ same. ne (sym same))
   ];
 }
-  where
-    set_here : (rows : List (List ℕ)) (j : ℕ) (new other : List ℕ) → j < length rows → slice_get (slice_set rows j new) j ≡ Some other →
-        new ≡ other
-    set_here [] j new other lt at = absurd (omega arith)
-    set_here (row ∷ rows) zero new other lt at = same_Some new other at
-    set_here (row ∷ rows) (suc j) new other lt at = set_here rows j new other (omega arith) at
-
-    set_elsewhere : (rows : List (List ℕ)) (j b : ℕ) (new other : List ℕ) → b ≢ j → slice_get (slice_set rows j new) b ≡ Some other →
-        slice_get rows b ≡ Some other
-    set_elsewhere [] j b new other ne at = at
-    set_elsewhere (row ∷ rows) zero zero new other ne at = absurd (ne refl)
-    set_elsewhere (row ∷ rows) zero (suc b) new other ne at = at
-    set_elsewhere (row ∷ rows) (suc j) zero new other ne at = at
-    set_elsewhere (row ∷ rows) (suc j) (suc b) new other ne at = set_elsewhere rows j b new other (λ same. ne (ap suc same)) at
 
 -- all productions have been gone over
 pub rows_done : (g : GrammarView) (rows : List (List ℕ)) (n : ℕ) → length g.productions ≤ n → RowsUpTo g rows n → AreProductions g rows

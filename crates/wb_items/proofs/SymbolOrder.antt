@@ -42,7 +42,7 @@ symbol_not_itself (Terminal t) p = omega arith
 symbol_not_itself (Nonterminal a) p = omega arith
 
 -- what is before neither and is no later stays no later
-no_later : (x y z : Symbol) → (SymbolPrecedes y x → ⊥) → (SymbolPrecedes z y → ⊥) → SymbolPrecedes z x → ⊥
+pub no_later : (x y z : Symbol) → (SymbolPrecedes y x → ⊥) → (SymbolPrecedes z y → ⊥) → SymbolPrecedes z x → ⊥
 no_later x y z p q r = elim (ordered x y) [
   | earlier lt ↦ q (symbol_then z x y r lt)
   | equal e ↦ q (subst (SymbolPrecedes z) e r)

@@ -2,7 +2,10 @@
 pub mod Advances
 pub mod Closing
 pub mod Growing
+pub mod MoveRows
+pub mod MovedKernels
 pub mod Numbering
+pub mod Parts
 pub mod Passes
 pub mod Searches
 pub mod Steps

@@ -1,5 +1,9 @@
 -- kernels by numbers, with their items, and where symbols lead from each
 pub mod Kernels
+-- kernels that are listed with the moves between them
+pub mod Parts
+-- the kernels after all symbols, from a closure
+pub mod MovedKernels
 -- symbols in order
 pub mod Order
 -- kernels as they are kept, with their moves, and the productions of each nonterminal

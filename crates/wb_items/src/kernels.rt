@@ -1,15 +1,21 @@
 //! What do callers ask of kernels? Their items, moves, numbers and prefixes; `table.rt` finds them.
 
-ghost use Rattle.std.specs.Prelude.{◌≡◌, ◌<◌, ◌↔◌, ℕ, List, IfOk, IfSome, IfNone, IsNone, Contains, length};
+ghost use Rattle.std.specs.Prelude.{◌≡◌, ◌<◌, ◌↔◌, ℕ, suc, List, IfOk, IfSome, IfNone, IsNone, Some, Contains, length, slice_get};
 ghost use Rattle.wb_base.specs.declared.symbol.Symbol.{Symbol};
 ghost use Rattle.wb_grammar_theory.specs.Items.{IsViablePrefix};
 ghost use Rattle.wb_grammar.specs.Facts.{AreFacts};
+ghost use Rattle.wb_grammar_theory.specs.declared.item.Item.{Item};
+ghost use Rattle.wb_grammar_theory.specs.Shape.{IsLive};
+ghost use Rattle.wb_recheck_theory.specs.KernelLists.{AreKernelsAndMoves};
+ghost use Rattle.wb_items.specs.Parts.{AreListed, IsReached};
 ghost use Rattle.wb_items.specs.Table.{AreMovesInOrder};
 ghost use Rattle.wb_items.specs.declared.transitions.Move.{Move};
 ghost use Rattle.wb_items.specs.Kernels.{AreKernels, AreInOrder, HasNoneBefore, LeadsTo, ListsItems, ListsKernel, closure_of, count_of, prefix_of};
 
 use crate::item_list::ItemList;
 use crate::kernel_index::KernelIndex;
+use crate::move_row::MoveRow;
+use crate::parts::table_of_parts;
 use crate::table::build_table;
 use crate::transitions::{Move, find_move};
 use std::alloc::{AllocError, Global};
@@ -20,13 +26,13 @@ use wb_grammar_theory::Item;
 
 /// The kernels of a grammar's prefixes.
 ///
-/// They are numbered from 0, in the order in which they are found from that of the empty prefix. Each number stands for a prefix
-/// that has the kernel. Contracts see the grammar, these prefixes, and the items of each.
+/// They are numbered from 0, in the order in which they are found from that of the empty prefix, or listed. Each number stands for a
+/// prefix that has the kernel. Contracts see the grammar, these prefixes, and the items of each.
 pub struct Kernels {
     grammar: Grammar,
     found: KernelIndex,
     closures: Vec<ItemList>,
-    rows: Vec<Sequence<Move>>,
+    rows: Vec<MoveRow>,
 }
 
 impl Model for Kernels {
@@ -50,6 +56,32 @@ impl Kernels {
         ensures exact { IfOk result (λ kernels. AreKernels kernels) }
     {
         let table = build_table(alloc, grammar)?;
+        Ok(Kernels {
+            grammar: grammar.copy()?,
+            found: table.found,
+            closures: table.closures,
+            rows: table.rows,
+        })
+    }
+
+    /// The kernels that are listed, in the order of the lists, with the moves between them in any order.
+    ///
+    /// Each kernel after the first has a move to it from one before it. The kernels are closed once each, and nothing else is looked for.
+    pub fn from_parts(
+        alloc: Global,
+        grammar: &Grammar,
+        kernels: &[Sequence<Item>],
+        moves: &[(usize, Symbol, usize)],
+    ) -> Result<Kernels, AllocError>
+        requires live { IsLive grammar.now }
+        requires lists { AreKernelsAndMoves grammar.now kernels.now moves.now }
+        requires in_order { (s : ℕ) (kernel : List Item) → slice_get kernels.now s ≡ Some kernel → AreInOrder kernel }
+        requires reached { (s : ℕ) → suc s < length kernels.now → IsReached moves.now (suc s) }
+        ensures grammar { IfOk result (λ made. made.grammar ≡ grammar.now) }
+        ensures exact { IfOk result (λ made. AreKernels made) }
+        ensures listed { IfOk result (λ made. AreListed made kernels.now) }
+    {
+        let table = table_of_parts(alloc, grammar, kernels, moves)?;
         Ok(Kernels {
             grammar: grammar.copy()?,
             found: table.found,

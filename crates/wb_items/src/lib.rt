@@ -1,8 +1,8 @@
 //! The LR(0) kernels of a grammar's prefixes, with their items and moves, and sets of terminals for these items.
 //!
-//! A parser is at a kernel after each symbol. The kernels are numbered as they are found from that of the empty prefix, and each
-//! number stands for a prefix that has it. What the words mean is in `wb_grammar_theory`. Which terminals are lookaheads is found in the
-//! crates above.
+//! A parser is at a kernel after each symbol. The kernels are numbered as they are found from that of the empty prefix, or as they are
+//! listed, and each number stands for a prefix that has it. What the words mean is in `wb_grammar_theory`. Which terminals are lookaheads
+//! is found in the crates above.
 #![tactic(auto)]
 
 mod advance;
@@ -16,7 +16,11 @@ mod kernel_index;
 mod kernel_of_symbol;
 mod kernels;
 mod lookaheads;
+mod move_row;
+mod move_rows;
+mod moved;
 mod numbering;
+mod parts;
 mod position;
 mod productions_of;
 mod search;
@@ -29,6 +33,7 @@ pub use dot::symbol_after;
 pub use item_lookahead::ItemLookahead;
 pub use kernels::Kernels;
 pub use lookaheads::Lookaheads;
+pub use moved::{MovedKernel, moved_kernels};
 pub use productions_of::{Numbers, production_numbers};
 pub use transitions::Move;
 pub use wb_grammar_theory::Item;

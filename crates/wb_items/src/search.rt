@@ -53,7 +53,7 @@ pub(crate) fn is_number_of(kernels: &[Sequence<Item>], number: usize, items: &[I
 }
 
 // The number at a place.
-fn number_at(order: &[usize], place: usize) -> usize
+pub(crate) fn number_at(order: &[usize], place: usize) -> usize
     requires { place < length order.now }
     ensures { slice_get order.now place ≡ Some result }
 {
@@ -61,7 +61,7 @@ fn number_at(order: &[usize], place: usize) -> usize
 }
 
 // The list at a place.
-fn items_at(kernels: &[Sequence<Item>], place: usize) -> &[Item]
+pub(crate) fn items_at(kernels: &[Sequence<Item>], place: usize) -> &[Item]
     requires { place < length kernels.now }
     ensures { slice_get kernels.now place ≡ Some result.now }
 {

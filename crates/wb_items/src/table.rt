@@ -20,6 +20,7 @@ use crate::closure::close;
 use crate::item_list::ItemList;
 use crate::kernel_index::KernelIndex;
 use crate::kernel_of_symbol::{kernel_after, run_end};
+use crate::move_row::MoveRow;
 use crate::productions_of::{Numbers, production_numbers};
 use crate::transitions::Move;
 use std::alloc::{AllocError, Global};
@@ -31,7 +32,7 @@ use wb_grammar_theory::Item;
 pub(crate) struct Table {
     pub(crate) found: KernelIndex,
     pub(crate) closures: Vec<ItemList>,
-    pub(crate) rows: Vec<Sequence<Move>>,
+    pub(crate) rows: Vec<MoveRow>,
 }
 
 // All kernels of the grammar.
@@ -98,7 +99,7 @@ fn moves(
     state: usize,
     closure: &[Item],
     found: &mut KernelIndex,
-) -> Result<Sequence<Move>, AllocError>
+) -> Result<MoveRow, AllocError>
     requires live { IsLive grammar.now }
     requires state { state < length found.old.kernels }
     requires exact { (prefix : List Symbol) → slice_get found.old.prefixes state ≡ Some prefix → ListsItems grammar.now prefix closure.now }
@@ -113,7 +114,7 @@ fn moves(
     'runs: while place < list.len() {
         place = add_move(alloc, grammar, state, &list, place, found, &mut row)?;
     }
-    Ok(Sequence::from_vec(row))
+    Ok(MoveRow::from_vec(row))
 }
 
 // The move by the symbol at a place, and the kernel that it leads to. The answer is the place after all that have the symbol.

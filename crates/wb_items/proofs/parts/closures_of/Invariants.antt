@@ -1,0 +1,5 @@
+use Rattle.wb_items.specs.Inner.Parts.{AreClosuresOf}
+use Rattle.wb_items.proofs.parts.closures_of.Given as goal
+
+abbrev pub invariant-states : goal.invariant-states
+invariant-states l = AreClosuresOf l.grammar l.kernels l.closures.items l.state

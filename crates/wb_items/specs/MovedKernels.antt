@@ -1,0 +1,28 @@
+-- The kernels after the symbols before which a closure's items have their dots.
+use Rattle.std.specs.Prelude.{◌≡◌, ◌↔◌, ◌<◌, ◌∷◌, ℕ, List, Some, Contains, slice_get}
+use Rattle.wb_base.specs.declared.symbol.Symbol.{Symbol}
+use Rattle.wb_base.specs.Grammar.{GrammarView}
+use Rattle.wb_grammar_theory.specs.declared.item.Item.{Item}
+use Rattle.wb_grammar_theory.specs.Items.{after_dot}
+use Rattle.wb_items.specs.declared.moved.MovedKernel.{MovedKernel}
+use Rattle.wb_items.specs.Inner.Growing.{IsMoved}
+use Rattle.wb_items.specs.Kernels.{AreInOrder}
+use Rattle.wb_items.specs.Order.{SymbolPrecedes}
+
+-- the symbols are in order
+abbrev pub AreInSymbolOrder : List MovedKernel → Type 0
+AreInSymbolOrder moved = (i j : ℕ) (a b : MovedKernel) → i < j → slice_get moved i ≡ Some a → slice_get moved j ≡ Some b →
+    SymbolPrecedes a.symbol b.symbol
+
+-- the kernel has exactly the items that move over its symbol, in order, and at least one
+pub record IsMovedKernel (g : GrammarView) (closure : List Item) (moved : MovedKernel) : Type 0 where
+  pub exact : (item : Item) → Contains moved.kernel item ↔ IsMoved g closure moved.symbol item
+  pub in_order : AreInOrder moved.kernel
+  pub some : (item : Item) × Contains moved.kernel item
+
+-- one kernel for each symbol after a dot, in the order of the symbols
+pub record AreMovedKernels (g : GrammarView) (closure : List Item) (moved : List MovedKernel) : Type 0 where
+  pub each : (i : ℕ) (m : MovedKernel) → slice_get moved i ≡ Some m → IsMovedKernel g closure m
+  pub ordered : AreInSymbolOrder moved
+  pub complete : (item : Item) (x : Symbol) (rest : List Symbol) → Contains closure item → after_dot g item ≡ x ∷ rest →
+      (i : ℕ) × (m : MovedKernel) × (slice_get moved i ≡ Some m) × (m.symbol ≡ x)
