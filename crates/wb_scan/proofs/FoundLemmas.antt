@@ -15,14 +15,16 @@ use Rattle.wb_scan_theory.specs.declared.form.Form.{Form}
 use Rattle.wb_scan_theory.specs.Languages.{LanguageView, forms_of}
 use Rattle.wb_scan_theory.specs.Winners.{MatchesAt, Wins}
 use Rattle.wb_scan_theory.specs.Parts.{AreLanguageParts, IsPrefixOf}
+use Rattle.wb_scan_theory.specs.Examined.{to_end}
 use Rattle.wb_scan_theory.proofs.PartLemmas.{considered_at}
+use Rattle.wb_scan_theory.proofs.SeenLemmas.{looked_piece}
 use Rattle.wb_scan_theory.proofs.BareLemmas.{forms_count}
 use Rattle.wb_scan_theory.proofs.TokenLemmas.{piece_some}
 use Rattle.wb_scan.proofs.LandingLemmas.{same_champion}
-use Rattle.wb_scan.specs.Inner.Longest.{IsLongest}
+use Rattle.wb_scan.specs.Inner.Longest.{IsLongest, IsSeenTo}
 use Rattle.wb_scan.specs.Landings.{IsChampion, ranked}
 use Rattle.wb_scan.specs.Inner.Rankings.{IsWonAt}
-use Rattle.wb_scan.specs.Inner.Found.{IsFound, IsNotFound}
+use Rattle.wb_scan.specs.Inner.Found.{IsEnough, IsFound, IsNotFound}
 
 module _ {l : LanguageView} {tables : TablesView} {automaton : AutomatonView} (parts : AreLanguageParts l tables automaton) {state : ℕ}
     (below : state < size_of tables) where
@@ -194,3 +196,16 @@ module _ {l : LanguageView} {tables : TablesView} {automaton : AutomatonView} (p
       IsNotFound (record { language = l; tables = tables }) state text at
   won_not_found won = is_not_found parts below longest ne won.accepted won.exact (λ place champion.
       won.none refl place (same_champion l (ranked forms layout preferences) (sym f) (sym g) (sym h) won.accepted place champion))
+
+-- what was looked at is enough to see which form wins
+pub enough : {l : LanguageView} {tables : TablesView} {automaton : AutomatonView} → AreLanguageParts l tables automaton → {state : ℕ} →
+    state < size_of tables → {text : List ℕ} {at e : ℕ} → IsSeenTo automaton state text at e →
+    IsEnough (record { language = l; tables = tables }) state text at e
+enough parts {state} below {text} {at} {e} (lt, seen) = record {
+  on = lt;
+  within = elim seen [ inl (le, none) ↦ omega arith | inr is ↦ omega arith ];
+  looked = λ prefix of. elim seen [
+    | inl (le, none) ↦ looked_piece parts state below of text at e lt le none
+    | inr is ↦ to_end (omega arith) is
+  ];
+}

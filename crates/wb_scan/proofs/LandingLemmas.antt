@@ -1,24 +1,23 @@
 -- What is known of a state of an automaton, from what it accepts and where it leads.
-use Rattle.std.proofs.Common.{◌≡◌, ◌≢◌, ◌<◌, ◌≤◌, ◌+◌, ℕ, List, [], ◌∷◌, ◌++◌, length, refl, sym, ◌∙◌, ap, subst, inl, inr, arith}
-use Rattle.std.specs.Prelude.{◌↔◌, ◌==◌, All, Bool, Contains, IfSome, IsNone, None, Option, Some, false, is_some, not, slice_get, true}
+use Rattle.std.proofs.Common.{◌≡◌, ◌<◌, ◌≤◌, ◌+◌, ℕ, List, [], ◌∷◌, ◌++◌, length, refl, sym, ◌∙◌, ap, subst, inl, inr, arith}
+use Rattle.std.specs.Prelude.{◌==◌, All, Bool, Contains, IsNone, None, Option, Some, false, is_some, not, slice_get, true}
 use Rattle.std.proofs.lemmas.Bool.{cases_lt}
 use Rattle.std.proofs.lemmas.List.Elements.{All-contains, Contains-append_left, Contains-append_right}
 use Rattle.std.proofs.lemmas.Option.{slice_get_within}
 use Rattle.wb_lemmas.proofs.Elements.{all_from_contained}
-use Rattle.wb_lemmas.proofs.Members.{contains_first, nothing_in}
+use Rattle.wb_lemmas.proofs.Members.{contains_first}
 use Rattle.wb_lemmas.proofs.Places.{at_push, at_within}
 use Rattle.wb_regex.proofs.MatchLaws.{matches_bytes}
-use Rattle.wb_automata.specs.Automata.{AutomatonView, GoesOn, LeadsTo, Path}
+use Rattle.wb_automata.specs.Automata.{AutomatonView, GoesOn, LeadsTo}
 use Rattle.wb_lookahead.specs.Contents.{TablesView}
 use Rattle.wb_scan_theory.specs.declared.form.Form.{Form}
 use Rattle.wb_scan_theory.specs.Languages.{LanguageView, forms_of}
 use Rattle.wb_scan_theory.specs.Parts.{AreLanguageParts}
 use Rattle.wb_scan_theory.proofs.BareLemmas.{forms_count}
-use Rattle.wb_scan_theory.specs.Winners.{Beats, BeatsAt, both_bare, both_prefixed, by_prefix}
+use Rattle.wb_scan_theory.specs.Winners.{Beats, both_bare, both_prefixed, by_prefix}
 use Rattle.wb_scan.specs.declared.landing.Landing.{Landing}
-use Rattle.wb_scan.specs.declared.winner.Ranking.{Ranking}
 use Rattle.wb_scan.specs.Landings.{AreAccepted, AreLandings, IsChampion, IsLanding, IsMarked, ranked}
-use Rattle.wb_scan.specs.Inner.Rankings.{AreMarked, AreRanked, IsWonAt, ranked_by}
+use Rattle.wb_scan.specs.Inner.Rankings.{AreMarked, IsWonAt}
 use Rattle.wb_scan.proofs.LongestLemmas.{nothing_listed, some_listed}
 
 -- no match goes on from the state by a byte before this one

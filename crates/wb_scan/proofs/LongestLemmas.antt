@@ -7,7 +7,7 @@ use Rattle.wb_lemmas.proofs.Numbers.{eqb_true, eqb_false}
 use Rattle.wb_lemmas.proofs.Parts.{no_elements}
 use Rattle.wb_lemmas.proofs.Members.{nothing_in, contains_first}
 use Rattle.wb_automata.specs.Automata.{AutomatonView, LeadsTo, MatchesIn, GoesOn}
-use Rattle.wb_scan.specs.Inner.Longest.{IsLongest}
+use Rattle.wb_scan.specs.Inner.Longest.{IsLongest, IsSeenTo}
 
 -- the text up to a place was read, from the start of the set to a state, with the longest match so far
 pub record IsReading (automaton : AutomatonView) (set : ℕ) (text : List ℕ) (at place state found end : ℕ) : Type 0 where
@@ -110,31 +110,42 @@ reading_finds automaton set text at place state found end next b r lt b_is below
       found_below = below;
     }
 
--- where no match goes on, the longest one up to here is the longest
-pub reading_stops : (automaton : AutomatonView) (set : ℕ) (text : List ℕ) (at place state found end b : ℕ) (step : Option ℕ) →
-    IsReading automaton set text at place state found end → place < length text → b ≡ get_or text place 0 →
-    ((s : ℕ) (x : List ℕ) → LeadsTo automaton s x state → IsNone step ↔ (¬ GoesOn automaton s (x ++ b ∷ []))) → IsNone step →
-    IsLongest automaton set text at (length text) found end
-reading_stops automaton set text at place state found end b step r lt b_is none is =
-    let from : at ≤ end = r.longest.from in
-    let within : end ≤ place = r.longest.within in
-    let stuck : ¬ GoesOn automaton set (slice_range text at (place + 1)) =
-    subst (λ z. ¬ GoesOn automaton set z)
-    (ap (λ z. slice_range text at place ++ z ∷ []) b_is ∙ sym (piece_more text at place (omega arith) lt))
-    ((none set (slice_range text at place) r.here).0 is) in
-    record {
-      from = from;
-      within = omega arith;
-      matched = r.longest.matched;
-      none_after = λ other terminal after le m. elim (cases_lt place other) [
-        | inl late ↦ stuck (record {
-          terminal = terminal;
-          rest = slice_range text (place + 1) other;
-          is = subst (MatchesIn automaton set terminal) (range_split text at (place + 1) other (omega arith) (omega arith)) m;
-        })
-        | inr early ↦ r.longest.none_after other terminal after (omega arith) m
-      ];
-    }
+-- where no match goes on with the next byte
+module _ (automaton : AutomatonView) (set : ℕ) (text : List ℕ) (at place state found end b : ℕ) (step : Option ℕ)
+    (r : IsReading automaton set text at place state found end) (lt : place < length text) (b_is : b ≡ get_or text place 0)
+    (none : (s : ℕ) (x : List ℕ) → LeadsTo automaton s x state → IsNone step ↔ (¬ GoesOn automaton s (x ++ b ∷ []))) (is : IsNone step) where
+  stuck : ¬ GoesOn automaton set (slice_range text at (place + 1))
+  stuck =
+      let from : at ≤ end = r.longest.from in
+      let within : end ≤ place = r.longest.within in
+      subst (λ z. ¬ GoesOn automaton set z)
+      (ap (λ z. slice_range text at place ++ z ∷ []) b_is ∙ sym (piece_more text at place (omega arith) lt))
+      ((none set (slice_range text at place) r.here).0 is)
+
+  -- the longest one up to here is the longest
+  pub reading_stops : IsLongest automaton set text at (length text) found end
+  reading_stops =
+      let from : at ≤ end = r.longest.from in
+      let within : end ≤ place = r.longest.within in
+      record {
+        from = from;
+        within = omega arith;
+        matched = r.longest.matched;
+        none_after = λ other terminal after le m. elim (cases_lt place other) [
+          | inl late ↦ stuck (record {
+            terminal = terminal;
+            rest = slice_range text (place + 1) other;
+            is = subst (MatchesIn automaton set terminal) (range_split text at (place + 1) other (omega arith) (omega arith)) m;
+          })
+          | inr early ↦ r.longest.none_after other terminal after (omega arith) m
+        ];
+      }
+
+  -- and that byte was the last to be looked at
+  pub seen_stops : IsSeenTo automaton set text at (place + 1)
+  seen_stops =
+      let from : at ≤ end = r.longest.from in
+      let within : end ≤ place = r.longest.within in (omega arith, inl (omega arith, stuck))
 
 pub reading_ends : (automaton : AutomatonView) (set : ℕ) (text : List ℕ) (at place state found end : ℕ) →
     IsReading automaton set text at place state found end → length text ≤ place → IsLongest automaton set text at (length text) found end
@@ -151,4 +162,23 @@ reading_halts automaton set text at place state found end r never = elim (cases_
   | inl lt ↦ reading_stops automaton set text at place state found end (get_or text place 0) None r lt refl
       (λ s x leads. (λ e. never s (get_or text place 0) x leads, λ e. refl)) refl
   | inr le ↦ reading_ends automaton set text at place state found end r le
+]
+
+-- the end of the text was seen, where it is reached
+pub seen_ends : (automaton : AutomatonView) (set : ℕ) (text : List ℕ) (at place state found end : ℕ) →
+    IsReading automaton set text at place state found end → length text ≤ place → IsSeenTo automaton set text at (place + 1)
+seen_ends automaton set text at place state found end r le =
+    let size : place ≤ length text = r.size in
+    let from : at ≤ end = r.longest.from in
+    let within : end ≤ place = r.longest.within in (omega arith, inr (omega arith))
+
+-- and so where no match goes on from a state
+pub seen_halts : (automaton : AutomatonView) (set : ℕ) (text : List ℕ) (at place state found end : ℕ) →
+    IsReading automaton set text at place state found end →
+    ((s byte : ℕ) (x : List ℕ) → LeadsTo automaton s x state → ¬ GoesOn automaton s (x ++ byte ∷ [])) →
+    IsSeenTo automaton set text at (place + 1)
+seen_halts automaton set text at place state found end r never = elim (cases_lt place (length text)) [
+  | inl lt ↦ seen_stops automaton set text at place state found end (get_or text place 0) None r lt refl
+      (λ s x leads. (λ e. never s (get_or text place 0) x leads, λ e. refl)) refl
+  | inr le ↦ seen_ends automaton set text at place state found end r le
 ]

@@ -1,13 +1,13 @@
 -- What an index of pairs says of their list.
-use Rattle.std.proofs.Common.{◌≡◌, ◌<◌, ◌≤◌, ◌+◌, ◌⊎◌, ℕ, Bool, true, false, List, [], ◌∷◌, ◌++◌, Contains, length, get_or, take, refl, sym, ◌∙◌, ap, subst, inl, inr, arith, if◌then◌else◌, eqb-true, take_all}
+use Rattle.std.proofs.Common.{◌≡◌, ◌<◌, ◌≤◌, ◌+◌, ℕ, Bool, true, false, List, [], ◌∷◌, ◌++◌, Contains, length, get_or, take, refl, sym, ◌∙◌, ap, subst, inl, inr, if◌then◌else◌, eqb-true, take_all}
 use Rattle.std.specs.Prelude.{nat_eq, ◌↔◌, ◌&&◌}
 use Rattle.std.specs.List.{list_any}
-use Rattle.std.proofs.lemmas.Bool.{cases_Bool, true≢false}
+use Rattle.std.proofs.lemmas.Bool.{cases_Bool}
 use Rattle.std.proofs.lemmas.Cmp.{and_equiv, nat_eq_equiv, on_equiv}
 use Rattle.std.proofs.lemmas.List.{take_more}
 use Rattle.std.proofs.lemmas.Map.Views.{Contains-from_any, list_any-from_Contains}
-use Rattle.wb_lemmas.proofs.Members.{contains_push, nothing_in, push_contains, push_contains_last}
-use Rattle.wb_scan.specs.Views.{AreIndexed}
+use Rattle.wb_lemmas.proofs.Members.{contains_push, push_contains, push_contains_last}
+use Rattle.wb_scan.specs.Inner.Preferred.{AreIndexed}
 
 -- equality of pairs, as it is tested
 abbrev same_pair : ℕ × ℕ → ℕ × ℕ → Bool

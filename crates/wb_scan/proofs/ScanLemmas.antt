@@ -4,13 +4,14 @@ use Rattle.std.specs.Prelude.{Some, slice_get, slice_range}
 use Rattle.wb_scan.proofs.RangeLemmas.{range_length}
 use Rattle.wb_base.specs.declared.symbol.Symbol.{Symbol}
 use Rattle.wb_scan_theory.specs.declared.form.Form.{Form}
-use Rattle.wb_scan_theory.specs.Tokens.{token, over, missing, NextToken, skipped, wins, ends, fails}
+use Rattle.wb_scan_theory.specs.Tokens.{token, over, missing}
+use Rattle.wb_scan_theory.specs.Examined.{Scans, skips, takes, finishes, misses}
 use Rattle.wb_scan_theory.specs.Parts.{IsPrefixOf}
 use Rattle.wb_scan.specs.declared.scanned.Scanned.{Scanned}
 use Rattle.wb_scan.specs.declared.scanned.Scanned.TheVariants.{Token, End, NoToken}
 use Rattle.wb_scan.specs.Views.{LanguageParts}
 use Rattle.wb_scan.specs.Scans.{next_in, IsInside}
-use Rattle.wb_scan.specs.Inner.Found.{IsFound, IsNotFound, IsOver, SkipsTo}
+use Rattle.wb_scan.specs.Inner.Found.{IsEnough, IsFound, IsNotFound, IsOver, SkipsTo}
 
 module _ (parts : LanguageParts) (state : ℕ) (text : List ℕ) where
   piece_end : (at form end : ℕ) → IsFound parts state text at form end → at + length (slice_range text at end) ≡ end
@@ -19,21 +20,23 @@ module _ (parts : LanguageParts) (state : ℕ) (text : List ℕ) where
       let lt : at < end = found.some in omega arith
 
   -- layout is skipped
-  pub skips_more : (at place form end : ℕ) → SkipsTo parts state text at place → IsFound parts state text place form end →
-      length parts.language.forms ≤ form → SkipsTo parts state text at end
-  skips_more at place form end skips found le prefix of next n = skips prefix of next
-      (skipped form (slice_range text place end) (le, found.below) (found.wins prefix of)
-      (subst (λ z. NextToken parts.language text prefix z next) (sym (piece_end place form end found)) n))
+  pub skips_more : (at place form end d e here : ℕ) → SkipsTo parts state text at place d → IsFound parts state text place form end →
+      IsEnough parts state text place here → d ≤ e → here ≤ e → length parts.language.forms ≤ form → SkipsTo parts state text at end e
+  skips_more at place form end d e here so_far found enough le near past prefix of f further next n =
+      so_far prefix of f (omega arith) next
+      (skips form here (slice_range text place end) (enough.looked prefix of) (omega arith) (past, found.below) (found.wins prefix of)
+      (subst (λ z. Scans parts.language text prefix f z next) (sym (piece_end place form end found)) n))
 
   -- a form that isn't layout is the token
-  pub token_next : (at place form end : ℕ) (f : Form) (result : Scanned) → SkipsTo parts state text at place →
-      IsFound parts state text place form end → slice_get parts.language.forms form ≡ Some f →
-      result ≡ Token f.terminal place (place + length f.prefix) end → (prefix : List Symbol) →
-      IsPrefixOf parts.language.grammar parts.tables state prefix → NextToken parts.language text prefix at (next_in text result)
-  token_next at place form end f result skips found at_f is prefix of =
-      subst (λ z. NextToken parts.language text prefix at (next_in text z)) (sym is)
-      (skips prefix of _ (wins form f (slice_range text place end) (slice_range text (place + length f.prefix) end) at_f
-      (found.wins prefix of) (found.prefix f at_f).1
+  pub token_next : (at place form end d e here : ℕ) (f : Form) (result : Scanned) → SkipsTo parts state text at place d →
+      IsFound parts state text place form end → IsEnough parts state text place here → d ≤ e → here ≤ e →
+      slice_get parts.language.forms form ≡ Some f → result ≡ Token f.terminal place (place + length f.prefix) end →
+      (prefix : List Symbol) → IsPrefixOf parts.language.grammar parts.tables state prefix →
+      Scans parts.language text prefix e at (next_in text result)
+  token_next at place form end d e here f result so_far found enough le near at_f is prefix of =
+      subst (λ z. Scans parts.language text prefix e at (next_in text z)) (sym is)
+      (so_far prefix of e le _ (takes form here f (slice_range text place end) (slice_range text (place + length f.prefix) end)
+      (enough.looked prefix of) near at_f (found.wins prefix of) (found.prefix f at_f).1
       (ap (token place f.terminal (slice_range text (place + length f.prefix) end)) (sym (piece_end place form end found)))))
 
   pub token_inside : (at place form end : ℕ) (f : Form) (result : Scanned) → f.terminal < parts.language.grammar.terminals → at ≤ place →
@@ -45,13 +48,16 @@ module _ (parts : LanguageParts) (state : ℕ) (text : List ℕ) where
       (below, le, omega arith, (found.prefix f at_f).0, found.some, found.within)
 
   -- where nothing is found, the end is next, or nothing
-  pub over_next : (at place : ℕ) (result : Scanned) → SkipsTo parts state text at place → IsNotFound parts state text place →
-      IsOver (length text) place result → (prefix : List Symbol) → IsPrefixOf parts.language.grammar parts.tables state prefix →
-      NextToken parts.language text prefix at (next_in text result)
-  over_next at place (Token terminal begin lexeme end) skips none is prefix of = absurd is
-  over_next at place (End here) skips none (same, is) prefix of = skips prefix of (over here) (ends is (ap over same))
-  over_next at place (NoToken here) skips none (same, lt) prefix of =
-      skips prefix of (missing here) (fails lt (none prefix of) (ap missing same))
+  pub over_next : (at place d e here : ℕ) (result : Scanned) → SkipsTo parts state text at place d → IsNotFound parts state text place →
+      IsEnough parts state text place here → d ≤ e → here ≤ e → IsOver (length text) place result → (prefix : List Symbol) →
+      IsPrefixOf parts.language.grammar parts.tables state prefix → Scans parts.language text prefix e at (next_in text result)
+  over_next at place d e here (Token terminal begin lexeme end) so_far none enough le near is prefix of = absurd is
+  over_next at place d e here (End there) so_far none enough le near (same, is) prefix of =
+      let on : place < here = enough.on in
+      let seen : length text < e = omega arith in
+      so_far prefix of e le (over there) (finishes is seen (ap over same))
+  over_next at place d e here (NoToken there) so_far none enough le near (same, lt) prefix of =
+      so_far prefix of e le (missing there) (misses here (enough.looked prefix of) near lt (none prefix of) (ap missing same))
 
   pub over_inside : (at place : ℕ) (result : Scanned) → at ≤ place → place ≤ length text → IsOver (length text) place result →
       IsInside parts.language.grammar.terminals (length text) at result

@@ -4,6 +4,8 @@ pub mod Longest
 pub mod Found
 -- which form beats which, and what is known of a state by it
 pub mod Rankings
+-- pairs that are found by hashing
+pub mod Preferred
 -- Words of private functions.
 pub mod Lexicons
 pub mod Written

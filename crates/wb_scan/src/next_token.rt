@@ -1,6 +1,7 @@
 //! What is next on a text, at a state of the parser?
 //!
-//! Layout that wins is skipped at the same state. Which forms are considered there lies in the automaton, so no set is asked here.
+//! Layout that wins is skipped at the same state. Which forms are considered there lies in the automaton, so no set is asked here. One walk
+//! tells what is next and which bytes that rests on.
 
 ghost use Rattle.std.specs.Prelude.{◌≡◌, ◌<◌, ◌≤◌, ◌+◌, ℕ, List, IfSome, IsNone, Some, length, slice_get};
 ghost use Rattle.wb_base.specs.declared.symbol.Symbol.{Symbol};
@@ -8,9 +9,10 @@ ghost use Rattle.wb_lookahead.specs.Contents.{size_of};
 ghost use Rattle.wb_scan_theory.specs.declared.form.Form.{Form};
 ghost use Rattle.wb_scan_theory.specs.Parts.{IsPrefixOf};
 ghost use Rattle.wb_scan_theory.specs.Tokens.{NextToken};
+ghost use Rattle.wb_scan_theory.specs.Examined.{IsExamined, Scans};
 ghost use Rattle.wb_scan.specs.declared.scanned.Scanned.TheVariants.{Token};
 ghost use Rattle.wb_scan.specs.Scans.{next_in, IsInside};
-ghost use Rattle.wb_scan.specs.Inner.Found.{IsFound, IsNotFound, IsOver};
+ghost use Rattle.wb_scan.specs.Inner.Found.{IsEnough, IsFound, IsNotFound, IsOver};
 
 use crate::landing::winner_at;
 use crate::longest::longest;
@@ -27,16 +29,64 @@ pub fn scan(language: &Language, state: usize, text: &[u8], at: usize) -> Scanne
     ensures next { (prefix : List Symbol) → IsPrefixOf language.now.language.grammar language.now.tables state prefix → NextToken language.now.language text.now prefix at (next_in text.now result) }
     ensures inside { IsInside language.now.language.grammar.terminals (length text.now) at result }
 {
+    scan_examined(language, state, text, at).scanned
+}
+
+/// What is next on a text, and how far it was looked at.
+#[derive(Clone, Copy, Debug, PartialEq, Eq)]
+pub struct ExaminedScan {
+    /// What is next.
+    pub scanned: Scanned,
+    /// Only bytes before this place were looked at. It is one more than the text's length where the text was seen to its end.
+    pub examined: usize,
+}
+
+/// What is next on a text at a state from a place on, as `scan` says it, and before which place the bytes were looked at.
+///
+/// Each text with the same bytes before that place, and no others where its length is less, has the same next at this state and place.
+pub fn scan_examined(language: &Language, state: usize, text: &[u8], at: usize) -> ExaminedScan
+    requires state { state < size_of language.now.tables }
+    requires at { at ≤ length text.now }
+    ensures next { (prefix : List Symbol) → IsPrefixOf language.now.language.grammar language.now.tables state prefix → Scans language.now.language text.now prefix result.examined at (next_in text.now result.scanned) }
+    ensures inside { IsInside language.now.language.grammar.terminals (length text.now) at result.scanned }
+    ensures on { at < result.examined }
+    ensures within { result.examined ≤ length text.now + 1 }
+{
     let mut place = at;
+    let mut examined = at;
     'layout: loop {
-        let Some(found) = found_at(language, state, text, place) else {
-            return over_at(text, place);
+        let sought = sought_at(language, state, text, place);
+        examined = later(examined, sought.examined);
+        let Some(found) = sought.found else {
+            let scanned = over_at(text, place);
+            return ExaminedScan { scanned, examined };
         };
         if found.form < language.forms.len() {
-            return token_at(language, place, found);
+            let scanned = token_at(language, place, found);
+            return ExaminedScan { scanned, examined };
         }
         place = found.end;
     }
+}
+
+/// Before which place a scan at a state and a place looks at bytes: the `examined` of `scan_examined`.
+pub fn examined(language: &Language, state: usize, text: &[u8], at: usize) -> usize
+    requires state { state < size_of language.now.tables }
+    requires at { at ≤ length text.now }
+    ensures examined { (prefix : List Symbol) → IsPrefixOf language.now.language.grammar language.now.tables state prefix → IsExamined language.now.language text.now prefix at result }
+    ensures on { at < result }
+    ensures within { result ≤ length text.now + 1 }
+{
+    scan_examined(language, state, text, at).examined
+}
+
+// The later of two places.
+fn later(one: usize, other: usize) -> usize
+    ensures one { one ≤ result }
+    ensures other { other ≤ result }
+    ensures within { (end : ℕ) → one ≤ end → other ≤ end → result ≤ end }
+{
+    if one < other { other } else { one }
 }
 
 // The end of the text where it is reached, and nothing elsewhere.
@@ -58,16 +108,28 @@ pub(crate) struct Found {
     pub(crate) end: usize,
 }
 
-// The form that wins from a place on.
-fn found_at(language: &Language, state: usize, text: &[u8], at: usize) -> Option<Found>
+// The form that wins from a place on, where one does, and the place before which the bytes were looked at for it.
+#[derive(Clone, Copy)]
+struct Sought {
+    found: Option<Found>,
+    examined: usize,
+}
+
+// Looks for the form that wins from a place on.
+fn sought_at(language: &Language, state: usize, text: &[u8], at: usize) -> Sought
     requires state { state < size_of language.now.tables }
     requires at { at ≤ length text.now }
-    ensures some { IfSome result (λ found. IsFound language.now state text.now at found.form found.end) }
-    ensures none { IsNone result → IsNotFound language.now state text.now at }
+    ensures some { IfSome result.found (λ found. IsFound language.now state text.now at found.form found.end) }
+    ensures none { IsNone result.found → IsNotFound language.now state text.now at }
+    ensures enough { IsEnough language.now state text.now at result.examined }
 {
-    let found = longest(&language.automaton, &language.landings, state, text, at);
-    if found.end == at {
-        return None;
+    let reach = longest(&language.automaton, &language.landings, state, text, at);
+    let examined = reach.examined;
+    if reach.end == at {
+        return Sought {
+            found: None,
+            examined,
+        };
     }
     let ranking = Ranking {
         forms: &language.forms,
@@ -78,13 +140,19 @@ fn found_at(language: &Language, state: usize, text: &[u8], at: usize) -> Option
         &language.automaton,
         &language.landings,
         &ranking,
-        found.state,
+        reach.state,
     ) {
-        Some(form) => Some(Found {
-            form,
-            end: found.end,
-        }),
-        None => None,
+        Some(form) => {
+            let end = reach.end;
+            Sought {
+                found: Some(Found { form, end }),
+                examined,
+            }
+        }
+        None => Sought {
+            found: None,
+            examined,
+        },
     }
 }
 

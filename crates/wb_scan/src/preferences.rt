@@ -3,7 +3,7 @@
 //! Pairs are found by hashing, so that no state goes through all of them.
 
 ghost use Rattle.std.specs.Prelude.{◌≡◌, ◌↔◌, Contains, IsTrue};
-ghost use Rattle.wb_scan.specs.Views.{AreIndexed};
+ghost use Rattle.wb_scan.specs.Inner.Preferred.{AreIndexed};
 
 use indexmap::IndexSet;
 use std::alloc::Global;
@@ -19,7 +19,7 @@ pub(crate) struct Preferences {
 
 impl Model for Preferences {
     ghost use Rattle.std.specs.Prelude.{List, ℕ};
-    ghost use Rattle.wb_scan.specs.Views.{AreIndexed};
+    ghost use Rattle.wb_scan.specs.Inner.Preferred.{AreIndexed};
 
     ghost Value = { List (ℕ × ℕ) };
 

@@ -9,6 +9,7 @@ pub mod HasOneLemmas
 pub mod MatchLemmas
 pub mod PartLemmas
 pub mod Pigeons
+pub mod SeenLemmas
 pub mod ShownLemmas
 pub mod StackBounds
 pub mod StepLemmas

@@ -4,7 +4,8 @@ use Rattle.wb_base.specs.declared.symbol.Symbol.TheVariants.{Terminal, Nontermin
 use Rattle.wb_grammar_theory.specs.Trees.{Forest, nothing, leaf, node, symbols}
 use Rattle.wb_scan_theory.specs.Machine.{joined}
 use Rattle.wb_scan_theory.proofs.ForestLemmas.{joined_assoc, symbols_joined}
-use Rattle.wb_session_theory.specs.Frames.{Frame, bare, hole, twig, branch, roots, root_at, filled, IsWithin, row, linked}
+use Rattle.wb_session_theory.specs.Frames.{Frame, bare, hole, twig, branch, roots, root_at, filled}
+use Rattle.wb_session_theory.specs.Inner.Linked.{IsWithin, row, linked}
 use Rattle.wb_session_theory.specs.Frames.{holes}
 
 -- a root that is there is one leaf or one node

@@ -7,7 +7,7 @@ use Rattle.wb_scan_theory.specs.Languages.{LanguageView}
 use Rattle.wb_scan_theory.specs.Tokens.{token}
 use Rattle.wb_scan_theory.specs.Machine.{joined}
 use Rattle.wb_scan_theory.proofs.ForestLemmas.{joined_assoc, symbols_joined}
-use Rattle.wb_session_theory.specs.Examined.{Scans}
+use Rattle.wb_scan_theory.specs.Examined.{Scans}
 use Rattle.wb_session_theory.specs.Frames.{roots}
 use Rattle.wb_session_theory.specs.Runs.{Reduces, rests, reduces, Reads, stays, shifts}
 use Rattle.wb_session_theory.specs.Over.{ReducesOver, rest, reduce, ReadsOver, stay, shift}

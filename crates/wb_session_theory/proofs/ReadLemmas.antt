@@ -21,10 +21,12 @@ use Rattle.wb_scan_theory.proofs.ForestLemmas.{joined_split, joined_assoc, symbo
 use Rattle.wb_scan_theory.proofs.TextLemmas.{is_one}
 use Rattle.wb_scan_theory.proofs.TokenLemmas.{taken}
 use Rattle.wb_scan_theory.proofs.UniqueLemmas.{same_token}
-use Rattle.wb_session_theory.specs.Examined.{Scans, AgreeUpTo}
+use Rattle.wb_scan_theory.specs.Examined.{Scans}
+use Rattle.wb_session_theory.specs.Inner.Agreeing.{AgreeUpTo}
 use Rattle.wb_session_theory.specs.Runs.{Reduces, rests, reduces, Reads, stays, shifts, Answer, a_tree, IsAnswer, Ends, accepts, no_token}
 use Rattle.wb_session_theory.specs.Runs.{unexpected}
-use Rattle.wb_session_theory.proofs.ScanLemmas.{scan_kept, scan_next, scan_more}
+use Rattle.wb_scan_theory.proofs.SeenLemmas.{scan_next}
+use Rattle.wb_session_theory.proofs.ScanLemmas.{scan_kept, scan_more}
 
 -- the same is read on each text that agrees with what was looked at
 pub reads_kept : {l : LanguageView} {text other : List ℕ} {e : ℕ} {prefix : List Symbol} {at at' : ℕ} {stack stack' : Forest} →

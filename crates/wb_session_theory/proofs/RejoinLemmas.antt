@@ -17,11 +17,12 @@ use Rattle.wb_scan_theory.specs.Readings.{Gives}
 use Rattle.wb_scan_theory.specs.Machine.{joined}
 use Rattle.wb_scan_theory.proofs.FactLemmas.{shift_at, reduce_at}
 use Rattle.wb_scan_theory.proofs.ForestLemmas.{append_nil}
-use Rattle.wb_session_theory.specs.Examined.{Scans}
+use Rattle.wb_scan_theory.specs.Examined.{Scans}
 use Rattle.wb_session_theory.specs.Rests.{SameRest, IsMoved, a_token, an_end, a_gap}
 use Rattle.wb_session_theory.specs.Runs.{Reduces, rests, reduces, Reads, stays, shifts, Answer, a_tree}
 use Rattle.wb_session_theory.specs.Runs.{a_stop, Ends, accepts, no_token, unexpected}
-use Rattle.wb_session_theory.specs.Frames.{Frame, bare, twig, branch, roots, filled, IsWithin, IsSpine, linked}
+use Rattle.wb_session_theory.specs.Frames.{Frame, bare, twig, branch, roots, filled, IsSpine}
+use Rattle.wb_session_theory.specs.Inner.Linked.{IsWithin, linked}
 use Rattle.wb_session_theory.specs.Frames.{Outcome, whole, halts, shown, HasSpine}
 use Rattle.wb_session_theory.proofs.ScanLemmas.{scan_moved, scan_there}
 use Rattle.wb_session_theory.proofs.FrameLemmas.{cut, filled_linked, within_linked, filled_symbols}

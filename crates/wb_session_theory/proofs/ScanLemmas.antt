@@ -12,7 +12,8 @@ use Rattle.wb_scan_theory.specs.Winners.{IsConsideredForm, valid, layout, Matche
 use Rattle.wb_scan_theory.specs.Tokens.{Next, token, over, missing, NextToken, skipped, wins, ends, fails}
 use Rattle.wb_scan_theory.specs.Facts.{IsWritten}
 use Rattle.wb_scan_theory.proofs.TokenLemmas.{piece_some}
-use Rattle.wb_session_theory.specs.Examined.{IsLooked, up_to, to_end, Scans, skips, takes, finishes, misses, AgreeUpTo, equal, in_front}
+use Rattle.wb_scan_theory.specs.Examined.{IsLooked, up_to, to_end, Scans, skips, takes, finishes, misses}
+use Rattle.wb_session_theory.specs.Inner.Agreeing.{AgreeUpTo, equal, in_front}
 use Rattle.wb_session_theory.specs.Rests.{SameRest, IsMoved, a_token, an_end, a_gap}
 use Rattle.wb_session_theory.proofs.FrontLemmas.{fronts, kept_front}
 
@@ -91,13 +92,6 @@ module _ {l : LanguageView} {prefix : List Symbol} where
       let near = agree_less le agree in
       let back = looked_kept looked near in
       misses here back le (more_text looked near lt) (λ q y v. out q y (wins_kept back (agree_back near) v)) found
-
-  -- what a scan gives is next
-  pub scan_next : {text : List ℕ} {e at : ℕ} {next : Next} → Scans l text prefix e at next → NextToken l text prefix at next
-  scan_next (skips p here x looked le is w more) = skipped p x is w (scan_next more)
-  scan_next (takes p here form x lexeme looked le at_form w is found) = wins p form x lexeme at_form w is found
-  scan_next (finishes is lt found) = ends is found
-  scan_next (misses here looked le lt out found) = fails lt out found
 
   looked_on : {text : List ℕ} {at e : ℕ} → IsLooked l text prefix at e → at < e
   looked_on (up_to piece rest here some dead is) = omega arith

@@ -14,12 +14,14 @@ use Rattle.wb_scan_theory.specs.Facts.{IsLanguage}
 use Rattle.wb_scan_theory.specs.Machine.{joined}
 use Rattle.wb_scan_theory.proofs.FactLemmas.{parsable}
 use Rattle.wb_scan_theory.proofs.ForestLemmas.{joined_none}
-use Rattle.wb_session_theory.specs.Examined.{AgreeUpTo, equal, in_front, HasSameFront}
+use Rattle.wb_scan_theory.specs.Examined.{HasSameFront}
+use Rattle.wb_session_theory.specs.Inner.Agreeing.{AgreeUpTo, equal, in_front}
 use Rattle.wb_session_theory.specs.Rests.{SameRest}
 use Rattle.wb_session_theory.specs.Edits.{edited}
 use Rattle.wb_scan_theory.proofs.TextLemmas.{one_tree, one_stop, not_both}
 use Rattle.wb_session_theory.specs.Runs.{Reads, Answer, a_tree, a_stop, IsAnswer, Ends}
-use Rattle.wb_session_theory.specs.Frames.{Frame, roots, filled, IsWithin, IsSpine, row, Outcome, shown, HasSpine}
+use Rattle.wb_session_theory.specs.Frames.{Frame, roots, filled, IsSpine, Outcome, shown, HasSpine}
+use Rattle.wb_session_theory.specs.Inner.Linked.{IsWithin, row}
 use Rattle.wb_session_theory.proofs.FrameLemmas.{whole_row, row_within, roots_symbols}
 use Rattle.wb_session_theory.proofs.SpineLemmas.{spine_row}
 use Rattle.wb_session_theory.proofs.RejoinLemmas.{reread, reend}

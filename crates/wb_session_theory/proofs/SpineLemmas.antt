@@ -3,7 +3,8 @@ use Rattle.std.proofs.Common.{◌≡◌, ◌<◌, ◌≤◌, ◌+◌, ℕ, zero,
 use Rattle.std.proofs.lemmas.Bool.{cases_order}
 use Rattle.wb_grammar_theory.specs.Trees.{Forest, nothing, leaf, node}
 use Rattle.wb_scan_theory.specs.Machine.{joined}
-use Rattle.wb_session_theory.specs.Frames.{Frame, bare, hole, twig, branch, roots, root_at, filled, row, linked}
+use Rattle.wb_session_theory.specs.Frames.{Frame, bare, hole, twig, branch, roots, root_at, filled}
+use Rattle.wb_session_theory.specs.Inner.Linked.{row, linked}
 use Rattle.wb_session_theory.specs.Frames.{holes, one_if, rebuilt}
 use Rattle.wb_session_theory.specs.Frames.{IsSpine, at_end, past_hole, in_node, depth, none_if, shared}
 use Rattle.wb_scan_theory.specs.Bounds.{nodes}

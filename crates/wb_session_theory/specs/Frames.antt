@@ -33,25 +33,6 @@ filled (hole i rest) stack = joined (root_at i stack) (filled rest stack)
 filled (twig t text rest) stack = leaf t text (filled rest stack)
 filled (branch p a children rest) stack = node p a (filled children stack) (filled rest stack)
 
--- each hole is for one of so many roots
-abbrev pub IsWithin : ℕ → Frame → Type 0
-IsWithin n bare = Unit {0}
-IsWithin n (hole i rest) = (i < n) × IsWithin n rest
-IsWithin n (twig t text rest) = IsWithin n rest
-IsWithin n (branch p a children rest) = IsWithin n children × IsWithin n rest
-
--- so many holes one after another, from a number on
-abbrev pub row : ℕ → ℕ → Frame
-row i zero = bare
-row i (suc n) = hole i (row (suc i) n)
-
--- the trees of both, one after another
-abbrev pub linked : Frame → Frame → Frame
-linked bare f = f
-linked (hole i rest) f = hole i (linked rest f)
-linked (twig t text rest) f = twig t text (linked rest f)
-linked (branch p a children rest) f = branch p a children (linked rest f)
-
 -- how many holes there are
 abbrev pub holes : Frame → ℕ
 holes bare = 0

@@ -7,7 +7,7 @@ use Rattle.wb_grammar_theory.specs.Lookaheads.{CanShift, CanReduce}
 use Rattle.wb_scan_theory.specs.Languages.{LanguageView}
 use Rattle.wb_scan_theory.specs.Tokens.{token}
 use Rattle.wb_scan_theory.specs.Machine.{joined}
-use Rattle.wb_session_theory.specs.Examined.{Scans}
+use Rattle.wb_scan_theory.specs.Examined.{Scans}
 use Rattle.wb_session_theory.specs.Frames.{roots}
 
 -- reductions before the terminal, each of which leaves so many roots below its children

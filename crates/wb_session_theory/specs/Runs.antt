@@ -12,7 +12,7 @@ use Rattle.wb_scan_theory.specs.Tokens.{Next, token, over, missing}
 use Rattle.wb_scan_theory.specs.Readings.{Gives}
 use Rattle.wb_scan_theory.specs.Machine.{joined}
 use Rattle.wb_scan_theory.specs.Texts.{ParsesTo, StopsAt}
-use Rattle.wb_session_theory.specs.Examined.{Scans}
+use Rattle.wb_scan_theory.specs.Examined.{Scans}
 
 -- reductions before the terminal lead from the one stack to the other, none of which takes anything of the prefix below
 pub data Reduces (g : GrammarView) (prefix : List Symbol) (t : ℕ) : Forest → Forest → Type 0 where

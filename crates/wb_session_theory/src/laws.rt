@@ -22,7 +22,7 @@ ghost use Rattle.wb_scan.specs.Scans.{next_in, IsInside};
 ghost use Rattle.wb_scan.specs.declared.scanned.Scanned.{Scanned};
 ghost use Rattle.wb_automata.specs.Automata.{AutomatonView, GoesOn};
 ghost use Rattle.wb_parser_states.specs.Stacks.{AreStates};
-ghost use Rattle.wb_session_theory.specs.Examined.{IsExamined, IsLooked, HasSameFront, Scans};
+ghost use Rattle.wb_scan_theory.specs.Examined.{IsExamined, IsLooked, HasSameFront, Scans};
 ghost use Rattle.wb_session_theory.specs.Rests.{SameRest, IsMoved};
 ghost use Rattle.wb_session_theory.specs.Runs.{Reads, Answer, a_tree, IsAnswer, Ends};
 ghost use Rattle.wb_session_theory.specs.Frames.{Frame, roots, filled, holes, rebuilt, shared, depth, IsSpine, Outcome, shown, HasSpine};

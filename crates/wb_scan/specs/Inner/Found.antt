@@ -2,10 +2,10 @@
 use Rattle.std.specs.Prelude.{◌≡◌, ◌<◌, ◌≤◌, ◌+◌, ℕ, List, ◌++◌, Some, length, slice_get, slice_range}
 use Rattle.wb_base.specs.declared.symbol.Symbol.{Symbol}
 use Rattle.wb_scan_theory.specs.declared.form.Form.{Form}
-use Rattle.wb_scan_theory.specs.Languages.{LanguageView}
 use Rattle.wb_scan_theory.specs.Winners.{Wins}
 use Rattle.wb_scan_theory.specs.Parts.{IsPrefixOf}
-use Rattle.wb_scan_theory.specs.Tokens.{Next, NextToken}
+use Rattle.wb_scan_theory.specs.Tokens.{Next}
+use Rattle.wb_scan_theory.specs.Examined.{IsLooked, Scans}
 use Rattle.wb_scan.specs.declared.scanned.Scanned.{Scanned}
 use Rattle.wb_scan.specs.declared.scanned.Scanned.TheVariants.{Token, End, NoToken}
 use Rattle.wb_scan.specs.Views.{LanguageParts}
@@ -32,8 +32,15 @@ IsOver size at (Token terminal begin lexeme end) = ⊥
 IsOver size at (End place) = (place ≡ at) × (at ≡ size)
 IsOver size at (NoToken place) = (place ≡ at) × (at < size)
 
--- what is next at the one place is next at the other, at each prefix of the state
-abbrev pub SkipsTo : LanguageParts → ℕ → List ℕ → ℕ → ℕ → Type 0
-SkipsTo parts state text at place =
-    (prefix : List Symbol) → IsPrefixOf parts.language.grammar parts.tables state prefix → (next : Next) →
-    NextToken parts.language text prefix place next → NextToken parts.language text prefix at next
+-- the bytes before the place e are enough to see which form wins, at each prefix of the state
+pub record IsEnough (parts : LanguageParts) (state : ℕ) (text : List ℕ) (at e : ℕ) : Type 0 where
+  pub on : at < e
+  pub within : e ≤ length text + 1
+  pub looked : (prefix : List Symbol) → IsPrefixOf parts.language.grammar parts.tables state prefix →
+      IsLooked parts.language text prefix at e
+
+-- what is next at the one place is next at the other, at each prefix of the state, where the bytes before d are looked at besides
+abbrev pub SkipsTo : LanguageParts → ℕ → List ℕ → ℕ → ℕ → ℕ → Type 0
+SkipsTo parts state text at place d =
+    (prefix : List Symbol) → IsPrefixOf parts.language.grammar parts.tables state prefix → (e : ℕ) → d ≤ e → (next : Next) →
+    Scans parts.language text prefix e place next → Scans parts.language text prefix e at next

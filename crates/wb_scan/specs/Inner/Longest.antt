@@ -1,6 +1,6 @@
--- The longest match of the terminals of a set, from a place of a text on.
-use Rattle.std.specs.Prelude.{◌≡◌, ◌<◌, ◌≤◌, ◌⊎◌, ℕ, List, slice_range}
-use Rattle.wb_automata.specs.Automata.{AutomatonView, LeadsTo, MatchesIn}
+-- The longest match of the terminals of a set, from a place of a text on, and how far was looked for it.
+use Rattle.std.specs.Prelude.{◌≡◌, ◌<◌, ◌≤◌, ◌+◌, ◌⊎◌, ℕ, List, length, slice_range}
+use Rattle.wb_automata.specs.Automata.{AutomatonView, GoesOn, LeadsTo, MatchesIn}
 
 -- no terminal of the set matches a text that ends after the one place and not after the other
 abbrev pub HasNoneAfter : AutomatonView → ℕ → List ℕ → ℕ → ℕ → ℕ → Type 0
@@ -19,3 +19,8 @@ pub record IsLongest (automaton : AutomatonView) (set : ℕ) (text : List ℕ) (
   pub within : end ≤ to
   pub matched : IsMatchedTo automaton set text at state end
   pub none_after : HasNoneAfter automaton set text at end to
+
+-- no match goes on from the text up to the place e; or e is one more than the length, where the text was seen to its end
+abbrev pub IsSeenTo : AutomatonView → ℕ → List ℕ → ℕ → ℕ → Type 0
+IsSeenTo automaton set text at e =
+    (at < e) × (((e ≤ length text) × (¬ GoesOn automaton set (slice_range text at e))) ⊎ (e ≡ length text + 1))

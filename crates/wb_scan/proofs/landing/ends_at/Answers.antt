@@ -1,4 +1,3 @@
-use Rattle.std.specs.Prelude.{Bool, false, not, true, ◌≡◌}
 use Rattle.wb_scan.proofs.LandingLemmas.{turned}
 use Rattle.wb_scan.proofs.landing.ends_at.Goals as goal
 

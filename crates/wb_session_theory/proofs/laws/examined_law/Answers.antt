@@ -2,8 +2,9 @@ use Rattle.std.proofs.Common.{length, subst, arith}
 use Rattle.wb_scan_theory.specs.Tokens.{NextToken}
 use Rattle.wb_scan_theory.proofs.TokenLemmas.{one_next, some_next}
 use Rattle.wb_scan_theory.proofs.PartLemmas.{considers}
-use Rattle.wb_session_theory.proofs.ScanLemmas.{scan_kept, scan_next, scan_on, next_scan}
-use Rattle.wb_session_theory.proofs.SeenLemmas.{looked_piece, same_scanned}
+use Rattle.wb_scan_theory.proofs.SeenLemmas.{looked_piece, scan_next}
+use Rattle.wb_session_theory.proofs.ScanLemmas.{scan_kept, scan_on, next_scan}
+use Rattle.wb_session_theory.proofs.SeenLemmas.{same_scanned}
 use Rattle.wb_session_theory.proofs.SessionLemmas.{agrees}
 use Rattle.wb_session_theory.proofs.laws.examined_law.Goals as goal
 

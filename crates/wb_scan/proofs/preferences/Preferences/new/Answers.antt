@@ -1,5 +1,5 @@
 use Rattle.std.proofs.Common.{List, ℕ, subst}
-use Rattle.wb_scan.specs.Views.{AreIndexed}
+use Rattle.wb_scan.specs.Inner.Preferred.{AreIndexed}
 use Rattle.wb_scan.proofs.preferences.Preferences.new.Goals as goal
 
 pub invariant_of-result : goal.invariant_of-result

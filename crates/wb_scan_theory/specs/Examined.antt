@@ -32,11 +32,6 @@ pub data Scans (l : LanguageView) (text : List ℕ) (prefix : List Symbol) (e : 
       ((place : ℕ) (piece : List ℕ) → ¬ Wins l prefix text at place piece) → next ≡ missing at → Scans l text prefix e at next
 
 -- the texts agree in their first e bytes, and are equal where one of them has fewer
-pub data AgreeUpTo (e : ℕ) (text other : List ℕ) : Type 0 where
-  equal : text ≡ other → AgreeUpTo e text other
-  in_front : (front rest rest' : List ℕ) → text ≡ front ++ rest → other ≡ front ++ rest' → e ≤ length front → AgreeUpTo e text other
-
--- the same by the first bytes alone
 pub record HasSameFront (e : ℕ) (text other : List ℕ) : Type 0 where
   pub front : take e text ≡ take e other
   pub whole : length text < e → text ≡ other
