@@ -3,7 +3,7 @@ use Rattle.std.proofs.Common.{◌≡◌, ◌+◌, ◌-◌, ◌≤◌, ℕ, List,
 use Rattle.std.proofs.Common.{ap, ◌∙◌, subst, arith}
 use Rattle.std.specs.List.{AllZip}
 use Rattle.std.specs.Result.{OnOk}
-use Rattle.std.proofs.lemmas.List.{reverse-append, length-drop, take_all}
+use Rattle.std.proofs.lemmas.List.{reverse-append}
 use Rattle.wb_values.specs.Signature.{Signature}
 use Rattle.wb_values.specs.Tree.{Tree, node}
 use Rattle.wb_values.specs.ValuesIn.{values_in, IsIn}

@@ -1,14 +1,12 @@
 -- What the table derives is a term by its grammar.
-use Rattle.std.proofs.Common.{◌≡◌, ◌⊎◌, inl, inr, ℕ, zero, suc, List, [], ◌∷◌, ◌++◌, Some, ℤ, refl, ap, ◌∙◌, subst}
+use Rattle.std.proofs.Common.{◌≡◌, ◌⊎◌, inl, inr, ℕ, zero, suc, List, [], ◌∷◌, ◌++◌, Some, refl, ap, ◌∙◌, subst}
 use Rattle.std.specs.Prelude.{slice_get}
 use Rattle.wb_text_predictive.specs.declared.symbol.Symbol.TheVariants.{Token, Nonterminal, Act}
 use Rattle.wb_text_predictive.specs.declared.table.Placed.{Placed}
 use Rattle.wb_text_predictive.specs.Grammar.{done, token, expand, act}
 use Rattle.wb_text_tokens.specs.declared.token.Token.{Token as Lexeme}
 use Rattle.wb_text_tokens.specs.declared.token.Token.TheVariants as t
-use Rattle.wb_text_tokens.specs.declared.word.Word.{Word}
 use Rattle.wb_text_tokens.specs.declared.word.Word.TheVariants as words
-use Rattle.wb_text_tokens.specs.declared.punctuation.Punctuation.{Punctuation}
 use Rattle.wb_text_tokens.specs.declared.punctuation.Punctuation.TheVariants as p
 use Rattle.wb_terms.specs.declared.event.Event.{Event}
 use Rattle.wb_text_tokens.specs.declared.kind.TokenKind.{TokenKind}

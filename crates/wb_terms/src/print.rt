@@ -1,32 +1,40 @@
 //! How is a value printed, however deep its trees are?
 //!
-//! An explicit stack holds the children that are left, so nothing recurses. A tree may be a shared graph whose text would be astronomic, so
+//! A stack holds the children that are left, so nothing recurses. A tree may be a shared graph whose text would be astronomic, so
 //! printing ends where the text gets too long.
 
-ghost use Rattle.std.specs.Prelude.{◌≡◌, ◌+◌, ◌<◌, ◌≤◌, ◌++◌, ◌∷◌, [], length, reverse, true, false, IfErr, IfOk, IsTrue, OnOk};
+ghost use Rattle.std.specs.Prelude.{◌≡◌, ◌+◌, ◌<◌, ◌≤◌, ◌++◌, ◌∷◌, [], Some, length, reverse, take, true, false, All, IfErr, IfOk, IsTrue, OnOk, slice_get};
 ghost use Rattle.wb_text_tokens.specs.Printing.{printed_text};
+ghost use Rattle.wb_values.specs.declared.value.Value.{Value as Item};
 ghost use Rattle.wb_values.specs.ValuesIn.{tree_in, value_in, IsIn};
 ghost use Rattle.wb_values.specs.Tree.{bool};
 ghost use Rattle.wb_terms.specs.Printed.{name_of, printed_plain, printed_tree, printed_value};
 ghost use Rattle.wb_terms.specs.Lengths.{IsTooLong};
 ghost use Rattle.wb_terms.specs.Inner.Plain.{ArePlain, IsPlain};
-ghost use Rattle.wb_terms.specs.Inner.Pending.{before, left_of, left_text, pending_text, pending_weight, tree_weight, value_weight, children_weight, ArePendingIn};
+ghost use Rattle.wb_terms.specs.Inner.Pending.{before, text_left, weight_left, tree_weight, value_weight, ArePendingIn};
 
 use crate::name::printed_name;
 use crate::refusal::PrintRefusal;
 use std::alloc::{AllocError, Global};
 use wb_base::push;
 use wb_text_tokens::{print_int, print_text};
-use wb_values::{Signatures, TreeId, TreeStore, Value};
+use wb_values::{PackedValues, Signatures, TreeId, TreeStore, Value};
 
 // The most bytes that a value is printed in.
 const LIMIT: usize = 16_777_216;
 
-// The children of a tree that are still to be printed: those from this place on.
+// A tree that is begun: how many of the values that are left are none of its children, and whether its first child is one that is left.
 #[derive(Clone, Copy)]
+struct Begun {
+    below: usize,
+    first: bool,
+}
+
+// What is left to be printed: the children that are left of the trees that are begun, those of the last one on top, the next one last.
+#[derive(Drop)]
 struct Pending {
-    tree: TreeId,
-    next: usize,
+    values: PackedValues,
+    begun: Vec<Begun>,
 }
 
 // Appends the printed name of a production and an opening parenthesis.
@@ -52,11 +60,11 @@ fn print_bool(out: &mut Vec<u8>, truth: bool) -> Result<(), AllocError>
     }
 }
 
-// Appends what comes before the child at a place: nothing before the first one.
-fn print_separator(out: &mut Vec<u8>, place: usize) -> Result<(), AllocError>
-    ensures { OnOk result (out.new.items ≡ out.old.items ++ before place) }
+// Appends what comes before a child: nothing before the first one.
+fn print_separator(out: &mut Vec<u8>, first: bool) -> Result<(), AllocError>
+    ensures { OnOk result (out.new.items ≡ out.old.items ++ before first) }
 {
-    if place == 0 {
+    if first {
         Ok(())
     } else {
         out.extend_from_slice(b", ")
@@ -110,86 +118,119 @@ fn print_plain_text(out: &mut Vec<u8>, text: &[u8]) -> Result<(), AllocError>
 // Appends what comes before the children of a tree, which are then to be printed first.
 fn begin_tree(
     out: &mut Vec<u8>,
-    stack: &mut Vec<Pending>,
+    pending: &mut Pending,
     tree: TreeId,
     signatures: &Signatures,
     store: &TreeStore,
 ) -> Result<(), AllocError>
     requires within { tree.0 < length store.now }
-    requires pending { ArePendingIn (length store.now) (reverse stack.old.items) }
-    ensures text { OnOk result (out.new.items ++ pending_text signatures.now store.now (reverse stack.new.items)
-        ≡ out.old.items ++ (printed_tree signatures.now (tree_in store.now tree.0) ++ pending_text signatures.now store.now (reverse stack.old.items))) }
-    ensures weight { OnOk result (pending_weight store.now (reverse stack.new.items)
-        ≡ tree_weight (tree_in store.now tree.0) + pending_weight store.now (reverse stack.old.items)) }
-    ensures pending { OnOk result (ArePendingIn (length store.now) (reverse stack.new.items)) }
+    requires pending { ArePendingIn (length store.now) pending.old.values (reverse pending.old.begun.items) }
+    ensures text { OnOk result (out.new.items ++ text_left signatures.now store.now pending.new.values (reverse pending.new.begun.items)
+        ≡ out.old.items ++ (printed_tree signatures.now (tree_in store.now tree.0) ++ text_left signatures.now store.now pending.old.values (reverse pending.old.begun.items))) }
+    ensures weight { OnOk result (weight_left store.now pending.new.values (reverse pending.new.begun.items)
+        ≡ tree_weight (tree_in store.now tree.0) + weight_left store.now pending.old.values (reverse pending.old.begun.items)) }
+    ensures pending { OnOk result (ArePendingIn (length store.now) pending.new.values (reverse pending.new.begun.items)) }
 {
     print_name(out, signatures, store.production(tree))?;
-    push(stack, Pending { tree, next: 0 })
+    let below = pending.values.len();
+    store.push_children(tree, &mut pending.values)?;
+    push(&mut pending.begun, Begun { below, first: true })
 }
 
 // Appends a plain value, or what comes before the children of a tree, which are then to be printed first.
 fn begin_value(
     out: &mut Vec<u8>,
-    stack: &mut Vec<Pending>,
+    pending: &mut Pending,
     value: &Value,
     signatures: &Signatures,
     store: &TreeStore,
 ) -> Result<(), PrintRefusal>
     requires within { IsIn (length store.now) value.now }
-    requires pending { ArePendingIn (length store.now) (reverse stack.old.items) }
-    ensures text { OnOk result (out.new.items ++ pending_text signatures.now store.now (reverse stack.new.items)
-        ≡ out.old.items ++ (printed_value signatures.now (value_in store.now value.now) ++ pending_text signatures.now store.now (reverse stack.old.items))) }
-    ensures weight { OnOk result (pending_weight store.now (reverse stack.new.items)
-        ≡ value_weight (value_in store.now value.now) + pending_weight store.now (reverse stack.old.items)) }
-    ensures pending { OnOk result (ArePendingIn (length store.now) (reverse stack.new.items)) }
+    requires pending { ArePendingIn (length store.now) pending.old.values (reverse pending.old.begun.items) }
+    ensures text { OnOk result (out.new.items ++ text_left signatures.now store.now pending.new.values (reverse pending.new.begun.items)
+        ≡ out.old.items ++ (printed_value signatures.now (value_in store.now value.now) ++ text_left signatures.now store.now pending.old.values (reverse pending.old.begun.items))) }
+    ensures weight { OnOk result (weight_left store.now pending.new.values (reverse pending.new.begun.items)
+        ≡ value_weight (value_in store.now value.now) + weight_left store.now pending.old.values (reverse pending.old.begun.items)) }
+    ensures pending { OnOk result (ArePendingIn (length store.now) pending.new.values (reverse pending.new.begun.items)) }
     ensures refused { IfErr result (IsTooLong (printed_value signatures.now (value_in store.now value.now))) }
 {
     match value {
         Value::Int(number) => Ok(print_int(out, *number)?),
         Value::Bool(truth) => Ok(print_bool(out, *truth)?),
         Value::Text(text) => print_short(out, text.as_slice()),
-        Value::Tree(tree) => Ok(begin_tree(out, stack, *tree, signatures, store)?),
+        Value::Tree(tree) => Ok(begin_tree(out, pending, *tree, signatures, store)?),
     }
 }
 
-// Appends the next child of a tree, or its end.
-fn print_next(
+// Like `begin_value`, of the last of the values that are left, which is taken off.
+fn begin_last(
     out: &mut Vec<u8>,
-    stack: &mut Vec<Pending>,
-    pending: Pending,
+    pending: &mut Pending,
+    place: usize,
     signatures: &Signatures,
     store: &TreeStore,
 ) -> Result<(), PrintRefusal>
-    requires within { pending.tree.0 < length store.now }
-    requires pending { ArePendingIn (length store.now) (reverse stack.old.items) }
-    ensures text { OnOk result (out.new.items ++ pending_text signatures.now store.now (reverse stack.new.items)
-        ≡ out.old.items ++ (left_text signatures.now store.now pending ++ 41 ∷ pending_text signatures.now store.now (reverse stack.old.items))) }
-    ensures weight { OnOk result (pending_weight store.now (reverse stack.new.items)
-        < children_weight (left_of store.now pending) + pending_weight store.now (reverse stack.old.items)) }
-    ensures pending { OnOk result (ArePendingIn (length store.now) (reverse stack.new.items)) }
-    ensures refused { IfErr result (IsTooLong (left_text signatures.now store.now pending)) }
+    requires place { place + 1 ≡ length pending.old.values }
+    requires within { All (IsIn (length store.now)) pending.old.values }
+    requires pending { ArePendingIn (length store.now) (take place pending.old.values) (reverse pending.old.begun.items) }
+    ensures text { OnOk result ((child : Item) → slice_get pending.old.values place ≡ Some child → out.new.items ++ text_left signatures.now store.now pending.new.values (reverse pending.new.begun.items)
+        ≡ out.old.items ++ (printed_value signatures.now (value_in store.now child) ++ text_left signatures.now store.now (take place pending.old.values) (reverse pending.old.begun.items))) }
+    ensures weight { OnOk result ((child : Item) → slice_get pending.old.values place ≡ Some child → weight_left store.now pending.new.values (reverse pending.new.begun.items)
+        ≡ value_weight (value_in store.now child) + weight_left store.now (take place pending.old.values) (reverse pending.old.begun.items)) }
+    ensures pending { OnOk result (ArePendingIn (length store.now) pending.new.values (reverse pending.new.begun.items)) }
+    ensures refused { IfErr result (λ error. (child : Item) → slice_get pending.old.values place ≡ Some child → IsTooLong (printed_value signatures.now (value_in store.now child)) error) }
 {
-    let Pending { tree, next } = pending;
-    if next >= store.arity(tree) {
+    if let Some(tree) = pending.values.tree(place) {
+        pending.values.truncate(place);
+        return Ok(begin_tree(out, pending, tree, signatures, store)?);
+    }
+    if let Some(text) = pending.values.text(place) {
+        print_short(out, text)?;
+        pending.values.truncate(place);
+        return Ok(());
+    }
+    let value = pending.values.get(place)?;
+    pending.values.truncate(place);
+    begin_value(out, pending, &value, signatures, store)
+}
+
+// Appends the next child of the last tree that is begun, or its end.
+fn print_next(
+    out: &mut Vec<u8>,
+    pending: &mut Pending,
+    begun: Begun,
+    signatures: &Signatures,
+    store: &TreeStore,
+) -> Result<(), PrintRefusal>
+    requires pending { ArePendingIn (length store.now) pending.old.values (begun ∷ reverse pending.old.begun.items) }
+    ensures text { OnOk result (out.new.items ++ text_left signatures.now store.now pending.new.values (reverse pending.new.begun.items)
+        ≡ out.old.items ++ text_left signatures.now store.now pending.old.values (begun ∷ reverse pending.old.begun.items)) }
+    ensures weight { OnOk result (weight_left store.now pending.new.values (reverse pending.new.begun.items)
+        < weight_left store.now pending.old.values (begun ∷ reverse pending.old.begun.items)) }
+    ensures pending { OnOk result (ArePendingIn (length store.now) pending.new.values (reverse pending.new.begun.items)) }
+    ensures refused { IfErr result (IsTooLong (text_left signatures.now store.now pending.old.values (begun ∷ reverse pending.old.begun.items))) }
+{
+    let Begun { below, first } = begun;
+    let left = pending.values.len();
+    if left <= below {
         return Ok(push(out, b')')?);
     }
-    print_separator(out, next)?;
+    print_separator(out, first)?;
     push(
-        stack,
-        Pending {
-            tree,
-            next: next + 1,
+        &mut pending.begun,
+        Begun {
+            below,
+            first: false,
         },
     )?;
-    let child = store.child(tree, next)?;
-    begin_value(out, stack, &child, signatures, store)
+    begin_last(out, pending, left - 1, signatures, store)
 }
 
 /// The printed text of a value, whose trees are those of the store.
 ///
 /// A production without signature is printed with an empty name. `TooLong` comes exactly where the text has more than 16,777,216
-/// bytes; what was printed until then is dropped. No clause bounds the work: it is linear in the text, as far as the limit, and visits only
-/// nodes that the value has, a shared one once for each place. Nothing recurses.
+/// bytes; what was printed until then is dropped. No clause bounds the work: it is linear in the text, as far as the limit, and in the
+/// children of the trees that are begun there, and visits only nodes that the value has, a shared one once for each place. Nothing recurses.
 pub fn print_value(
     alloc: Global,
     value: &Value,
@@ -202,13 +243,16 @@ pub fn print_value(
     ensures refused { IfErr result (IsTooLong (printed_value signatures.now (value_in store.now value.now))) }
 {
     let mut out = Vec::new(alloc);
-    let mut stack = Vec::new(alloc);
-    begin_value(&mut out, &mut stack, value, signatures, store)?;
+    let mut pending = Pending {
+        values: PackedValues::new(alloc),
+        begun: Vec::new(alloc),
+    };
+    begin_value(&mut out, &mut pending, value, signatures, store)?;
     'print: while out.len() <= LIMIT {
-        let Some(pending) = stack.pop() else {
+        let Some(begun) = pending.begun.pop() else {
             return Ok(out);
         };
-        print_next(&mut out, &mut stack, pending, signatures, store)?;
+        print_next(&mut out, &mut pending, begun, signatures, store)?;
     }
     Err(PrintRefusal::TooLong)
 }

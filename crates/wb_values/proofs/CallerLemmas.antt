@@ -1,9 +1,9 @@
 -- For whoever builds trees: values among more trees, at a place, and at a push.
-use Rattle.std.proofs.Common.{◌≡◌, ℕ, zero, suc, ◌+◌, ◌-◌, ◌<◌, ◌≤◌, List, [], ◌∷◌, ◌++◌, Some, length, drop, All, get_or}
-use Rattle.std.proofs.Common.{refl, sym, ap, subst, ◌∙◌, arith, length-append}
+use Rattle.std.proofs.Common.{◌≡◌, ℕ, zero, suc, ◌+◌, ◌-◌, ◌<◌, ◌≤◌, List, [], ◌∷◌, ◌++◌, Some, length, take, drop, All, get_or}
+use Rattle.std.proofs.Common.{refl, sym, ap, subst, ◌∙◌, arith, length-append, length-drop}
 use Rattle.std.specs.Prelude.{slice_get}
 use Rattle.std.specs.Option.{option_map}
-use Rattle.std.proofs.lemmas.List.{drop-append-le}
+use Rattle.std.proofs.lemmas.List.{drop-append-le, take_all}
 use Rattle.std.proofs.Math.Seq.{get_or-append_seam}
 use Rattle.std.proofs.Math.ListN.{get_or-append}
 use Rattle.wb_values.specs.Tree.{Tree, node, empty}
@@ -52,6 +52,17 @@ pub value_at-within : (xs : Values) (k : ℕ) (x : v.Value) → value_at xs k �
 value_at-within v.empty k x at = absurd cc
 value_at-within (v.more y ys) zero x at = omega arith
 value_at-within (v.more y ys) (suc k) x at = let h = value_at-within ys k x at in omega (arith, h)
+
+-- the list of the one value at a place
+pub one_at : (xs : List Value) (k : ℕ) (x : Value) → slice_get xs k ≡ Some x → take 1 (drop k xs) ≡ x ∷ []
+one_at [] k x at = absurd cc
+one_at (y ∷ ys) zero x at = let e : y ≡ x = cc in ap (λ (z : Value). z ∷ []) e
+one_at (y ∷ ys) (suc k) x at = one_at ys k x at
+
+-- and all values from that place on, where it is the last
+pub one_left : (xs : List Value) (k : ℕ) (x : Value) → length xs - k ≡ 1 → slice_get xs k ≡ Some x → drop k xs ≡ x ∷ []
+one_left xs k x last at =
+    sym (take_all 1 (drop k xs) (omega (arith, last, length-drop k xs))) ∙ one_at xs k x at
 
 -- the last values, one more of them, after one more was pushed
 pub last-push : (count : ℕ) (xs : List Value) (x : Value) → count ≤ length xs → last (count + 1) (xs ++ x ∷ []) ≡ last count xs ++ x ∷ []

@@ -3,11 +3,11 @@ use Rattle.std.proofs.Common.{◌≡◌, ℕ, ◌+◌, ◌-◌, ◌^◌, ◌<◌
 use Rattle.std.proofs.Common.{◌∙◌, arith, length-drop, count_ones}
 use Rattle.std.specs.Prelude.{None, IfSome, IfNone, slice_get, false}
 use Rattle.std.specs.Option.{option_map}
-use Rattle.std.proofs.lemmas.List.{get_or_default, length-take-le, length-reverse, get_or-reverse}
+use Rattle.std.proofs.lemmas.List.{get_or_default, length-take-le, length-reverse, get_or-reverse, reverse-reverse}
 use Rattle.std.proofs.lemmas.Option.{slice_get-get_or}
 use Rattle.wb_values.specs.Tree.{Tree, Values, children_of, value_at, count_of}
 use Rattle.wb_values.specs.Tree as v
-use Rattle.wb_values.specs.ValuesIn.{tree_in, value_in, values_in, IsIn}
+use Rattle.wb_values.specs.ValuesIn.{tree_in, value_in, values_in, IsIn, AreChildren}
 use Rattle.wb_values.specs.declared.value.TreeId.{TreeId}
 use Rattle.wb_values.specs.declared.value.Value.{Value}
 use Rattle.wb_values.specs.declared.value.Value.TheVariants.{Int, Bool, Text, Tree as Stored}
@@ -65,6 +65,19 @@ arity-is trees ns vs k s shown within =
     let cs = children_at ns vs k (node_at ns k) in
     sym (ap (λ (t : Tree). count_of (children_of t)) at.tree) ∙ count_of-values_in trees cs ∙ ap length (turned trees ns vs k at le)
     ∙ length-reverse (backwards ns vs k (node_at ns k)) ∙ length-backwards trees ns vs k at few
+
+-- the children that a walk comes to are those of the tree, the last first
+pub listed-children : (trees : List Tree) (ns : List Node) (vs : List Value) (k : ℕ) → IsStore ns vs → trees_of ns vs ≡ trees
+    → k < length trees
+    → (children : List Value) × AreChildren trees k children × (backwards ns vs k (node_at ns k) ≡ reverse children)
+listed-children trees ns vs k s shown within =
+    let at = node-there trees ns vs k s shown within in
+    let le : k ≤ length ns = omega (arith, ap length shown, length-trees ns vs, within) in
+    let bs = backwards ns vs k (node_at ns k) in (
+      children_at ns vs k (node_at ns k),
+      record { values = ap children_of at.tree; below = at.below },
+      sym (ap reverse (turned trees ns vs k at le) ∙ reverse-reverse bs),
+    )
 
 -- what is known of a node's child, before so many others
 pub record ChildAt (trees : List Tree) (ns : List Node) (vs : List Value) (k after place : ℕ) : Type 0 where

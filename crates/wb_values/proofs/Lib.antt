@@ -5,6 +5,7 @@ pub mod Grown
 pub mod InPlaceLemmas
 pub mod Laid
 pub mod LayoutLemmas
+pub mod ListingLemmas
 pub mod PackedLemmas
 pub mod SignatureLemmas
 pub mod WalkLemmas

@@ -14,6 +14,7 @@ use Rattle.wb_values.specs.declared.cell.Cell.{Cell}
 use Rattle.wb_values.specs.declared.cell.Cell.TheVariants as cell
 use Rattle.wb_values.specs.Packed.{place_of, value_of, values_of, IsCell, count_after, ArePacked}
 use Rattle.wb_values.specs.Inner.Small.{IsSmall, IsLarge}
+use Rattle.wb_values.proofs.CallerLemmas.{one_at}
 
 -- a cell counts at most one large value
 after_le : (start : ℕ) (c : Cell) → start ≤ count_after start c
@@ -197,6 +198,15 @@ no_tree large (cell.Bool b) t small big is = absurd cc
 no_tree large (cell.Text n bytes) t small big is = absurd cc
 no_tree large (cell.Large high low) t small big is = big high low refl
 
+-- no cell but that of a text or of a large value stands for a text
+pub no_text : (large : List Value) (c : Cell) (t : List ℕ) → ((n : ℕ) (bytes : List ℕ) → c ≡ cell.Text n bytes → ⊥)
+    → ((high low : ℕ) → c ≡ cell.Large high low → ⊥) → value_of large c ≡ value.Text t → ⊥
+no_text large (cell.Tree n) t small big is = absurd cc
+no_text large (cell.Int z) t small big is = absurd cc
+no_text large (cell.Bool b) t small big is = absurd cc
+no_text large (cell.Text n bytes) t small big is = small n bytes refl
+no_text large (cell.Large high low) t small big is = big high low refl
+
 -- a cell that isn't that of a large value holds its value
 pub small_of : (number : ℕ) (c : Cell) → IsCell number c → ((high low : ℕ) → c ≡ cell.Large high low → ⊥) → IsSmall c
 small_of number (cell.Tree n) is other = tt
@@ -204,12 +214,6 @@ small_of number (cell.Int z) is other = tt
 small_of number (cell.Bool b) is other = tt
 small_of number (cell.Text n bytes) is other = is
 small_of number (cell.Large high low) is other = absurd (other high low refl)
-
--- the list of the one value at a place
-pub one_at : (xs : List Value) (k : ℕ) (x : Value) → slice_get xs k ≡ Some x → take 1 (drop k xs) ≡ x ∷ []
-one_at [] k x at = absurd cc
-one_at (y ∷ ys) zero x at = let e : y ≡ x = cc in ap (λ (z : Value). z ∷ []) e
-one_at (y ∷ ys) (suc k) x at = one_at ys k x at
 
 -- there is one at each place
 pub some_one : (xs : List Value) (k : ℕ) → k < length xs → (x : Value) × (take 1 (drop k xs) ≡ x ∷ [])

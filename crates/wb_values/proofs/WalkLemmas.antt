@@ -61,7 +61,7 @@ abbrev pub others_from : ℕ → ℕ → List Value → List Value
 others_from at end values = take (end - at) (drop at values)
 
 -- the first of them
-others_more : (at end : ℕ) (values : List Value) → at < end → end ≤ length values
+pub others_more : (at end : ℕ) (values : List Value) → at < end → end ≤ length values
     → (v : Value) × (others_from at end values ≡ v ∷ others_from (at + 1) end values) × (slice_get values at ≡ Some v)
 others_more at zero values lt le = absurd (omega (arith, lt))
 others_more zero (suc end) [] lt le = absurd (omega (arith, le))

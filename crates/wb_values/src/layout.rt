@@ -28,7 +28,42 @@ pub(crate) struct Layout {
 }
 
 // Lays the packed values from a place on as children of the next node. Those that don't lie in place are added to the cells.
+#[inline]
 pub(crate) fn lay_packed(
+    nodes: &[Node],
+    cells: &mut PackedValues,
+    values: &PackedValues,
+    start: usize,
+) -> Result<Layout, AllocError>
+    requires start { start ≤ length values.now }
+    requires sized { AreSized [] nodes.now }
+    ensures ok { IfOk result (IsWhole nodes.now cells.old cells.new (drop start values.now)) }
+    ensures err { OnErr result (cells.new ≡ cells.old) }
+{
+    if let Some(layout) = only_tree(nodes, values, start) {
+        return Ok(layout);
+    }
+    lay_each_packed(nodes, cells, values, start)
+}
+
+// The layout of the packed values from a place on, if they are one tree that lies in place.
+#[inline]
+fn only_tree(nodes: &[Node], values: &PackedValues, start: usize) -> Option<Layout>
+    requires start { start ≤ length values.now }
+    requires sized { AreSized [] nodes.now }
+    ensures { IfSome result (λ layout. (cells : List Item) → IsWhole nodes.now cells cells (drop start values.now) layout) }
+{
+    if values.len() - start != 1 {
+        return None;
+    }
+    let Some(tree) = values.tree(start) else {
+        return None;
+    };
+    with_tree(nodes, no_children(nodes), tree)
+}
+
+// Like `lay_packed`, by going through all of the values.
+fn lay_each_packed(
     nodes: &[Node],
     cells: &mut PackedValues,
     values: &PackedValues,
@@ -153,6 +188,7 @@ fn lay_value(
 }
 
 // None of the children.
+#[inline]
 fn no_children(nodes: &[Node]) -> Layout
     ensures { (start : List Item) → IsLayout nodes.now start start [] result }
 {

@@ -2,7 +2,7 @@
 //!
 //! A value that doesn't fit into its cell lies in a list beside the cells, in their order, so that both are cut off at their ends.
 
-ghost use Rattle.std.specs.Prelude.{◌≡◌, ◌≢◌, ◌<◌, ◌≤◌, ◌-◌, [], ◌∷◌, ◌++◌, Some, length, take, drop, IfOk, IfSome, IfNone, OnErr, OnOk, slice_get};
+ghost use Rattle.std.specs.Prelude.{◌≡◌, ◌≢◌, ◌<◌, ◌≤◌, ◌-◌, ℕ, List, [], ◌∷◌, ◌++◌, Some, length, take, drop, IfOk, IfSome, IfNone, OnErr, OnOk, slice_get};
 ghost use Rattle.wb_values.specs.declared.value.TreeId.{TreeId};
 ghost use Rattle.wb_values.specs.declared.value.Value.TheVariants.{Text, Tree as Stored};
 ghost use Rattle.wb_values.specs.Packed.{value_of};
@@ -136,6 +136,23 @@ impl PackedValues {
         self.tree(len - 1)
     }
 
+    /// The text at a place, if the value there is one.
+    #[inline]
+    pub fn text(&self, place: usize) -> Option<&[u8]>
+        requires { place < length self.now }
+        ensures some { IfSome result (λ text. slice_get self.now place ≡ Some (Text text.now)) }
+        ensures none { IfNone result ((text : List ℕ) → slice_get self.now place ≢ Some (Text text)) }
+    {
+        match &self.cells[place] {
+            Cell::Text(count, bytes) => Some(first_bytes(bytes, *count as usize)),
+            Cell::Large(high, low) => match &self.large[place_of(*high, *low)] {
+                Value::Text(text) => Some(text.as_slice()),
+                _ => None,
+            },
+            _ => None,
+        }
+    }
+
     /// Keeps the first values, so many of them, and drops the others.
     pub fn truncate(&mut self, len: usize)
         requires { len ≤ length self.old }
@@ -151,6 +168,36 @@ impl PackedValues {
         ensures { self.new ≡ self.old }
     {
         let _cells = self.cells.reserve_exact(more);
+    }
+
+    // Puts a tree in the place of the values from a place on.
+    #[inline]
+    pub(crate) fn put_tree(&mut self, place: usize, tree: TreeId)
+        requires place { place < length self.old }
+        requires tree { tree.0 < 4294967296 }
+        ensures { self.new ≡ take place self.old ++ Stored tree ∷ [] }
+    {
+        if self.len() - place == 1 {
+            return self.put_last(tree);
+        }
+        self.truncate(place + 1);
+        self.put_last(tree);
+    }
+
+    // Puts a tree in the place of the last value.
+    #[inline]
+    fn put_last(&mut self, tree: TreeId)
+        requires some { 1 ≤ length self.old }
+        requires tree { tree.0 < 4294967296 }
+        ensures { self.new ≡ take (length self.old - 1) self.old ++ Stored tree ∷ [] }
+    {
+        match self.cells.take_last() {
+            Cell::Large(_, _) => {
+                self.large.truncate(self.large.len() - 1);
+                self.cells.push_reserved(Cell::Tree(tree.0 as u32));
+            }
+            _ => self.cells.push_reserved(Cell::Tree(tree.0 as u32)),
+        }
     }
 
     // Adds a copy of the value at a place of other values.
@@ -206,6 +253,15 @@ impl PackedValues {
             self.large.truncate(self.large.len() - 1);
         }
     }
+}
+
+// The first of some bytes.
+#[inline]
+fn first_bytes(bytes: &[u8], count: usize) -> &[u8]
+    requires { count ≤ length bytes.now }
+    ensures { result.now ≡ take count bytes.now }
+{
+    &bytes[..count]
 }
 
 impl Drop for PackedValues {

@@ -3,13 +3,15 @@
 //! A node takes 16 bytes, and a child that isn't directly before the next one or before its node, 8 more. What they stand for is in
 //! `specs/Trees` and `specs/InPlace`.
 
-ghost use Rattle.std.specs.Prelude.{◌≡◌, ◌≢◌, ◌↔◌, ◌<◌, ◌≤◌, ◌+◌, ◌-◌, suc, [], ◌∷◌, ◌++◌, Some, length, take, All, IsTrue, IfOk, IfSome, IfNone, OnErr, OnOk};
-ghost use Rattle.wb_values.specs.Tree.{Tree, node, tree as subtree, production_of, children_of, value_at, count_of};
-ghost use Rattle.wb_values.specs.ValuesIn.{tree_in, value_in, values_in, last, IsIn};
+ghost use Rattle.std.specs.Prelude.{◌≡◌, ◌≢◌, ◌↔◌, ◌<◌, ◌≤◌, ◌+◌, ◌-◌, suc, List, [], ◌∷◌, ◌++◌, Some, length, take, drop, reverse, All, IsTrue, IfOk, IfSome, IfNone, OnErr, OnOk};
+ghost use Rattle.wb_values.specs.Tree.{Tree, node, empty, tree as subtree, production_of, children_of, value_at, count_of};
+ghost use Rattle.wb_values.specs.ValuesIn.{tree_in, value_in, values_in, last, IsIn, AreChildren};
+ghost use Rattle.wb_values.specs.declared.value.Value.{Value as Item};
+ghost use Rattle.wb_values.specs.declared.value.Value.TheVariants.{Tree as Stored};
 
 use crate::layout::{Layout, lay_packed, lay_values};
 use crate::node::Node;
-use crate::walk::{Position, begin, child_position};
+use crate::walk::{Position, begin, child_position, push_backwards};
 use crate::{PackedValues, TreeId, Value};
 use std::alloc::{AllocError, Global};
 use std::marker::Model;
@@ -127,15 +129,86 @@ impl TreeStore {
         ensures err { OnErr result (self.new ≡ self.old) }
         ensures err_values { OnErr result (values.new ≡ values.old) }
     {
-        let tree = TreeId(self.nodes.len());
         let start = values.len() - count;
-        if !has_numbers(production, tree.0, self.children.len(), count) {
+        let tree = self.add_over(production, values, start)?;
+        values.truncate(start);
+        Ok(tree)
+    }
+
+    /// Adds the tree of a production over the last of packed values, so many of them, in order, and puts it in their place.
+    #[inline]
+    pub fn build_over(
+        &mut self,
+        production: usize,
+        values: &mut PackedValues,
+        count: usize,
+    ) -> Result<TreeId, AllocError>
+        requires count { count ≤ length values.old }
+        requires children { All (IsIn (length self.old)) (last count values.old) }
+        ensures id { IfOk result (λ tree. tree.0 ≡ length self.old) }
+        ensures ok { OnOk result (self.new ≡ self.old ++ node production (values_in self.old (last count values.old)) ∷ []) }
+        ensures placed { IfOk result (λ tree. values.new ≡ take (length values.old - count) values.old ++ Stored tree ∷ []) }
+        ensures err { OnErr result (self.new ≡ self.old) }
+        ensures err_values { OnErr result (values.new ≡ values.old) }
+    {
+        if count == 0 {
+            return self.build_empty(production, values);
+        }
+        let start = values.len() - count;
+        let tree = self.add_over(production, values, start)?;
+        values.put_tree(start, tree);
+        Ok(tree)
+    }
+
+    // Adds the tree of a production without children, and adds it to the values.
+    fn build_empty(
+        &mut self,
+        production: usize,
+        values: &mut PackedValues,
+    ) -> Result<TreeId, AllocError>
+        ensures id { IfOk result (λ tree. tree.0 ≡ length self.old) }
+        ensures ok { OnOk result (self.new ≡ self.old ++ node production empty ∷ []) }
+        ensures placed { IfOk result (λ tree. values.new ≡ values.old ++ Stored tree ∷ []) }
+        ensures err { OnErr result (self.new ≡ self.old) }
+        ensures err_values { OnErr result (values.new ≡ values.old) }
+    {
+        let tree = self.build_packed(production, values, 0)?;
+        match values.push_tree(tree) {
+            Ok(()) => Ok(tree),
+            Err(error) => {
+                self.truncate(tree.0);
+                Err(error)
+            }
+        }
+    }
+
+    // Adds the tree of a production over the packed values from a place on.
+    #[inline]
+    fn add_over(
+        &mut self,
+        production: usize,
+        values: &PackedValues,
+        start: usize,
+    ) -> Result<TreeId, AllocError>
+        requires start { start ≤ length values.now }
+        requires children { All (IsIn (length self.old)) (drop start values.now) }
+        ensures id { IfOk result (λ tree. tree.0 ≡ length self.old) }
+        ensures number { IfOk result (λ tree. tree.0 < 4294967296) }
+        ensures ok { OnOk result (self.new ≡ self.old ++ node production (values_in self.old (drop start values.now)) ∷ []) }
+        ensures err { OnErr result (self.new ≡ self.old) }
+    {
+        let tree = TreeId(self.nodes.len());
+        if !has_numbers(
+            production,
+            tree.0,
+            self.children.len(),
+            values.len() - start,
+        ) {
             return Err(AllocError);
         }
         self.nodes.reserve(1)?;
         let nodes = self.nodes.as_slice();
         let layout = lay_packed(nodes, &mut self.children, values, start)?;
-        values.truncate(start);
         let node = node_of(production, tree.0, self.children.len(), layout);
         self.nodes.push_reserved(node);
         Ok(tree)
@@ -198,6 +271,20 @@ impl TreeStore {
             Position::Tree(id) => Ok(Value::Tree(TreeId(id))),
             Position::Cell(at) => self.children.get(at),
         }
+    }
+
+    /// Adds copies of the children of a tree to values, the last one first. If memory runs out, the values stay.
+    pub fn push_children(&self, tree: TreeId, values: &mut PackedValues) -> Result<(), AllocError>
+        requires { tree.0 < length self.now }
+        ensures ok { OnOk result ((children : List Item) × AreChildren self.now tree.0 children × (values.new ≡ values.old ++ reverse children)) }
+        ensures err { OnErr result (values.new ≡ values.old) }
+    {
+        let len = values.len();
+        let pushed = push_backwards(self.nodes.as_slice(), &self.children, tree.0, values);
+        if pushed.is_err() {
+            values.truncate(len);
+        }
+        pushed
     }
 
     /// The child of a tree at a place, if it is a tree. It has a smaller id.

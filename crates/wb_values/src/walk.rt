@@ -1,14 +1,16 @@
-//! Where is a child of a node?
+//! Where is a child of a node, and which are all of them?
 //!
 //! Trees in place are found from the last child on, by stepping back over their sizes.
 
-ghost use Rattle.std.specs.Prelude.{◌≡◌, ◌<◌, ◌≤◌, ◌+◌, ◌-◌, [], Some, List, length, count_ones, slice_get};
+ghost use Rattle.std.specs.Prelude.{◌≡◌, ◌<◌, ◌≤◌, ◌+◌, ◌-◌, ◌++◌, [], Some, List, length, take, count_ones, slice_get, OnOk};
 ghost use Rattle.wb_values.specs.declared.value.Value.{Value as Item};
 ghost use Rattle.wb_values.specs.InPlace.{AreSized, node_at};
 ghost use Rattle.wb_values.specs.Inner.Begin.{begin};
 ghost use Rattle.wb_values.specs.Inner.Layouts.{backwards, IsPosition};
 
 use crate::node::Node;
+use crate::{PackedValues, TreeId};
+use std::alloc::AllocError;
 
 // Where a child is.
 #[derive(Clone, Copy)]
@@ -63,4 +65,43 @@ pub(crate) fn child_position(nodes: &[Node], tree: usize, after: usize) -> Posit
         }
     }
     Position::Cell(at + left)
+}
+
+// Adds copies of the children of a tree to values, the last one first. After a refusal there may be some of them.
+pub(crate) fn push_backwards(
+    nodes: &[Node],
+    cells: &PackedValues,
+    tree: usize,
+    values: &mut PackedValues,
+) -> Result<(), AllocError>
+    requires tree { tree < length nodes.now }
+    requires sized { AreSized [] nodes.now }
+    requires end { (node_at nodes.now tree).end ≤ length cells.now }
+    ensures ok { OnOk result (values.new ≡ values.old ++ backwards nodes.now cells.now tree (node_at nodes.now tree)) }
+    ensures begins { take (length values.old) values.new ≡ values.old }
+    ensures longer { length values.old ≤ length values.new }
+{
+    let node = nodes[tree];
+    let end = node.end as usize;
+    let mut digits = node.inner;
+    let mut top = tree;
+    let mut at = begin(nodes, tree);
+    'children: while digits != 0 {
+        if digits % 2 == 1 {
+            values.push_tree(TreeId(top - 1))?;
+            top -= nodes[top - 1].size as usize;
+            digits /= 2;
+            continue 'children;
+        }
+        digits /= 2;
+        if at < end {
+            values.push_copy(cells, at)?;
+            at += 1;
+        }
+    }
+    'others: while at < end {
+        values.push_copy(cells, at)?;
+        at += 1;
+    }
+    Ok(())
 }

@@ -1,39 +1,31 @@
 -- What is still to be printed.
-use Rattle.std.specs.Prelude.{ℕ, zero, suc, ◌+◌, ◌<◌, List, [], ◌∷◌, ◌++◌}
+use Rattle.std.specs.Prelude.{ℕ, ◌+◌, ◌≤◌, List, [], ◌∷◌, ◌++◌, Bool, true, false, length, take, drop, reverse, All}
 use Rattle.wb_values.specs.Signature.{Signature}
-use Rattle.wb_values.specs.Tree.{Tree, node, Value, plain, tree, Values, empty, more, children_of}
-use Rattle.wb_values.specs.ValuesIn.{tree_in}
-use Rattle.wb_terms.specs.declared.print.Pending.{Pending}
+use Rattle.wb_values.specs.Tree.{Tree, node, Value, plain, tree, Values, empty, more}
+use Rattle.wb_values.specs.ValuesIn.{values_in, IsIn}
+use Rattle.wb_values.specs.declared.value.Value.{Value as Stored}
+use Rattle.wb_terms.specs.declared.print.Begun.{Begun}
 use Rattle.wb_terms.specs.Printed.{printed_children, printed_others}
 
--- what comes before the child at a place: nothing before the first one
-abbrev pub before : ℕ → List ℕ
-before zero = []
-before (suc place) = 44 ∷ 32 ∷ []
+-- what comes before a child: nothing before the first one
+abbrev pub before : Bool → List ℕ
+before true = []
+before false = 44 ∷ 32 ∷ []
 
--- the values from a place on
-abbrev pub values_from : ℕ → Values → Values
-values_from zero vs = vs
-values_from (suc place) empty = empty
-values_from (suc place) (more v vs) = values_from place vs
+-- children, of which the first alone has no separator before it
+abbrev pub children_text : Bool → List Signature → Values → List ℕ
+children_text true signatures children = printed_children signatures children
+children_text false signatures children = printed_others signatures children
 
--- children from a place on, of which the one at 0 alone has no separator before it
-abbrev pub children_text : ℕ → List Signature → Values → List ℕ
-children_text zero signatures children = printed_children signatures children
-children_text (suc place) signatures children = printed_others signatures children
+-- the children that are left of a tree that is begun, where they are the values from a place on, the last first
+abbrev pub children_left : List Tree → ℕ → List Stored → Values
+children_left trees below values = values_in trees (reverse (drop below values))
 
--- the children of a tree that are left
-abbrev pub left_of : List Tree → Pending → Values
-left_of trees p = values_from p.next (children_of (tree_in trees p.tree.0))
-
--- their text
-abbrev pub left_text : List Signature → List Tree → Pending → List ℕ
-left_text signatures trees p = children_text p.next signatures (left_of trees p)
-
--- the text of what is to be printed, the first first: of each tree the children that are left, and its end
-abbrev pub pending_text : List Signature → List Tree → List Pending → List ℕ
-pending_text signatures trees [] = []
-pending_text signatures trees (p ∷ ps) = left_text signatures trees p ++ 41 ∷ pending_text signatures trees ps
+-- the text of what is left to be printed, of the last tree first: the children that are left, and its end
+abbrev pub text_left : List Signature → List Tree → List Stored → List Begun → List ℕ
+text_left signatures trees values [] = []
+text_left signatures trees values (o ∷ os) =
+    children_text o.first signatures (children_left trees o.below values) ++ 41 ∷ text_left signatures trees (take o.below values) os
 
 -- how many steps it takes
 abbrev mutual
@@ -48,11 +40,15 @@ abbrev mutual
   children_weight empty = 1
   children_weight (more x xs) = 1 + (value_weight x + children_weight xs)
 
-abbrev pub pending_weight : List Tree → List Pending → ℕ
-pending_weight trees [] = 0
-pending_weight trees (p ∷ ps) = children_weight (left_of trees p) + pending_weight trees ps
+abbrev pub weight_left : List Tree → List Stored → List Begun → ℕ
+weight_left trees values [] = 0
+weight_left trees values (o ∷ os) = children_weight (children_left trees o.below values) + weight_left trees (take o.below values) os
 
--- its trees are those of the store
-abbrev pub ArePendingIn : ℕ → List Pending → Type 0
-ArePendingIn count [] = Unit {0}
-ArePendingIn count (p ∷ ps) = (p.tree.0 < count) × ArePendingIn count ps
+-- the children of each tree are some of those values that are left without the children of the trees after it
+abbrev pub AreNested : ℕ → List Begun → Type 0
+AreNested count [] = Unit {0}
+AreNested count (o ∷ os) = (o.below ≤ count) × AreNested o.below os
+
+-- the trees among the values are the first so many of the store
+abbrev pub ArePendingIn : ℕ → List Stored → List Begun → Type 0
+ArePendingIn count values os = All (IsIn count) values × AreNested (length values) os

@@ -1,5 +1,5 @@
 -- Texts whose bytes stand for themselves in a string.
-use Rattle.std.specs.Prelude.{◌≡◌, ◌≢◌, ◌≤◌, ℕ, List, All}
+use Rattle.std.specs.Prelude.{◌≢◌, ◌≤◌, ℕ, List, All}
 
 -- the byte is printed as itself
 pub record IsPlain (b : ℕ) : Type 0 where

@@ -57,6 +57,19 @@ pub record IsWalk (nodes : List Node) (tree after digits top at left : ℕ) : Ty
       slice_get (backwards nodes values tree (node_at nodes tree)) after ≡ Some child →
       slice_get (children_back count (take tree nodes) digits top (take ((node_at nodes tree).end - at) (drop at values))) left ≡ Some child
 
+-- a walk over the children of the node of a tree, from the last one on, that lists them after others: it came to these digits, to the end of
+-- the trees in place that are left, and to the next of the others
+pub record IsListing (nodes : List Node) (values : List Value) (tree digits top at : ℕ) (start listed : List Value) : Type 0 where
+  pub count : ℕ
+  pub few : digits < 2 ^ count
+  pub below : top ≤ tree
+  pub first : ℕ
+  pub lies : LieInPlace count (take tree nodes) digits top first
+  pub done : List Value
+  pub listed_are : listed ≡ start ++ done
+  pub stands : done ++ children_back count (take tree nodes) digits top (take ((node_at nodes tree).end - at) (drop at values))
+      ≡ backwards nodes values tree (node_at nodes tree)
+
 -- the position is that of a child: a tree in place, or one of the values
 abbrev pub IsPosition : List Value → Value → Position → Type 0
 IsPosition values child (position.Tree id) = child ≡ Stored (record { 0 = id })

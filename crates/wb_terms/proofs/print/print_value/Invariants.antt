@@ -1,13 +1,14 @@
 use Rattle.std.proofs.Common.{◌≡◌, ◌++◌, length, reverse}
 use Rattle.wb_values.specs.ValuesIn.{value_in}
 use Rattle.wb_terms.specs.Printed.{printed_value}
-use Rattle.wb_terms.specs.Inner.Pending.{pending_text, pending_weight, ArePendingIn}
+use Rattle.wb_terms.specs.Inner.Pending.{text_left, weight_left, ArePendingIn}
 use Rattle.wb_terms.proofs.print.print_value.Given as goal
 
 abbrev pub invariant-print : goal.invariant-print
 invariant-print l =
-    (l.out.items ++ pending_text l.signatures l.store (reverse l.stack.items) ≡ printed_value l.signatures (value_in l.store l.value))
-    × ArePendingIn (length l.store) (reverse l.stack.items)
+    (l.out.items ++ text_left l.signatures l.store l.pending.values (reverse l.pending.begun.items)
+    ≡ printed_value l.signatures (value_in l.store l.value))
+    × ArePendingIn (length l.store) l.pending.values (reverse l.pending.begun.items)
 
 abbrev pub decreases-print : goal.decreases-print
-decreases-print l = pending_weight l.store (reverse l.stack.items)
+decreases-print l = weight_left l.store l.pending.values (reverse l.pending.begun.items)

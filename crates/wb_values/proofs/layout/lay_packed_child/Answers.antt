@@ -2,7 +2,8 @@ use Rattle.std.proofs.Common.{◌≡◌, ◌++◌, ◌∷◌, [], List, take, dr
 use Rattle.wb_values.specs.declared.value.Value.{Value}
 use Rattle.wb_values.specs.declared.value.Value.TheVariants.{Tree as Stored}
 use Rattle.wb_values.specs.Inner.Layouts.{IsLayout}
-use Rattle.wb_values.proofs.PackedLemmas.{one_at, some_one}
+use Rattle.wb_values.proofs.CallerLemmas.{one_at}
+use Rattle.wb_values.proofs.PackedLemmas.{some_one}
 use Rattle.wb_values.proofs.layout.lay_packed_child.Goals as goal
 
 pub returns-in-Some-with_tree-clause-ok : goal.returns-in-Some-with_tree-clause-ok

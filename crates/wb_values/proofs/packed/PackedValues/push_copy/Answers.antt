@@ -1,7 +1,8 @@
 use Rattle.std.proofs.Common.{Some, refl, sym, ap, ◌∙◌, arith}
 use Rattle.wb_values.specs.declared.value.Value.{Value}
 use Rattle.wb_values.specs.declared.cell.Cell.TheVariants as cell
-use Rattle.wb_values.proofs.PackedLemmas.{cell_at, large_inside, large_there, small_at, one_at}
+use Rattle.wb_values.proofs.CallerLemmas.{one_at}
+use Rattle.wb_values.proofs.PackedLemmas.{cell_at, large_inside, large_there, small_at}
 use Rattle.wb_values.proofs.packed.PackedValues.push_copy.Goals as goal
 
 pub index-requires-in-Large : goal.index-requires-in-Large

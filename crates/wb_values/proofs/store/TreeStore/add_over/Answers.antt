@@ -1,21 +1,18 @@
 use Rattle.std.proofs.Common.{◌-◌, ℕ, suc, List, length, drop, sym, ap, subst, ◌∙◌}
-use Rattle.wb_values.specs.ValuesIn.{last}
-use Rattle.wb_values.specs.declared.value.Value.{Value}
 use Rattle.wb_values.specs.declared.node.Node.{Node}
 use Rattle.wb_values.specs.Inner.Layouts.{IsWhole}
 use Rattle.wb_values.proofs.Laid.{length-trees}
 use Rattle.wb_values.proofs.BuildLemmas.{IsOver, built_store, built_trees}
-use Rattle.wb_values.proofs.store.TreeStore.build_packed.Goals as goal
+use Rattle.wb_values.proofs.store.TreeStore.add_over.Goals as goal
 
 pub invariant_of-self-2 : goal.invariant_of-self-2
 invariant_of-self-2 c =
     let ns = c.self.inside.nodes.items in
     let vs = c.self.inside.children in
     let listed = c.lay_packed.new.cells in
-    let cs = last c.args.count c.args.values.now in
+    let cs = drop c.args.start c.args.values.now in
     let nodes_are = c.as_slice-nodes.ensures.value ∙ c.in_ok-reserve.ensures.items in
-    let w = subst (λ (xs : List Value). IsWhole ns vs listed xs c.in_ok-layout.layout) (ap (λ (n : ℕ). drop (n - c.args.count) c.args.values.now) c.len-2.ensures)
-    (subst (λ (ms : List Node). IsWhole ms vs listed (drop (c.len-2.result - c.args.count) c.args.values.now) c.in_ok-layout.layout) nodes_are c.in_ok-layout.ensures.ok) in
+    let w = subst (λ (ms : List Node). IsWhole ms vs listed cs c.in_ok-layout.layout) nodes_are c.in_ok-layout.ensures.ok in
     let over : IsOver ns listed c.args.production c.in_ok-layout.layout c.node_of-node.result = record {
       production_is = ap (λ (n : Node). n.production) c.node_of-node.ensures;
       size_is = ap (λ (n : Node). n.size) c.node_of-node.ensures
@@ -36,10 +33,9 @@ returns-clause-ok c =
     let ns = c.self.inside.nodes.items in
     let vs = c.self.inside.children in
     let listed = c.lay_packed.new.cells in
-    let cs = last c.args.count c.args.values.now in
+    let cs = drop c.args.start c.args.values.now in
     let nodes_are = c.as_slice-nodes.ensures.value ∙ c.in_ok-reserve.ensures.items in
-    let w = subst (λ (xs : List Value). IsWhole ns vs listed xs c.in_ok-layout.layout) (ap (λ (n : ℕ). drop (n - c.args.count) c.args.values.now) c.len-2.ensures)
-    (subst (λ (ms : List Node). IsWhole ms vs listed (drop (c.len-2.result - c.args.count) c.args.values.now) c.in_ok-layout.layout) nodes_are c.in_ok-layout.ensures.ok) in
+    let w = subst (λ (ms : List Node). IsWhole ms vs listed cs c.in_ok-layout.layout) nodes_are c.in_ok-layout.ensures.ok in
     let over : IsOver ns listed c.args.production c.in_ok-layout.layout c.node_of-node.result = record {
       production_is = ap (λ (n : Node). n.production) c.node_of-node.ensures;
       size_is = ap (λ (n : Node). n.size) c.node_of-node.ensures
