@@ -1,6 +1,6 @@
 -- Chains of reductions of one symbol each, and what they make of states.
 use Rattle.std.proofs.Common.{◌≡◌, ◌<◌, ◌≤◌, ◌-◌, ◌+◌, ◌⊎◌, ℕ, zero, suc, List, [], ◌∷◌, ◌++◌, length, take, refl, sym, ◌∙◌, ap, subst, inl, inr, arith, length-append, zero-le}
-use Rattle.std.specs.Prelude.{All, Some, slice_get, slice_index_or, slice_set}
+use Rattle.std.specs.Prelude.{All, IfSome, None, Option, Some, slice_get, slice_set}
 use Rattle.std.proofs.lemmas.List.Elements.{All-push, All-take}
 use Rattle.std.proofs.lemmas.Option.{same_Some}
 use Rattle.wb_lemmas.proofs.Parts.{take_append}
@@ -13,15 +13,20 @@ use Rattle.wb_scan_theory.specs.Facts.{IsLanguage}
 use Rattle.wb_scan_theory.specs.Parts.{AreTablesOf}
 use Rattle.wb_scan.specs.Views.{LanguageParts}
 use Rattle.wb_parser_states.specs.declared.chains.Chain.{Chain}
-use Rattle.wb_parser_states.specs.declared.chains.ChainStart.{ChainStart}
-use Rattle.wb_parser_states.specs.declared.chains.Reductions.{Reductions}
+use Rattle.wb_parser_states.specs.declared.chains.ChainEnd.{ChainEnd}
+use Rattle.wb_parser_states.specs.declared.chains.Key.{Key}
+use Rattle.wb_parser_states.specs.declared.chains.RuleAction.{RuleAction}
+use Rattle.wb_parser_states.specs.declared.chains.RuleAction.TheVariants as shown
+use Rattle.wb_parser_states.specs.declared.kept.Kept.{Kept}
 use Rattle.wb_parser_states.specs.declared.rules.Rule.{Rule}
-use Rattle.wb_parser_states.specs.Chains.{AreChains, AreReductions, IsChain, IsChainOf, IsStart, link, nothing}
+use Rattle.wb_parser_states.specs.Chains.{IsChain, IsChainEnd, IsMoveEnd, IsRuleAction, link, nothing}
+use Rattle.wb_parser_states.specs.Kept.{AreKept, end_of, key_of}
+use Rattle.wb_parser_states.specs.Inner.Followed.{IsChainOf, IsKey}
 use Rattle.wb_parser_states.specs.Rules.{IsRule}
 use Rattle.wb_parser_states.specs.Stacks.{IsMoved, last_or}
 use Rattle.wb_parser_states.specs.Inner.Carried.{CarryOver}
 use Rattle.wb_parser_states.proofs.StateLemmas.{last_below, top_pushed, top_set}
-use Rattle.wb_parser_states.proofs.StepLemmas.{act_below, reduce_case}
+use Rattle.wb_parser_states.proofs.StepLemmas.{goto_there, reduce_case}
 use Rattle.wb_parser_states.proofs.TableLemmas.{IsActionBelow, action_below, goto_below, zero_below}
 
 -- a chain with one reduction more
@@ -73,31 +78,37 @@ split_top (x ∷ xs) some = let e : length (x ∷ xs) - 1 ≡ length xs = omega 
     split x [] = refl
     split x (y ∷ ys) = ap (λ z. x ∷ z) (split y ys)
 
--- a chain that begins with the states on top leads to those with its target on top
+-- a chain that begins with the states on top leads to those with its end on top
 pub top_carries : (parts : LanguageParts) → IsLanguage parts.language → AreTablesOf parts.language.grammar parts.tables → (t : ℕ) →
-    t ≤ parts.language.grammar.terminals → (states : List ℕ) → 1 ≤ length states → (chain : Chain) →
-    IsChainOf parts.language.grammar parts.tables chain → chain.start.terminal ≡ t → chain.start.state ≡ last_or 0 states →
-    chain.start.below ≡ last_or 0 (take (length states - 1) states) →
-    CarryOver parts t states (take (length states - 1) states ++ chain.target ∷ [])
-top_carries parts ok of t le states some chain is terminal_is state_is below_is =
+    t ≤ parts.language.grammar.terminals → (states : List ℕ) → 1 ≤ length states → (key : Key) (end : ChainEnd) →
+    IsChainEnd parts.language.grammar parts.tables key end → key.terminal ≡ t → key.from ≡ last_or 0 states →
+    key.below ≡ last_or 0 (take (length states - 1) states) → CarryOver parts t states (take (length states - 1) states ++ end.target ∷ [])
+top_carries parts ok of t le states some key end is terminal_is from_is below_is =
+    let g = parts.language.grammar in
     let xs = take (length states - 1) states in
-    subst (λ z. CarryOver parts t z (xs ++ chain.target ∷ [])) (sym (split_top states some))
-    (chain_carries parts ok of t le
-    (subst (λ z. IsChain parts.language.grammar parts.tables chain.start.below z (last_or 0 states) is.productions chain.target) terminal_is
-    (subst (λ z. IsChain parts.language.grammar parts.tables chain.start.below chain.start.terminal z is.productions chain.target) state_is
-    is.is)) xs below_is)
+    subst (λ z. CarryOver parts t z (xs ++ end.target ∷ [])) (sym (split_top states some))
+    (chain_carries parts ok of t le (subst (λ z. IsChain g parts.tables key.below z (last_or 0 states) is.productions end.target) terminal_is
+    (subst (λ z. IsChain g parts.tables key.below key.terminal z is.productions end.target) from_is is.is)) xs below_is)
 
--- none of no chains
-pub no_chain : (g : GrammarView) (tables : TablesView) → AreChains g tables []
-no_chain g tables place chain at = absurd cc
-
--- one chain more
-pub chains_more : (g : GrammarView) (tables : TablesView) (chains : List Chain) (chain : Chain) → IsChainOf g tables chain →
-    AreChains g tables chains → AreChains g tables (chains ++ chain ∷ [])
-chains_more g tables chains chain is before place other at = elim (at_push chains chain other place at) [
-  | inl old ↦ before place other old
-  | inr (last, same) ↦ subst (IsChainOf g tables) same is
-]
+-- a reduction, and the chain that begins with the state after its left side, lead to the states below it with the end of the chain on top
+pub move_carries : (parts : LanguageParts) → IsLanguage parts.language → AreTablesOf parts.language.grammar parts.tables → (t : ℕ) →
+    t ≤ parts.language.grammar.terminals → (states : List ℕ) (rule : Rule) →
+    IsRuleAction parts.language.grammar (action_of parts.tables (last_or 0 states) t) (shown.Reduce rule) → (key : Key) (end : ChainEnd) →
+    IsMoveEnd parts.language.grammar parts.tables key end → key.terminal ≡ t → key.from ≡ rule.left →
+    key.below ≡ last_or 0 (take (length states - rule.width) states) →
+    CarryOver parts t states (take (length states - rule.width) states ++ end.target ∷ [])
+move_carries parts ok of t le states rule (production, act, has) key end is terminal_is from_is below_is =
+    λ text read prefix at place ahead n gives are.
+    let g = parts.language.grammar in
+    let ts = parts.tables in
+    let xs = take (length states - rule.width) states in
+    let (next, goes) = goto_there parts ok of t le states production act rule has text read prefix at are in
+    let (productions, chain) = is.is next (subst (λ z. goto_of ts z key.from ≡ Some next) (sym below_is)
+    (subst (λ z. goto_of ts (last_or 0 xs) z ≡ Some next) (sym from_is) goes)) in
+    chain_carries parts ok of t le (subst (λ z. IsChain g ts key.below z next productions end.target) terminal_is chain) xs below_is
+    text read prefix at place ahead n gives
+    (reduce_case parts ok of t le states production act rule has (xs ++ next ∷ [])
+    (record { target = next; target_is = λ k e. same_Some next k (sym goes ∙ e); states_are = refl }) text read prefix at place ahead n gives are)
 
 -- what is at a place after another was written: what was written, or what was there
 at_written : {X : Type 0} (xs : List X) (p : ℕ) (x : X) (q : ℕ) (y : X) → slice_get (slice_set xs p x) q ≡ Some y →
@@ -108,46 +119,113 @@ at_written (z ∷ xs) zero x (suc q) y at = inr at
 at_written (z ∷ xs) (suc p) x zero y at = inr at
 at_written (z ∷ xs) (suc p) x (suc q) y at = at_written xs p x q y at
 
--- one chain in the place of another
-pub chains_set : (g : GrammarView) (tables : TablesView) (chains : List Chain) (place : ℕ) (chain : Chain) → IsChainOf g tables chain →
-    AreChains g tables chains → AreChains g tables (slice_set chains place chain)
-chains_set g tables chains place chain is before k other at = elim (at_written chains place chain k other at) [
-  | inl new ↦ subst (IsChainOf g tables) (sym new) is
-  | inr old ↦ before k other old
-]
+-- the action at a state names no production that there isn't
+pub acts_within : (g : GrammarView) (tables : TablesView) (state terminal : ℕ) (action : Action) → AreTablesOf g tables → state < size_of tables →
+    terminal ≤ g.terminals → action ≡ action_of tables state terminal → (production : ℕ) → action ≡ Reduce production →
+    production < length g.productions
+acts_within g tables state terminal action of lt le is production act =
+    subst (IsActionBelow g tables) (sym is ∙ act) (action_below of state terminal lt le)
 
 -- what is next after a state on a chain, where the table has a rule of one symbol
 pub chain_linked : (g : GrammarView) (tables : TablesView) (chain : Chain) (production target : ℕ) (rule : Rule) (action : Action) →
-    AreTablesOf g tables → IsStart g tables chain.start → IsChainOf g tables chain → chain.action ≡ Reduce production →
+    AreTablesOf g tables → IsKey g tables chain.start → IsChainOf g tables chain → chain.action ≡ Reduce production →
     IsRule g production rule → rule.width ≡ 1 → goto_of tables chain.start.below rule.left ≡ Some target →
     action ≡ action_of tables target chain.start.terminal →
     IsChainOf g tables (record { start = chain.start; target = target; action = action })
-chain_linked g tables chain production target rule action of start is act has one goes action_is = record {
-  productions = is.productions ++ production ∷ [];
-  is = chain_more production target rule is.is (sym is.action ∙ act) has one goes;
-  target = goto_below of chain.start.below rule.left target start.below has.below goes;
-  action = action_is;
-}
-
--- a production by which a chain goes on is one of the grammar
-pub chain_production : (g : GrammarView) (tables : TablesView) (chain : Chain) (production : ℕ) → AreTablesOf g tables →
-    IsStart g tables chain.start → IsChainOf g tables chain → chain.action ≡ Reduce production → production < length g.productions
-chain_production g tables chain production of start is act =
-    subst (IsActionBelow g tables) (sym is.action ∙ act) (action_below of chain.target chain.start.terminal is.target start.terminal)
+chain_linked g tables chain production target rule action of start is act has one goes action_is =
+    let lt = goto_below of chain.start.below rule.left target start.below has.below goes in
+    record {
+      productions = is.productions ++ production ∷ [];
+      is = chain_more production target rule is.is (sym is.action ∙ act) has one goes;
+      target = lt;
+      action = action_is;
+      within = acts_within g tables target chain.start.terminal action of lt start.terminal action_is;
+    }
 
 -- the chain of no reductions
-pub chain_begun : (g : GrammarView) (tables : TablesView) (start : ChainStart) (action : Action) → IsStart g tables start →
-    action ≡ action_of tables start.state start.terminal → IsChainOf g tables (record { start = start; target = start.state; action = action })
-chain_begun g tables start action is action_is = record { productions = []; is = nothing refl; target = is.state; action = action_is }
+pub chain_begun : (g : GrammarView) (tables : TablesView) (start : Key) (action : Action) → AreTablesOf g tables → IsKey g tables start →
+    action ≡ action_of tables start.from start.terminal →
+    IsChainOf g tables (record { start = start; target = start.from; action = action })
+chain_begun g tables start action of is action_is = record {
+  productions = [];
+  is = nothing refl;
+  target = is.from;
+  action = action_is;
+  within = acts_within g tables start.from start.terminal action of is.from is.terminal action_is;
+}
 
-pub zero_start : (g : GrammarView) (tables : TablesView) → AreTablesOf g tables →
-    IsStart g tables (record { below = 0; state = 0; terminal = 0 })
-zero_start g tables of = record { below = zero_below of; state = zero_below of; terminal = zero-le }
+-- the end of a chain that was followed
+pub chain_ends : (g : GrammarView) (tables : TablesView) (start : Key) (chain : Chain) (action : RuleAction) → IsChainOf g tables chain →
+    chain.start ≡ start → IsRuleAction g chain.action action →
+    IsChainEnd g tables start (record { target = chain.target; action = action })
+chain_ends g tables start chain action is start_is shows =
+    subst (λ z. IsChainEnd g tables z (record { target = chain.target; action = action })) start_is (record {
+      productions = is.productions;
+      is = is.is;
+      ends = record { target = is.target; action = subst (λ z. IsRuleAction g z action) is.action shows };
+    })
 
--- the production of an action has its entry in the list
-pub production_within : (parts : LanguageParts) → IsLanguage parts.language → AreTablesOf parts.language.grammar parts.tables → (t : ℕ) →
-    t ≤ parts.language.grammar.terminals → (states : List ℕ) (production : ℕ) (reductions : Reductions) →
-    action_of parts.tables (last_or 0 states) t ≡ Reduce production → All (λ s. s < size_of parts.tables) states →
-    AreReductions parts.language.grammar parts.tables reductions → production < length reductions.rules.items
-production_within parts ok of t le states production reductions act below are =
-    subst (λ k. production < k) (sym are.rules.count) (act_below parts ok of t le states (Reduce production) act below)
+-- the end of the chain from the state after a left side
+pub move_ends : (g : GrammarView) (tables : TablesView) (start : Key) (target : ℕ) (end : ChainEnd) →
+    ((next : ℕ) → goto_of tables start.below start.from ≡ Some next → target ≡ next) →
+    IsChainEnd g tables (record { below = start.below; from = target; terminal = start.terminal }) end → IsMoveEnd g tables start end
+move_ends g tables start target end leads is = record {
+  is = λ next goes. (
+    is.productions,
+    subst (λ z. IsChain g tables start.below start.terminal z is.productions end.target) (leads next goes) is.is,
+  );
+  ends = is.ends;
+}
+
+-- what is at a place after an end was kept: what was there, or this end with its key
+pub kept_set : (list : List Kept) (place : ℕ) (kept : Kept) (key : Key) (end : ChainEnd) → key_of kept ≡ key → end_of kept ≡ end →
+    (k : ℕ) (other : Kept) → slice_get (slice_set list place kept) k ≡ Some other →
+    (slice_get list k ≡ Some other) ⊎ ((key_of other ≡ key) × (end_of other ≡ end))
+kept_set list place kept key end key_is end_is k other at = elim (at_written list place kept k other at) [
+  | inl new ↦ inr (ap key_of new ∙ key_is, ap end_of new ∙ end_is)
+  | inr old ↦ inl old
+]
+
+-- so what is kept belongs together after that too
+pub kept_after : (belong : Key → ChainEnd → Type 0) (old new : List Kept) (key : Key) (end : ChainEnd) →
+    ((place : ℕ) (kept : Kept) → slice_get new place ≡ Some kept →
+    (slice_get old place ≡ Some kept) ⊎ ((key_of kept ≡ key) × (end_of kept ≡ end))) → AreKept belong old → belong key end →
+    AreKept belong new
+kept_after belong old new key end each are is place kept at = elim (each place kept at) [
+  | inl before ↦ are place kept before
+  | inr (key_is, end_is) ↦ subst (λ z. belong z (end_of kept)) (sym key_is) (subst (λ z. belong key z) (sym end_is) is)
+]
+
+-- nothing is at a place of an empty list
+pub none_more : {X : Type 0} {Y : Type 0} (list : List X) (place : ℕ) (x : X) → list ≡ [] → slice_get list place ≡ Some x → Y
+none_more [] place x is at = absurd cc
+none_more (y ∷ ys) place x is at = absurd cc
+
+-- all of a list are one, also after one more
+pub all_more : (list : List Kept) (kept : Kept) → ((place : ℕ) (other : Kept) → slice_get list place ≡ Some other → other ≡ kept) →
+    (place : ℕ) (other : Kept) → slice_get (list ++ kept ∷ []) place ≡ Some other → other ≡ kept
+all_more list kept before place other at = elim (at_push list kept other place at) [
+  | inl old ↦ before place other old
+  | inr (last, same) ↦ sym same
+]
+
+-- what was made to be kept
+pub kept_made : (belong : Key → ChainEnd → Type 0) (made : Option Kept) (key : Key) (end : ChainEnd) →
+    IfSome made (λ kept. key_of kept ≡ key) → IfSome made (λ kept. end_of kept ≡ end) → belong key end →
+    IfSome made (λ kept. belong (key_of kept) (end_of kept))
+kept_made belong None key end key_is end_is is = tt
+kept_made belong (Some kept) key end key_is end_is is =
+    subst (λ z. belong z (end_of kept)) (sym key_is) (subst (λ z. belong key z) (sym end_is) is)
+
+-- places that keep one end
+pub kept_first : (belong : Key → ChainEnd → Type 0) (first : Option Kept) (list : List Kept) →
+    IfSome first (λ kept. belong (key_of kept) (end_of kept)) →
+    ((place : ℕ) (kept : Kept) → slice_get list place ≡ Some kept → first ≡ Some kept) → AreKept belong list
+kept_first belong first list is each place kept at =
+    subst (λ z. IfSome z (λ kept. belong (key_of kept) (end_of kept))) (each place kept at) is
+
+-- what was found at a place
+pub kept_found : (belong : Key → ChainEnd → Type 0) (list : List Kept) (place : ℕ) (kept : Kept) (key : Key) (end : ChainEnd) →
+    AreKept belong list → slice_get list place ≡ Some kept → key_of kept ≡ key → end ≡ end_of kept → belong key end
+kept_found belong list place kept key end are at key_is end_is =
+    subst (λ z. belong key z) (sym end_is) (subst (λ z. belong z (end_of kept)) key_is (are place kept at))

@@ -18,6 +18,11 @@ pub rule_at : (g : GrammarView) (rules : List Rule) (p : ℕ) (d : Rule) → Are
     IsRule g p (slice_index_or rules p d)
 rule_at g rules p d are lt = are.each p (slice_index_or rules p d) (slice_get-get_or rules p d (omega (arith, lt, are.count)))
 
+-- the same, where the list goes so far
+pub rule_within : (g : GrammarView) (rules : List Rule) (p : ℕ) (d : Rule) → AreRules g rules → p < length rules →
+    IsRule g p (slice_index_or rules p d)
+rule_within g rules p d are lt = are.each p (slice_index_or rules p d) (slice_get-get_or rules p d lt)
+
 -- and its left side has a column in the tables
 pub left_below : (g : GrammarView) (tables read : TablesView) (p : ℕ) (rule : Rule) → AreTablesOf g tables → read ≡ tables →
     IsRule g p rule → rule.left < read.nonterminals

@@ -131,3 +131,26 @@ module _ (parts : LanguageParts) (ok : IsLanguage parts.language) (of : AreTable
         keeps = reduce_keeps g (parsable g ok.deterministic).free (NextToken parts.language text) (is_one parts.language ok text) are.stack
             prefix at are.keeps p next t place n gives can r;
       }
+
+  -- and the state below its children leads somewhere by the left side
+  pub goto_there : (p : ℕ) → action_of parts.tables (last_or 0 states) t ≡ Reduce p → (rule : Rule) →
+      IsRule parts.language.grammar p rule → (text : List ℕ) (read : List Leaf) (prefix : List Symbol) (at : ℕ) →
+      AreAt parts text states read prefix at →
+      (n : ℕ) × (goto_of parts.tables (last_or 0 (take (length states - rule.width) states)) rule.left ≡ Some n)
+  goto_there p e rule is text read prefix at are =
+      let g = parts.language.grammar in
+      let (can, r) = reduction p e are.stack are.states_are in
+      let (left_is, right_is) = production_once g p rule.left r.left is.right (symbols r.children) is.is r.rule in
+      let sp = states_split g parts.tables [] states r.below r.children (subst (AreStates g parts.tables [] states) r.is are.states_are) in
+      let total : length states ≡ length sp.left + length sp.right = ap length sp.is ∙ length-append sp.left sp.right in
+      let width : rule.width ≡ length (symbols r.children) = is.width_is ∙ ap length right_is in
+      let kept : length states - rule.width ≡ length sp.left = let other = sp.right_length in omega (arith, width, total, other) in
+      let lower : take (length states - rule.width) states ≡ sp.left =
+      ap (λ k. take k states) kept ∙ (ap (take (length sp.left)) sp.is ∙ take_append (length sp.left) sp.left sp.right refl) in
+      let named = symbols_joined r.below (node p r.left r.children nothing) in
+      let left_below = (production_below g p r.left (symbols r.children) ok.deterministic.in_range r.rule).left in
+      let (n, goto_is, goes) = goto_at (at_top of sp.left r.below sp.of_left) r.left left_below (subst (IsViablePrefix g) named r.prefix) in (
+        n,
+        subst (λ z. goto_of parts.tables (last_or 0 z) rule.left ≡ Some n) (sym lower)
+            (subst (λ z. goto_of parts.tables (last_or 0 sp.left) z ≡ Some n) (sym left_is) goto_is),
+      )

@@ -1,7 +1,9 @@
 -- left sides and widths of productions
 pub mod Rules
--- chains of reductions that take one symbol each
+-- chains of reductions that take one symbol each, and their ends
 pub mod Chains
+-- what is kept of chains
+pub mod Kept
 -- the states of a stack of trees, and what a reduction does to them
 pub mod Stacks
 -- what states stand for on a text, and what can be done on the terminal that is next

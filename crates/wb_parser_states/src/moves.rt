@@ -57,7 +57,7 @@ fn replace_top(tables: &Tables, states: &mut Vec<usize>, left: usize) -> usize
 }
 
 // The state after a nonterminal, and 0 where it leads nowhere.
-fn target_of(tables: &Tables, state: usize, nonterminal: usize) -> usize
+pub(crate) fn target_of(tables: &Tables, state: usize, nonterminal: usize) -> usize
     requires state { state < size_of tables.now }
     requires nonterminal { nonterminal < tables.now.nonterminals }
     ensures next { (next : ℕ) → goto_of tables.now state nonterminal ≡ Some next → result ≡ next }

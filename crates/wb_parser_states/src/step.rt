@@ -1,18 +1,21 @@
 //! What do the states become on the terminal that is ahead? Reductions are made until it can be shifted, accepted, or nothing is left to do.
 
-ghost use Rattle.std.specs.Prelude.{◌≡◌, ◌<◌, ◌≤◌, All, IfOk};
+ghost use Rattle.std.specs.Prelude.{◌<◌, ◌≤◌, All, IfOk};
 ghost use Rattle.wb_lookahead.specs.Contents.{action_of, size_of};
-ghost use Rattle.wb_parser_states.specs.Chains.{AreReductions};
+ghost use Rattle.wb_scan_theory.specs.Facts.{IsLanguage};
+ghost use Rattle.wb_scan_theory.specs.Parts.{AreTablesOf};
+ghost use Rattle.wb_parser_states.specs.Chains.{IsRuleAction};
+ghost use Rattle.wb_parser_states.specs.Kept.{AreReductions};
 ghost use Rattle.wb_parser_states.specs.Stacks.{last_or};
 ghost use Rattle.wb_parser_states.specs.Steps.{HasOutcome, ShiftsBelow};
 ghost use Rattle.wb_parser_states.specs.Inner.Carried.{CarryOver};
 
 use crate::Outcome;
-use crate::chains::{ChainStart, Reductions, chain_from};
-use crate::moves::move_states;
+use crate::chains::{Key, RuleAction, start_action};
+use crate::reductions::{Reductions, chain_from, move_from};
+use crate::rules::Rule;
 use crate::stack::top;
 use std::alloc::AllocError;
-use wb_lookahead::Action;
 use wb_scan::Language;
 
 /// Reduces while that is the action on the terminal, and answers what can be done then.
@@ -34,48 +37,81 @@ pub fn reduce_states(
     ensures states { IfOk result (λ _. All (λ s. s < size_of language.now.tables) states.new.items) }
     ensures reductions { AreReductions language.now.language.grammar language.now.tables reductions.new }
 {
-    let tables = language.tables();
+    let _tables = language.tables();
+    let mut action = follow_top(language, reductions, states, terminal);
     'reductions: for _ in 0..usize::MAX {
-        match follow_top(language, reductions, states, terminal) {
-            Action::Shift(target) => return Ok(Outcome::Shifts(target)),
-            Action::Accept => return Ok(Outcome::Accepts),
-            Action::None => return Ok(Outcome::Stops),
-            Action::Reduce(production) => {
-                let rule = reductions.rules[production];
-                move_states(tables, states, rule.width, rule.left)?;
-            }
+        match action {
+            RuleAction::Shift(target) => return Ok(Outcome::Shifts(target)),
+            RuleAction::Accept => return Ok(Outcome::Accepts),
+            RuleAction::None => return Ok(Outcome::Stops),
+            RuleAction::Reduce(rule) => action = reduce_top(
+                language, reductions, states, terminal, rule,
+            )?,
         }
     }
     Err(AllocError)
 }
 
-// Makes the reductions of one symbol each with which a chain begins, and answers the action after them.
+// Makes the reductions of one symbol each with which it begins, and answers the action after them.
 #[inline]
 fn follow_top(
     language: &Language,
     reductions: &mut Reductions,
     states: &mut Vec<usize>,
     terminal: usize,
-) -> Action
+) -> RuleAction
+    requires language { IsLanguage language.now.language }
+    requires of_grammar { AreTablesOf language.now.language.grammar language.now.tables }
     requires reductions { AreReductions language.now.language.grammar language.now.tables reductions.old }
     requires terminal { terminal ≤ language.now.language.grammar.terminals }
     requires states { All (λ s. s < size_of language.now.tables) states.old.items }
-    ensures action { result ≡ action_of language.now.tables (last_or 0 states.new.items) terminal }
+    ensures action { IsRuleAction language.now.language.grammar (action_of language.now.tables (last_or 0 states.new.items) terminal) result }
     ensures carries { CarryOver language.now terminal states.old.items states.new.items }
     ensures states { All (λ s. s < size_of language.now.tables) states.new.items }
     ensures reductions { AreReductions language.now.language.grammar language.now.tables reductions.new }
 {
-    let tables = language.tables();
     if states.is_empty() {
-        return tables.action(0, terminal);
+        return start_action(language, &reductions.rules, terminal);
     }
     let place = states.len() - 1;
-    let start = ChainStart {
+    let key = Key {
         below: top(&states[..place]),
-        state: states[place],
+        from: states[place],
         terminal,
     };
-    let chain = chain_from(language, reductions, start);
-    states[place] = chain.target;
-    chain.action
+    let end = chain_from(language, reductions, key);
+    states[place] = end.target;
+    end.action
+}
+
+// Makes a reduction of that rule, and then those of one symbol each that follow. Answers the action after them.
+#[inline]
+fn reduce_top(
+    language: &Language,
+    reductions: &mut Reductions,
+    states: &mut Vec<usize>,
+    terminal: usize,
+    rule: Rule,
+) -> Result<RuleAction, AllocError>
+    requires language { IsLanguage language.now.language }
+    requires of_grammar { AreTablesOf language.now.language.grammar language.now.tables }
+    requires reductions { AreReductions language.now.language.grammar language.now.tables reductions.old }
+    requires terminal { terminal ≤ language.now.language.grammar.terminals }
+    requires states { All (λ s. s < size_of language.now.tables) states.old.items }
+    requires rule { IsRuleAction language.now.language.grammar (action_of language.now.tables (last_or 0 states.old.items) terminal) (RuleAction.Reduce rule) }
+    ensures action { IfOk result (IsRuleAction language.now.language.grammar (action_of language.now.tables (last_or 0 states.new.items) terminal)) }
+    ensures carries { IfOk result (λ _. CarryOver language.now terminal states.old.items states.new.items) }
+    ensures states { IfOk result (λ _. All (λ s. s < size_of language.now.tables) states.new.items) }
+    ensures reductions { AreReductions language.now.language.grammar language.now.tables reductions.new }
+{
+    let kept = states.len().saturating_sub(rule.width);
+    states.truncate(kept);
+    let key = Key {
+        below: top(states),
+        from: rule.left,
+        terminal,
+    };
+    let end = move_from(language, reductions, key);
+    states.push(end.target)?;
+    Ok(end.action)
 }

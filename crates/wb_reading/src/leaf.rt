@@ -1,7 +1,7 @@
 //! How is one leaf read? It is scanned at the state after the leaf before it, and shifted after the reductions that it asks for.
 
 ghost use Rattle.std.specs.Prelude.{◌≤◌, IfOk, length};
-ghost use Rattle.wb_parser_states.specs.Chains.{AreReductions};
+ghost use Rattle.wb_parser_states.specs.Kept.{AreReductions};
 ghost use Rattle.wb_reading.specs.Inner.Walks.{AreSound, HasRead, IsRound, StaysSound};
 
 use crate::HostReading;

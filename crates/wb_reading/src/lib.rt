@@ -10,3 +10,4 @@ mod reading;
 mod walk;
 
 pub use reading::{HostReading, host_reading};
+pub use walk::first_marker;

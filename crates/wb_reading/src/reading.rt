@@ -39,7 +39,6 @@ pub fn host_reading(
     ensures ok { IfOk result (IsHostReading host.now.language united.now.language host_attributes.now attributes.now markers.now text.now) }
 {
     let _grammar = host.grammar();
-    let _united_grammar = united.grammar();
     let _parts = host_attributes.parts();
     let _united_parts = attributes.parts();
     first_marker(alloc, united, markers, text)

@@ -1,8 +1,9 @@
 //! Which marker of a text is the first? Leaf after leaf is read until a marker is next, or until the text is read or stops.
 
 ghost use Rattle.std.specs.Prelude.{◌≡◌, [], IfOk};
-ghost use Rattle.wb_parser_states.specs.Chains.{AreReductions};
-ghost use Rattle.wb_reading.specs.Inner.Walks.{IsFound};
+ghost use Rattle.wb_parser_states.specs.Kept.{AreReductions};
+ghost use Rattle.wb_scan_theory.specs.Facts.{IsLanguage};
+ghost use Rattle.wb_reading.specs.Answers.{IsFirstMarker};
 
 use crate::HostReading;
 use crate::leaf::{Round, take_leaf};
@@ -11,14 +12,18 @@ use wb_parser_states::{Reductions, reductions_of};
 use wb_scan::Language;
 use wb_termset::TermSet;
 
-// The first marker of a text, where it has one.
-pub(crate) fn first_marker(
+/// The first marker of a text, where it has one.
+///
+/// A stack of states, one for each root, two numbers for each production and tables of fixed size are all that is kept; no tree is built.
+/// The only error is out of memory.
+pub fn first_marker(
     alloc: Global,
     language: &Language,
     markers: &TermSet,
     text: &[u8],
 ) -> Result<HostReading, AllocError>
-    ensures { IfOk result (IsFound language.now.language markers.now text.now) }
+    ensures ok { IfOk result (IsFirstMarker language.now.language markers.now text.now) }
+    ensures language { IfOk result (λ _. IsLanguage language.now.language) }
 {
     let mut reductions = reductions_of(alloc, language)?;
     let mut states = Vec::new(alloc);
@@ -38,7 +43,8 @@ fn read_all(
 ) -> Result<HostReading, AllocError>
     requires reductions { AreReductions language.now.language.grammar language.now.tables reductions.old }
     requires states { states.old.items ≡ [] }
-    ensures { IfOk result (IsFound language.now.language markers.now text.now) }
+    ensures ok { IfOk result (IsFirstMarker language.now.language markers.now text.now) }
+    ensures language { IsLanguage language.now.language }
 {
     let _tables = language.tables();
     let mut at = 0;

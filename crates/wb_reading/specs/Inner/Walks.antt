@@ -1,27 +1,20 @@
--- What a walk over a text finds, and what it keeps.
+-- What a walk over a text keeps.
 use Rattle.std.specs.Prelude.{◌≡◌, ◌<◌, ◌≤◌, ℕ, Bool, List, All}
 use Rattle.wb_termset.specs.Sets.{IsMember}
 use Rattle.wb_grammar_theory.specs.Trees.{Leaf}
 use Rattle.wb_lookahead.specs.Contents.{size_of}
-use Rattle.wb_scan_theory.specs.Languages.{LanguageView}
 use Rattle.wb_scan_theory.specs.Facts.{IsLanguage}
 use Rattle.wb_scan_theory.specs.Parts.{AreTablesOf}
 use Rattle.wb_scan.specs.Views.{LanguageParts}
 use Rattle.wb_scan.specs.declared.scanned.Scanned.{Scanned}
 use Rattle.wb_scan.specs.declared.scanned.Scanned.TheVariants.{Token, End, NoToken}
 use Rattle.wb_parser_states.specs.Steps.{AreReady}
-use Rattle.wb_reading_theory.specs.Markers.{HasNoMarker, IsMarkerAt, IsPlain}
+use Rattle.wb_reading_theory.specs.Markers.{HasNoMarker}
 use Rattle.wb_reading.specs.declared.ahead.Ahead.{Ahead}
 use Rattle.wb_reading.specs.declared.ahead.Ahead.TheVariants.{Marker, Leaf as OtherLeaf, NoLeaf}
 use Rattle.wb_reading.specs.declared.leaf.Round.{Round}
 use Rattle.wb_reading.specs.declared.leaf.Round.TheVariants.{Goes, Done}
-use Rattle.wb_reading.specs.declared.reading.HostReading.{HostReading}
-use Rattle.wb_reading.specs.declared.reading.HostReading.TheVariants.{Same, MarkerAt}
-
--- what was found is the first marker of the text, or that it has none
-abbrev pub IsFound : LanguageView → List Bool → List ℕ → HostReading → Type 0
-IsFound u markers text Same = IsPlain u markers text
-IsFound u markers text (MarkerAt at terminal) = IsMarkerAt u markers text at terminal
+use Rattle.wb_reading.specs.Answers.{IsFirstMarker}
 
 -- a token that was scanned is ahead: a marker with its place, or another leaf with the place after it
 abbrev pub IsTokenAhead : List Bool → ℕ → ℕ → ℕ → Ahead → Type 0
@@ -54,7 +47,7 @@ HasRead parts markers text states at = (read : List Leaf) × HasNoMarker markers
 -- what became of a leaf: it was read; or the answer is found
 abbrev pub IsRound : LanguageParts → List Bool → List ℕ → List ℕ → Round → Type 0
 IsRound parts markers text states (Goes after) = HasRead parts markers text states after
-IsRound parts markers text states (Done found) = IsFound parts.language markers text found
+IsRound parts markers text states (Done found) = IsFirstMarker parts.language markers text found
 
 -- where the text goes on, it does so further, and the states are still those of the tables
 abbrev pub StaysSound : LanguageParts → ℕ → ℕ → List ℕ → Round → Type 0

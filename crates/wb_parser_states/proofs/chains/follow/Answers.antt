@@ -1,5 +1,5 @@
 use Rattle.std.proofs.Common.{◌∙◌, subst, sym}
-use Rattle.wb_parser_states.specs.Chains.{IsStart}
+use Rattle.wb_parser_states.specs.Inner.Followed.{IsKey}
 use Rattle.wb_parser_states.proofs.chains.follow.Goals as goal
 
 pub links-init : goal.links-init
@@ -7,7 +7,7 @@ links-init c = record { start = c.begin-chain.ensures.start; is = c.begin-chain.
 
 pub linked-requires-clause-start : goal.linked-requires-clause-start
 linked-requires-clause-start c =
-    subst (IsStart c.args.language.now.language.grammar c.args.language.now.tables) (sym c.links.invariant.start) c.requires.start
+    subst (IsKey c.args.language.now.language.grammar c.args.language.now.tables) (sym c.links.invariant.start) c.requires.start
 
 pub linked-requires-clause-chain : goal.linked-requires-clause-chain
 linked-requires-clause-chain c = c.links.invariant.is

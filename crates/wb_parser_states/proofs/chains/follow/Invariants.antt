@@ -1,5 +1,5 @@
 use Rattle.std.proofs.Common.{◌≡◌}
-use Rattle.wb_parser_states.specs.Chains.{IsChainOf}
+use Rattle.wb_parser_states.specs.Inner.Followed.{IsChainOf}
 use Rattle.wb_parser_states.proofs.chains.follow.Given as goal
 
 abbrev pub invariant-links : goal.invariant-links

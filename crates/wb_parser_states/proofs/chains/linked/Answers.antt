@@ -1,7 +1,7 @@
 use Rattle.std.proofs.Common.{rules, ◌<◌, ◌≤◌, ◌≡◌, ◌∙◌, ap, arith, length, subst, sym}
 use Rattle.std.specs.Prelude.{Some, slice_index_or}
 use Rattle.wb_lookahead.specs.Contents.{TablesView, action_of, goto_of, size_of}
-use Rattle.wb_parser_states.proofs.ChainLemmas.{chain_linked, chain_production}
+use Rattle.wb_parser_states.proofs.ChainLemmas.{chain_linked}
 use Rattle.wb_parser_states.proofs.RuleLemmas.{left_below, no_rule, rule_at}
 use Rattle.wb_parser_states.proofs.TableLemmas.{goto_below, terminals_of}
 use Rattle.wb_parser_states.proofs.chains.linked.Goals as goal
@@ -9,15 +9,13 @@ use Rattle.wb_parser_states.proofs.chains.linked.Goals as goal
 pub bounds-rules-production : goal.bounds-rules-production
 bounds-rules-production c =
     subst (λ k. c.in-Reduce.production < k) (sym c.requires.rules.count)
-    (chain_production c.args.language.now.language.grammar c.args.language.now.tables c.args.chain c.in-Reduce.production
-    c.tables-tables.ensures.of_grammar c.requires.start c.requires.chain c.in-Reduce.is)
+    (c.requires.chain.within c.in-Reduce.production c.in-Reduce.is)
 
 pub offset_bounds-rules-production : goal.offset_bounds-rules-production
 offset_bounds-rules-production c =
     let within : c.in-Reduce.production < length c.args.rules.now =
     subst (λ k. c.in-Reduce.production < k) (sym c.requires.rules.count)
-    (chain_production c.args.language.now.language.grammar c.args.language.now.tables c.args.chain c.in-Reduce.production
-    c.tables-tables.ensures.of_grammar c.requires.start c.requires.chain c.in-Reduce.is) in
+    (c.requires.chain.within c.in-Reduce.production c.in-Reduce.is) in
     search rules
 
 pub goto-requires-clause-state : goal.goto-requires-clause-state
@@ -29,16 +27,14 @@ goto-requires-clause-nonterminal c =
     left_below g c.args.language.now.tables c.tables-tables.result.now c.in-Reduce.production
     (slice_index_or c.args.rules.now c.in-Reduce.production no_rule) c.tables-tables.ensures.of_grammar c.tables-tables.ensures.tables
     (rule_at g c.args.rules.now c.in-Reduce.production no_rule c.requires.rules
-    (chain_production g c.args.language.now.tables c.args.chain c.in-Reduce.production c.tables-tables.ensures.of_grammar c.requires.start
-    c.requires.chain c.in-Reduce.is))
+    (c.requires.chain.within c.in-Reduce.production c.in-Reduce.is))
 
 pub action-requires-clause-state : goal.action-requires-clause-state
 action-requires-clause-state c =
     let g = c.args.language.now.language.grammar in
     let rule = slice_index_or c.args.rules.now c.in-Reduce.production no_rule in
     let has = rule_at g c.args.rules.now c.in-Reduce.production no_rule c.requires.rules
-    (chain_production g c.args.language.now.tables c.args.chain c.in-Reduce.production c.tables-tables.ensures.of_grammar c.requires.start
-    c.requires.chain c.in-Reduce.is) in
+    (c.requires.chain.within c.in-Reduce.production c.in-Reduce.is) in
     subst (λ z. c.in_ok-target.target < size_of z) (sym c.tables-tables.ensures.tables)
     (goto_below c.tables-tables.ensures.of_grammar c.args.chain.start.below rule.left c.in_ok-target.target c.requires.start.below has.below
     (subst (λ z. goto_of z c.args.chain.start.below rule.left ≡ Some c.in_ok-target.target) c.tables-tables.ensures.tables
@@ -55,8 +51,7 @@ returns-clause-chain c =
     let ts = c.args.language.now.tables in
     let rule = slice_index_or c.args.rules.now c.in-Reduce.production no_rule in
     let has = rule_at g c.args.rules.now c.in-Reduce.production no_rule c.requires.rules
-    (chain_production g ts c.args.chain c.in-Reduce.production c.tables-tables.ensures.of_grammar c.requires.start c.requires.chain
-    c.in-Reduce.is) in
+    (c.requires.chain.within c.in-Reduce.production c.in-Reduce.is) in
     chain_linked g ts c.args.chain c.in-Reduce.production c.in_ok-target.target rule c.action.result c.tables-tables.ensures.of_grammar
     c.requires.start c.requires.chain c.in-Reduce.is has (omega (arith, c.if-rule-ne1.false))
     (subst (λ (z : TablesView). goto_of z c.args.chain.start.below rule.left ≡ Some c.in_ok-target.target) c.tables-tables.ensures.tables

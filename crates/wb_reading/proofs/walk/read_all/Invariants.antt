@@ -1,5 +1,5 @@
 use Rattle.std.proofs.Common.{◌-◌, ◌≤◌, length}
-use Rattle.wb_parser_states.specs.Chains.{AreReductions}
+use Rattle.wb_parser_states.specs.Kept.{AreReductions}
 use Rattle.wb_reading.specs.Inner.Walks.{AreSound, HasRead}
 use Rattle.wb_reading.proofs.walk.read_all.Given as goal
 

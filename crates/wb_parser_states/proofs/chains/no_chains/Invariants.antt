@@ -1,7 +1,0 @@
-use Rattle.wb_base.specs.Grammar.{GrammarView}
-use Rattle.wb_scan_theory.specs.Parts.{AreTablesOf}
-use Rattle.wb_parser_states.specs.Chains.{AreChains}
-use Rattle.wb_parser_states.proofs.chains.no_chains.Given as goal
-
-abbrev pub invariant-places : goal.invariant-places
-invariant-places l = (g : GrammarView) → AreTablesOf g l.tables → AreChains g l.tables l.chains.items
