@@ -1,3 +1,5 @@
+pub mod BuiltLemmas
+pub mod ChainLemmas
 pub mod ExtendLemmas
 pub mod LeafLemmas
 pub mod StepLemmas

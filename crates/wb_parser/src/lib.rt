@@ -4,6 +4,7 @@
 //! come after that and change neither place nor kind of a stop. What a tree and a stop are lies in `wb_scan_theory`.
 #![tactic(auto)]
 
+mod chains;
 mod leaf;
 mod parsed;
 mod parser;

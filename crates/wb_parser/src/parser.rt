@@ -6,10 +6,10 @@ ghost use Rattle.std.specs.Prelude.{◌≡◌, ◌≤◌, [], ℕ, IfOk, OnErr, 
 ghost use Rattle.wb_parser.specs.Parses.{Extends, IsParsed, KeepsStore, FitsSignatures};
 
 use crate::Parsed;
+use crate::chains::reductions_for;
 use crate::leaf::{Round, take_leaf};
 use crate::stack::Stack;
 use std::alloc::{AllocError, Global};
-use wb_parser_states::rules_of;
 use wb_scan::Language;
 use wb_values::TreeStore;
 
@@ -20,8 +20,8 @@ const SHORT: usize = 1024;
 ///
 /// The children of the tree's nodes are its trees and lexemes, in order; a lexeme is without the prefix of its form. After a tree the store
 /// begins with what it held before. After a stop, and when memory ran out, it is as before. A stack of states and values, one of each for
-/// each root, and two numbers for each production are all that is kept beside the store, in which a sixteenth of a long text tells how much
-/// room is made for all of it.
+/// each root, two numbers for each production, and for a text of 16 kB or more up to 16,384 chains of reductions are all that is kept beside
+/// the store, in which a sixteenth of a long text tells how much room is made for all of it.
 pub fn parse(
     alloc: Global,
     language: &Language,
@@ -58,13 +58,13 @@ fn read_all(
     ensures extends { Extends store.old store.new }
 {
     let _tables = language.tables();
-    let rules = rules_of(alloc, language.grammar())?;
+    let mut reductions = reductions_for(alloc, language, text.len())?;
     let mut stack = Stack::new(alloc);
     let before = store.len();
     let mut part = text.len() / 16 + SHORT;
     let mut at = 0;
     'leaves: loop {
-        match take_leaf(language, &rules, text, &mut stack, store, at)? {
+        match take_leaf(language, &mut reductions, text, &mut stack, store, at)? {
             Round::Goes(after) => at = after,
             Round::Done(parsed) => return Ok(parsed),
         }

@@ -25,4 +25,5 @@ returns-in_default c = record {
       c.reduce_all.new.store prefix at c.args.place c.terminals-end.result c.in_ok-reduce_all.field-0 (sym is_end) c.in_default.not-Accepts
       (c.in_ok-reduce_all.ensures.outcome text prefix at c.args.place (over c.args.place) n (is_end, refl) is));
   extends = c.in_ok-reduce_all.ensures.extends;
+  reductions = c.in_ok-reduce_all.ensures.reductions;
 }

@@ -58,4 +58,5 @@ returns-in_default c = record {
       (c.in_ok-target-in-Token.ensures.outcome c.args.text.now r.0 c.args.at c.in-Token.place _ n (refl, refl) r.1));
   sound = tt;
   extends = c.in_ok-target-in-Token.ensures.extends;
+  reductions = c.in_ok-target-in-Token.ensures.reductions;
 }

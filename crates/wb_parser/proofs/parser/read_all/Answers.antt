@@ -24,6 +24,7 @@ leaves-init c = record {
       c.new-stack.result.values c.args.store.now c.new-stack.ensures.states c.new-stack.ensures.values;
   extends = take_all (length c.args.store.now) c.args.store.now (omega arith);
   before = omega (arith, c.len-before.ensures);
+  reductions = c.in_ok-reductions.ensures;
 }
 
 pub leaves-preserved : goal.leaves-preserved
@@ -45,4 +46,5 @@ leaves-preserved c =
       extends = subst (Extends c.args.store.now) same
           (extends_more c.args.store.now c.leaves.store c.take_leaf.new.store c.leaves.invariant.extends c.in_ok-after.ensures.extends);
       before = subst (λ store. c.len-before.result ≤ length store) same within;
+      reductions = c.in_ok-after.ensures.reductions;
     }

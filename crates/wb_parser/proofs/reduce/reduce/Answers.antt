@@ -25,8 +25,8 @@ returns-clause-reduction c =
           ∙ ap (min (length rule.right)) c.len.ensures;
       moved = subst (λ (t : TablesView). IsMoved t c.args.stack.now.states.items c.min-width.result left c.move_states.new.states.items)
           c.tables-tables.ensures.tables c.in_ok-state.ensures.moved;
-      id = c.in_ok-tree.tree;
-      id_is = c.in_ok-tree.ensures.id;
+      id = c.in_ok-build_over.field-0;
+      id_is = c.in_ok-build_over.ensures.id;
       fits = search rules;
       values_are = search rules;
       trees_are = search rules;
