@@ -1,0 +1,9 @@
+pub mod ArriveLemmas
+pub mod CrossLemmas
+pub mod LiftLemmas
+pub mod ListLemmas
+pub mod PassedLemmas
+pub mod RestLemmas
+pub mod StartLemmas
+pub mod TogetherLemmas
+pub mod TrueLemmas
