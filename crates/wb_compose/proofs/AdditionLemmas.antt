@@ -15,12 +15,13 @@ use Rattle.wb_compose_theory_lists.proofs.ExtendedLemmas.{attributes_with}
 use Rattle.wb_compose_theory_lists.specs.Extended.{IsExtendedBy}
 use Rattle.wb_compose_theory_lists.specs.Hosts.{rows_of}
 use Rattle.wb_base.specs.Grammar.{GrammarView}
-use Rattle.wb_compose.proofs.CutLemmas.{follow_cut, lead_cut, lead_long, length-drop_within, length-take_within, part_cut}
+use Rattle.wb_compose.proofs.CutLemmas.{follow_cut, lead_cut, lead_long, length-drop_within, part_cut}
+use Rattle.wb_determinism_beside.proofs.RowLemmas.{length-take_within}
 use Rattle.wb_compose.proofs.KeepLemmas.{extended_by, names, spec}
 use Rattle.wb_compose.specs.Attributes as cut
 use Rattle.wb_compose.specs.Attributes.{added_rows, addition_of, equations_after, locals_after, written_with}
-use Rattle.wb_compose.proofs.InRange.{grammar_of}
-use Rattle.wb_compose.proofs.KeptLemmas.{grammar_row, productions_len}
+use Rattle.wb_determinism_beside.proofs.InRange.{grammar_of}
+use Rattle.wb_determinism_beside.proofs.KeptLemmas.{grammar_row, productions_len}
 use Rattle.wb_certify.specs.Kept.{AreCertifiedBoth}
 use Rattle.wb_compose.specs.Joined.{Extended}
 use Rattle.wb_compose.specs.Written.{name_in}

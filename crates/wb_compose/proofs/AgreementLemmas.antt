@@ -11,7 +11,7 @@ use Rattle.wb_base.specs.Grammar.{GrammarView}
 use Rattle.wb_certify.specs.Kept.{AreCertifiedBoth}
 use Rattle.wb_compose.specs.Joined.{AreCertifiedApart, Extended}
 use Rattle.wb_compose.specs.Written.{written_in}
-use Rattle.wb_compose.proofs.InRange.{child_terminal, child_tree, grammar_of, in_range}
+use Rattle.wb_determinism_beside.proofs.InRange.{child_terminal, child_tree, grammar_of, in_range}
 use Rattle.wb_compose.proofs.JoinedLemmas.{is_piece}
 use Rattle.wb_scan_theory.specs.Shown.{AgreesWith, kind_of}
 use Rattle.wb_lemmas.proofs.Places.{append_keeps, at_take}

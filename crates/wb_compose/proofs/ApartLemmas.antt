@@ -35,8 +35,9 @@ use Rattle.wb_compose_theory_grammar.specs.Numberings.{up_of}
 use Rattle.wb_compose_theory_language.specs.Envelopes as forms
 use Rattle.wb_compose_theory_language.specs.Apart.{AreMarkersOrdered, HasNoNewClash, IsMarkerRow, IsPieceApart, IsRivalRow}
 use Rattle.wb_compose.specs.Written.{written_with}
-use Rattle.wb_compose.proofs.WrittenLemmas.{from_map, has_rows, no_colon, pattern_of, written_beside}
-use Rattle.wb_compose.proofs.WrittenRows.{host_owner}
+use Rattle.wb_compose.proofs.WrittenLemmas.{has_rows, no_colon, pattern_of, written_beside}
+use Rattle.wb_determinism_beside.proofs.LayoutRows.{from_map}
+use Rattle.wb_determinism_beside.proofs.WrittenRows.{host_owner}
 
 -- a clash in an envelope in the words of unions is one in those of the test
 clash_there : (g : GrammarView) (Kernel : Item → Type 0) (lexicon : LexiconView) (left right : ℕ) (text : List ℕ) →

@@ -1,16 +1,13 @@
 -- An extension that keeps the rules on bridges is a piece of a union, and the host's numbers and kernels stay with it.
-use Rattle.std.proofs.Common.{◌≡◌, ◌<◌, ◌∷◌, inl, inr, [], List, sym, subst, ◌∙◌}
-use Rattle.std.specs.Prelude.{All}
-use Rattle.std.proofs.lemmas.List.Elements.{All-nil, All-cons}
+use Rattle.std.proofs.Common.{◌≡◌, ◌∷◌, [], List, sym, subst, ◌∙◌}
 use Rattle.std.proofs.lemmas.Option.{same_Some}
-use Rattle.wb_base.specs.Grammar.{GrammarView, IsGrammar}
+use Rattle.wb_base.specs.Grammar.{GrammarView}
 use Rattle.wb_certify.specs.Kept.{AreCertifiedBoth}
 use Rattle.wb_certify.specs.Refusals.{IsNotDeterministic, IsReason}
 use Rattle.wb_determinism_host.specs.Hosts.{IsDeterministicHost}
 use Rattle.wb_determinism_host.specs.declared.refusal.DeterminismRefusal.{DeterminismRefusal}
 use Rattle.wb_determinism_host.specs.declared.refusal.DeterminismRefusal.TheVariants as d
 use Rattle.wb_grammar_theory.specs.Shape.{IsReduced}
-use Rattle.wb_lemmas.proofs.Elements.{all_from_contained}
 use Rattle.wb_marking.specs.Bridges.{AreBridges}
 use Rattle.wb_marking_holes.specs.Holes.{with_holes_of}
 use Rattle.wb_operations.specs.Operations.{OperationSignature}
@@ -18,16 +15,12 @@ use Rattle.wb_syntax_resolved.specs.declared.resolved.ResolvedParts.{ResolvedPar
 use Rattle.wb_compose_theory_grammar.specs.Bridges.{AreMarkers}
 use Rattle.wb_compose_theory_grammar.specs.Laws.{HasSameKernels}
 use Rattle.wb_compose_theory_grammar.specs.Pieces.{ArePieces, IsPiece}
-use Rattle.wb_compose_theory_grammar.proofs.PieceLemmas.{piece_is}
 use Rattle.wb_compose_theory_grammar.proofs.UnitedLemmas.{same_kernels}
 use Rattle.wb_compose.specs.Bridged.{AreBridged, AreResolvedBoth, IsRuleRefusal}
-use Rattle.wb_compose.specs.Joined.{is_marker_in, piece_in}
-use Rattle.wb_compose.specs.Numbers.{KeepsNumbers}
-use Rattle.wb_compose.proofs.GrammarKept.{extends}
-use Rattle.wb_compose.proofs.InRange.{grammar_of, in_range}
-use Rattle.wb_compose.proofs.KeptLemmas.{extensible_same}
-use Rattle.wb_compose.proofs.MarkerLemmas.{are_markers}
-use Rattle.wb_compose.proofs.OwnLemmas.{keeps_numbers}
+use Rattle.wb_determinism_beside.specs.Pieces.{IsExtendedBy, is_marker_in, piece_in}
+use Rattle.wb_determinism_beside.proofs.PieceLemmas as piece
+use Rattle.wb_determinism_beside.specs.KeptNumbers.{KeepsNumbers}
+use Rattle.wb_determinism_beside.proofs.OwnLemmas.{keeps_numbers}
 
 module _ (host r : ResolvedParts) (h g : GrammarView) (operations : List OperationSignature) where
   -- a certified extension keeps them
@@ -76,37 +69,30 @@ module _ (host r : ResolvedParts) (h g : GrammarView) (operations : List Operati
         subst (IsDeterministicHost host) (same_Some certified.grammar h (sym certified.start ∙ bridged.both.host_start))
         certified.deterministic
 
-    -- what is extensible stays so, and nothing else is
+    -- it extends the host, in numbers
+    pub extended : IsExtendedBy host r h g
+    extended = record {
+      host_resolved = bridged.both.host_resolved;
+      resolved = bridged.both.resolved;
+      host_start = bridged.both.host_start;
+      start = bridged.both.start;
+      alone = bridged.both.host_certified.alone;
+      spec = bridged.both.extends.spec;
+      names = bridged.both.extends.names;
+      bridges = bridged.bridges;
+    }
+
     pub same_extensible : r.extensible ≡ host.extensible
-    same_extensible =
-        extensible_same host r bridged.both.extends.spec bridged.both.extends.names bridged.both.host_resolved bridged.both.resolved h g
-        bridged.both.host_start bridged.both.start
-
-    host_below : IsGrammar h
-    host_below = in_range host h bridged.both.host_resolved bridged.both.host_start
-
-    extensible_below : All (λ a. a < h.nonterminals) host.extensible
-    extensible_below = all_from_contained (λ a. a < h.nonterminals) host.extensible (λ a has.
-        ((grammar_of host h bridged.both.host_resolved bridged.both.host_start).nonterminals a).1 (inr (inl has)))
+    same_extensible = piece.same_extensible host r h g extended
 
     pub bridged_markers : AreMarkers h host.extensible g (is_marker_in r)
-    bridged_markers =
-        are_markers host r bridged.both.extends.spec bridged.both.extends.names bridged.both.host_resolved bridged.both.resolved h g
-        bridged.both.host_start bridged.both.start bridged.both.host_certified.alone bridged.bridges
+    bridged_markers = piece.markers host r h g extended
 
     pub bridged_piece : IsPiece h host.extensible (piece_in r g)
-    bridged_piece =
-        piece_is h host.extensible g (is_marker_in r) bridged_markers (in_range r g bridged.both.resolved bridged.both.start)
-        (extends host r bridged.both.extends.spec bridged.both.extends.names bridged.both.host_resolved bridged.both.resolved h g
-        bridged.both.host_start bridged.both.start)
+    bridged_piece = piece.piece host r h g extended
 
     pub bridged_pieces : ArePieces h host.extensible (piece_in r g ∷ [])
-    bridged_pieces = record {
-      is_grammar = host_below;
-      within = extensible_below;
-      differ = bridged.both.host_resolved.once.extensible;
-      each = All-cons (IsPiece h host.extensible) (piece_in r g) [] bridged_piece (All-nil (IsPiece h host.extensible));
-    }
+    bridged_pieces = piece.pieces_are host r h g extended
 
     -- kernels of the host are kernels with it
     pub bridged_kernels : HasSameKernels h host.extensible (piece_in r g)

@@ -23,12 +23,13 @@ use Rattle.wb_compose_theory_grammar.proofs.TogetherLemmas.{has_together}
 use Rattle.wb_compose_theory_grammar.proofs.CertificateLemmas.{certified_by}
 use Rattle.wb_compose_theory_grammar.proofs.UnitedLemmas.{is_united, keeps_host}
 use Rattle.wb_certify.specs.Kept.{AreCertifiedBoth}
-use Rattle.wb_compose.specs.Joined.{AreCertifiedApart, Extended, piece_in, pieces_in}
+use Rattle.wb_determinism_beside.specs.Pieces.{piece_in}
+use Rattle.wb_compose.specs.Joined.{AreCertifiedApart, Extended, pieces_in}
 use Rattle.wb_compose.proofs.BridgedLemmas.{certified_is_bridged}
 use Rattle.wb_compose.proofs.ImageLemmas.{bridge_listed}
-use Rattle.wb_compose.proofs.InRange.{grammar_of, in_range}
+use Rattle.wb_determinism_beside.proofs.InRange.{grammar_of, in_range}
 use Rattle.wb_compose.proofs.JoinedLemmas.{deterministic, extensible_is, host_deterministic, is_piece, pieces_are}
-use Rattle.wb_compose.proofs.NumberLemmas.{images_agree, productions_agree, terminals_agree}
+use Rattle.wb_determinism_beside.proofs.NumberLemmas.{images_agree, productions_agree, terminals_agree}
 
 module _ (host r : ResolvedParts) (h g : GrammarView) (operations : List OperationSignature)
     (both : AreCertifiedBoth host r h g operations) where

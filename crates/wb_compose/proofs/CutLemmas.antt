@@ -4,13 +4,9 @@ use Rattle.std.proofs.lemmas.List.{length-append, take-append-drop}
 use Rattle.std.proofs.lemmas.Slice.Zip.{AllZip-long}
 use Rattle.wb_compose_theory_lists.proofs.SplitLemmas.{Groups, Parts}
 use Rattle.wb_lemmas.proofs.Parts.{drop_append, take_append}
+use Rattle.wb_determinism_beside.proofs.RowLemmas.{length-take_within}
 
--- so many are taken where there are so many, and the others are left
-pub length-take_within : {X : Type 0} (n : ℕ) (xs : List X) → n ≤ length xs → length (take n xs) ≡ n
-length-take_within zero xs within = refl
-length-take_within (suc n) [] within = absurd (omega (arith, within))
-length-take_within (suc n) (x ∷ xs) within = ap suc (length-take_within n xs (omega (arith, within)))
-
+-- so many are dropped where there are so many
 pub length-drop_within : {X : Type 0} (n : ℕ) (xs : List X) → n ≤ length xs → length (drop n xs) ≡ length xs - n
 length-drop_within {X} n xs within =
     let whole = ap (λ (z : List X). length z) (take-append-drop n xs) in

@@ -36,7 +36,7 @@ use Rattle.wb_compose.specs.Composed.{IsComposed, IsExtended}
 use Rattle.wb_compose.specs.HostLanguage.{host_language, layout_numbers}
 use Rattle.wb_compose.specs.Joined.{AreCertifiedApart, Extended}
 use Rattle.wb_compose.specs.Written.{written_in}
-use Rattle.wb_compose.proofs.InRange.{grammar_of}
+use Rattle.wb_determinism_beside.proofs.InRange.{grammar_of}
 
 -- without extensions nothing is added to a grammar
 pub alone : (g : GrammarView) (extensible : List ℕ) → g ≡ united g extensible []

@@ -20,28 +20,11 @@ use Rattle.wb_compose_theory_grammar.specs.Bridges.{begins, bridge_in_list, mark
 use Rattle.wb_compose_theory_grammar.specs.Pieces as pieces
 use Rattle.wb_compose.specs.Bridged.{AreBridged}
 use Rattle.wb_compose.specs.Images.{IsImage}
-use Rattle.wb_compose.specs.Joined.{is_marker_in, piece_in}
-use Rattle.wb_compose.proofs.BridgedLemmas.{bridged_markers, bridged_piece}
-use Rattle.wb_compose.proofs.MarkerLemmas.{marker_row, row_marker}
-use Rattle.wb_compose.proofs.NumberLemmas.{bridged_same, left_of}
-
--- where the terminal begins a production there is a first one
-bridge_there : (p t : ℕ) (rules : List Production) (k a : ℕ) (rest : List Symbol) → slice_get rules k ≡ Some (a, Terminal t ∷ rest)
-    → bridge_in_list p t rules ≡ None → ⊥
-bridge_there p t [] k a rest at e = nothing_at (a, Terminal t ∷ rest) k at
-bridge_there p t (rule ∷ rules) k a rest at e =
-    by (begins t rule.1) refl k at (λ j there more. bridge_there (suc p) t rules j a rest there more) where
-      by : (b : Bool) → begins t rule.1 ≡ b → (k : ℕ) → slice_get (rule ∷ rules) k ≡ Some (a, Terminal t ∷ rest)
-          → ((j : ℕ) → slice_get rules j ≡ Some (a, Terminal t ∷ rest) → bridge_in_list (suc p) t rules ≡ None → ⊥) → ⊥
-      by true is k at later =
-          let found : Option (ℕ × ℕ) = Some (p, rule.0) in
-          let bad : found ≡ None =
-          sym (ap (λ b. cond b (Some (p, rule.0)) (bridge_in_list (suc p) t rules)) is) ∙ e in cc
-      by false is zero at later =
-          let first : rule ≡ (a, Terminal t ∷ rest) = same_Some rule (a, Terminal t ∷ rest) at in
-          let bad : true ≡ false = sym (ap (λ (z : Production). begins t z.1) first ∙ eq-eqb t t refl) ∙ is in cc
-      by false is (suc j) at later =
-          later j at (sym (ap (λ b. cond b (Some (p, rule.0)) (bridge_in_list (suc p) t rules)) is) ∙ e)
+use Rattle.wb_determinism_beside.specs.Pieces.{is_marker_in, piece_in}
+use Rattle.wb_compose.proofs.BridgedLemmas.{bridged_markers, extended}
+use Rattle.wb_determinism_beside.proofs.PieceLemmas as piece
+use Rattle.wb_determinism_beside.proofs.MarkerLemmas.{marker_row, row_marker}
+use Rattle.wb_determinism_beside.proofs.NumberLemmas.{bridged_same, left_of}
 
 -- the hole of a nonterminal has its place
 hole_at : (first a : ℕ) (xs : List ℕ) (j : ℕ) → Differ xs → slice_get xs j ≡ Some a → hole_among first a xs ≡ Some (first + j)
@@ -66,20 +49,12 @@ module _ (host r : ResolvedParts) (h g : GrammarView) (operations : List Operati
   -- the first production that a marker begins gives it its mark
   marked_on : (t p a : ℕ) → IsTrue (is_marker_in r t) → bridge_in_list 0 t g.productions ≡ Some (p, a)
       → pieces.IsMarker h host.extensible (piece_in r g) t a
-  marked_on t p a is_one e =
-      (bridged_piece host r h g operations is_bridged).markers t a
-      (ap (λ z. mark_by z (bridge_in_list 0 t g.productions)) is_one ∙ ap (mark_by true) e)
+  marked_on = piece.marked_on host r h g (extended host r h g operations is_bridged)
 
   -- the first production that a marker begins is on an extensible nonterminal
   pub bridge_listed : (t : ℕ) → IsTrue (is_marker_in r t) → (p a : ℕ) × (bridge_in_list 0 t g.productions ≡ Some (p, a))
       × Contains host.extensible a
-  bridge_listed t is_one = by (bridge_in_list 0 t g.productions) refl where
-    by : (o : Option (ℕ × ℕ)) → bridge_in_list 0 t g.productions ≡ o
-        → (p a : ℕ) × (bridge_in_list 0 t g.productions ≡ Some (p, a)) × Contains host.extensible a
-    by None e =
-        let b = (bridged_markers host r h g operations is_bridged).bridge t is_one in
-        absurd (bridge_there 0 t g.productions b.number b.left b.rest b.rule e)
-    by (Some (p, a)) e = (p, a, e, (marked_on t p a is_one e).extensible_left)
+  bridge_listed = piece.bridge_listed host r h g (extended host r h g operations is_bridged)
 
   -- no two extensible nonterminals are one
   holes_differ : Differ r.extensible

@@ -10,8 +10,8 @@ use Rattle.wb_syntax_resolved.specs.declared.resolved.ResolvedParts.{ResolvedPar
 use Rattle.wb_compose_theory_grammar.specs.Bridges.{AreMarkers}
 use Rattle.wb_compose_theory_grammar.specs.Pieces.{ArePieces, IsPiece}
 use Rattle.wb_compose.specs.Bridged.{AreBridged}
-use Rattle.wb_compose.specs.Joined.{is_marker_in, piece_in}
-use Rattle.wb_compose.specs.Numbers.{KeepsNumbers}
+use Rattle.wb_determinism_beside.specs.Pieces.{is_marker_in, piece_in}
+use Rattle.wb_determinism_beside.specs.KeptNumbers.{KeepsNumbers}
 use Rattle.wb_compose.proofs.BridgedLemmas.{bridged_markers, bridged_numbers, bridged_piece, bridged_pieces, certified_is_bridged}
 use Rattle.wb_compose.proofs.BridgedLemmas.{host_is_deterministic, same_extensible}
 

@@ -6,10 +6,10 @@ use Rattle.std.proofs.lemmas.Option.{same_Some, slice_get_within}
 use Rattle.wb_compose_theory_lists.specs.Extended.{IsExtendedBy, file_on}
 use Rattle.wb_base.specs.Grammar.{GrammarView}
 use Rattle.wb_compose.proofs.JoinedLemmas.{numbers_kept}
-use Rattle.wb_compose.proofs.KeptLemmas.{grammar_row}
-use Rattle.wb_compose.proofs.RowLemmas.{map_at}
+use Rattle.wb_determinism_beside.proofs.KeptLemmas.{grammar_row}
+use Rattle.wb_determinism_beside.proofs.RowLemmas.{map_at}
 use Rattle.wb_certify.specs.Kept.{AreCertifiedBoth}
-use Rattle.wb_compose.specs.Numbers.{KeepsNumbers}
+use Rattle.wb_determinism_beside.specs.KeptNumbers.{KeepsNumbers}
 use Rattle.wb_lemmas.proofs.Places.{append_keeps, nothing_at}
 use Rattle.wb_lemmas.proofs.Zips.{zip_at}
 use Rattle.wb_names.specs.Resolving.{ResolvesExtension}

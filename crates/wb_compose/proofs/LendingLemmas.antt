@@ -4,7 +4,7 @@ use Rattle.wb_base.specs.Grammar.{GrammarView}
 use Rattle.wb_certify.specs.Kept.{ExtensionView}
 use Rattle.wb_determinism_host.specs.Lexicons as certified
 use Rattle.wb_determinism.specs.Images as image
-use Rattle.wb_compose.specs.Joined as joined
+use Rattle.wb_determinism_beside.specs.Pieces as piece
 use Rattle.wb_compose.specs.Written.{written_with}
 use Rattle.wb_syntax_resolved.specs.declared.resolved.ResolvedParts.{ResolvedParts}
 use Rattle.wb_syntax_resolved.specs.declared.terminal.Preference.{Preference}
@@ -50,18 +50,18 @@ lexicon_is r g h rows preferences grammar_is rows_are preferences_are =
     })))
 
 -- the markers of an extension
-markers_are : (e : ExtensionView) (x : Addition) → IsLent e x → (t : ℕ) → is_marker_in x t ≡ joined.is_marker_in e.resolved t
+markers_are : (e : ExtensionView) (x : Addition) → IsLent e x → (t : ℕ) → is_marker_in x t ≡ piece.is_marker_in e.resolved t
 markers_are e x is t =
     ap (λ rows. is_marker_row (slice_get rows t)) is.terminals_are ∙ marker_row (slice_get e.resolved.terminals t)
 
-pub marker_flags : (e : ExtensionView) (x : Addition) → IsLent e x → is_marker_in x ≡ joined.is_marker_in e.resolved
+pub marker_flags : (e : ExtensionView) (x : Addition) → IsLent e x → is_marker_in x ≡ piece.is_marker_in e.resolved
 marker_flags e x is = λ j. λ t. markers_are e x is t j
 
 -- an extension is written as it was certified
 pub written_is : (e : ExtensionView) (x : Addition) → IsLent e x → written_in x ≡ written_with e.resolved x.grammar.now
 written_is e x is = λ j. record { piece = piece_is j; name = is.name_is j; lexicon = scanned_is j }
   where
-    piece_is : piece_of x.grammar.now (is_marker_in x) ≡ joined.piece_in e.resolved x.grammar.now
+    piece_is : piece_of x.grammar.now (is_marker_in x) ≡ piece.piece_in e.resolved x.grammar.now
     piece_is = ap (piece_of x.grammar.now) (marker_flags e x is)
 
     scanned_is : lexicon_with x.grammar.now x.terminals.now x.preferences.now ≡ certified.lexicon_of e.resolved x.grammar.now

@@ -1,18 +1,8 @@
-pub mod RowLemmas
-pub mod InRange
-pub mod KeptLemmas
-pub mod GrammarKept
-pub mod MarkerLemmas
-pub mod OwnLemmas
 pub mod BridgedLemmas
 pub mod JoinedLemmas
-pub mod NumberLemmas
 pub mod ImageLemmas
 mod RuleLemmas
 pub mod CertifiedLemmas
-pub mod GroupLemmas
-pub mod WrittenRows
-pub mod WrittenPreferences
 pub mod WrittenLemmas
 pub mod ApartLemmas
 pub mod WrittenApart

@@ -20,7 +20,7 @@ use Rattle.wb_syntax_resolved.specs.declared.resolved.ResolvedParts.{ResolvedPar
 use Rattle.wb_compose.specs.Bridged.{AreBridged}
 use Rattle.wb_compose.specs.Rules.{AddsLookahead, HasRuleAtPrefixes, KeepsAtKernels, KeepsAtPrefixes, host_holes}
 use Rattle.wb_compose.proofs.BridgedLemmas.{bridged_kernels, same_extensible}
-use Rattle.wb_compose.proofs.NumberLemmas.{productions_agree, terminals_agree}
+use Rattle.wb_determinism_beside.proofs.NumberLemmas.{productions_agree, terminals_agree}
 
 module _ (g k : GrammarView) where
   -- of terminals and nonterminals no kernel of host items speaks

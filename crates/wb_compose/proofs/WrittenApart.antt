@@ -20,7 +20,7 @@ use Rattle.wb_compose.specs.Written.{name_in, written_in, written_with}
 use Rattle.wb_compose.proofs.ApartLemmas.{piece_apart}
 use Rattle.wb_compose.proofs.CertifiedLemmas.{certified_apart, host_is}
 use Rattle.wb_compose.proofs.JoinedLemmas.{deterministic, extensible_is}
-use Rattle.wb_compose.proofs.NumberLemmas.{productions_agree}
+use Rattle.wb_determinism_beside.proofs.NumberLemmas.{productions_agree}
 use Rattle.wb_compose.proofs.WrittenLemmas.{has_rows}
 
 -- one extension

@@ -27,13 +27,15 @@ use Rattle.wb_syntax_resolved.specs.Grammar.{IsGrammarOf}
 use Rattle.wb_syntax_resolved.specs.Resolved.{IsNamedPreference, IsResolved}
 use Rattle.wb_syntax.specs.SpecText.{SpecView}
 use Rattle.wb_termset.specs.Sets.{IsMember}
+use Rattle.wb_termset.proofs.CallerLemmas.{has_below}
 use Rattle.wb_compose_theory.specs.Worlds.{Mark}
 use Rattle.wb_compose_theory_language.specs.Apart.{colon}
 use Rattle.wb_compose_theory_language.specs.Written.{HasRows, IsLayoutRow, IsWrittenBeside}
-use Rattle.wb_compose.proofs.InRange.{grammar_of}
-use Rattle.wb_compose.proofs.RowLemmas.{map_at}
-use Rattle.wb_compose.proofs.WrittenPreferences.{pair_of, preferences_are, preferred}
-use Rattle.wb_compose.proofs.WrittenRows.{row_up, rows_len, up, up_past}
+use Rattle.wb_determinism_beside.proofs.InRange.{grammar_of}
+use Rattle.wb_determinism_beside.proofs.RowLemmas.{map_at}
+use Rattle.wb_determinism_beside.proofs.LayoutRows.{from_map, layout_past, past_layout}
+use Rattle.wb_determinism_beside.proofs.WrittenPreferences.{pair_of, preferences_are, preferred}
+use Rattle.wb_determinism_beside.proofs.WrittenRows.{row_up, rows_len, up, up_past}
 
 -- the expression of a row
 abbrev pub pattern_of : Terminal → Tree
@@ -43,41 +45,9 @@ pattern_of t = t.pattern
 abbrev pub layout_of : Terminal → Bool
 layout_of t = is_layout t.kind
 
--- what a mapped list has at a place comes from there
-pub from_map : {X Y : Type 0} (f : X → Y) (xs : List X) (k : ℕ) (y : Y) → slice_get (map f xs) k ≡ Some y →
-    (x : X) × (slice_get xs k ≡ Some x) × (f x ≡ y)
-from_map {X} {Y} f xs k y at =
-    let less : k < length xs = let a = slice_get_within (map f xs) k y at in let b = length-map xs f in omega (arith, a, b) in
-    let (x, there) = at_within xs k less in
-    (x, there, same_Some (f x) y (sym (map_at f xs k x there) ∙ at))
-
--- nothing is a member past the end
-past_end : (set : List Bool) (t : ℕ) → length set ≤ t → ¬ IsMember set t
-past_end [] t far is = absurd (cc is)
-past_end (b ∷ set) zero far is = absurd (omega (arith, far))
-past_end (b ∷ set) (suc t) far is = past_end set t (omega (arith, far)) is
-
 module _ (r : ResolvedParts) (g : GrammarView) (whole : IsResolved r) (start : r.grammar ≡ Some g) where
   of_grammar : IsGrammarOf r g
   of_grammar = grammar_of r g whole start
-
-  -- a row past the terminals of the grammar is layout, and no other row is
-  layout_past : (t : ℕ) (row : Terminal) → slice_get r.terminals t ≡ Some row → (kind : TerminalKind) → row.kind ≡ kind →
-      g.terminals ≤ t → is_layout kind ≡ true
-  layout_past t row at Plain e far = let less = (of_grammar.terminals t row at).1 (λ f. let bad : Plain ≡ Ignore = sym e ∙ f in cc) in
-      absurd (omega (arith, less, far))
-  layout_past t row at Ignore e far = refl
-  layout_past t row at Marking e far = let less = (of_grammar.terminals t row at).1 (λ f. let bad : Marking ≡ Ignore = sym e ∙ f in cc) in
-      absurd (omega (arith, less, far))
-
-  past_layout : (t : ℕ) (row : Terminal) → slice_get r.terminals t ≡ Some row → (kind : TerminalKind) → row.kind ≡ kind →
-      is_layout kind ≡ true → g.terminals ≤ t
-  past_layout t row at Plain e is = absurd (cc is)
-  past_layout t row at Ignore e is = elim (cases_lt t g.terminals) [
-    | inl low ↦ absurd ((of_grammar.terminals t row at).0 low e)
-    | inr far ↦ far
-  ]
-  past_layout t row at Marking e is = absurd (cc is)
 
   layout_row : (t : ℕ) → IsMember (map layout_of r.terminals) t → IsLayoutRow g.terminals (lexicon_of r g) t
   layout_row t is = elim (cases_lt t (length r.terminals)) [
@@ -85,8 +55,10 @@ module _ (r : ResolvedParts) (g : GrammarView) (whole : IsResolved r) (start : r
         let (row, at) = at_within r.terminals t less in
         let flag = default_at (map layout_of r.terminals) t false (layout_of row) (map_at layout_of r.terminals t row at) in
         let long = length-map r.terminals pattern_of in
-        (past_layout t row at row.kind refl (sym flag ∙ is), omega (arith, less, long))
-    | inr far ↦ absurd (past_end (map layout_of r.terminals) t (let long = length-map r.terminals layout_of in omega (arith, far, long)) is)
+        (past_layout r g whole start t row at row.kind refl (sym flag ∙ is), omega (arith, less, long))
+    | inr far ↦
+        let under = has_below (map layout_of r.terminals) t is in
+        let long = length-map r.terminals layout_of in absurd (omega (arith, far, under, long))
   ]
 
   row_layout : (t : ℕ) → IsLayoutRow g.terminals (lexicon_of r g) t → IsMember (map layout_of r.terminals) t
@@ -94,7 +66,7 @@ module _ (r : ResolvedParts) (g : GrammarView) (whole : IsResolved r) (start : r
       let long = length-map r.terminals pattern_of in
       let (row, at) = at_within r.terminals t (omega (arith, under, long)) in
       default_at (map layout_of r.terminals) t false (layout_of row) (map_at layout_of r.terminals t row at)
-      ∙ layout_past t row at row.kind refl far
+      ∙ layout_past r g whole start t row at row.kind refl far
 
   -- rows of a resolved specification
   pub has_rows : HasRows g.terminals (lexicon_of r g)

@@ -1,22 +1,13 @@
 -- A certified host and an extension that is certified with it, as what unions are made of.
-use Rattle.std.specs.Prelude.{◌≡◌, ℕ, Bool, List, Some, All, map, slice_get}
+use Rattle.std.specs.Prelude.{◌≡◌, List, Some, All, map}
 use Rattle.wb_base.specs.Grammar.{GrammarView}
 use Rattle.wb_certify.specs.Kept.{AreCertifiedBoth}
 use Rattle.wb_certify_host.specs.Hosts.{IsCertifiedValue}
-use Rattle.wb_determinism.specs.Images.{is_marker_row}
+use Rattle.wb_determinism_beside.specs.Pieces.{piece_in}
 use Rattle.wb_operations.specs.Operations.{OperationSignature}
 use Rattle.wb_syntax_resolved.specs.declared.resolved.ResolvedParts.{ResolvedParts}
 use Rattle.wb_syntax_resolved.specs.Resolved.{IsResolved}
-use Rattle.wb_compose_theory_grammar.specs.Bridges.{piece_of}
 use Rattle.wb_compose_theory_grammar.specs.Pieces.{Piece}
-
--- which terminals are markers
-abbrev pub is_marker_in : ResolvedParts → ℕ → Bool
-is_marker_in r t = is_marker_row (slice_get r.terminals t)
-
--- the extension with this grammar, and with the markers of r
-abbrev pub piece_in : ResolvedParts → GrammarView → Piece
-piece_in r g = piece_of g (is_marker_in r)
 
 -- a host with some extension, by numbers, and its grammar
 pub record Extended : Type 0 where

@@ -2,8 +2,6 @@
 pub mod Joined
 -- extensions that keep the rules on bridges, certified or not
 pub mod Bridged
--- what keeps its numbers with an extension
-pub mod Numbers
 -- what terminals stand for, beside the host alone
 pub mod Images
 -- the lookahead rule at kernels and at prefixes

@@ -4,7 +4,8 @@ use Rattle.wb_base.specs.Grammar.{GrammarView}
 use Rattle.wb_determinism_host.specs.Lexicons.{lexicon_of}
 use Rattle.wb_syntax_resolved.specs.declared.resolved.ResolvedParts.{ResolvedParts}
 use Rattle.wb_compose_theory_language.specs.Written.{WrittenPiece}
-use Rattle.wb_compose.specs.Joined.{Extended, piece_in}
+use Rattle.wb_determinism_beside.specs.Pieces.{piece_in}
+use Rattle.wb_compose.specs.Joined.{Extended}
 
 -- the name of the one extension of a host with one
 abbrev pub name_in : ResolvedParts → List ℕ

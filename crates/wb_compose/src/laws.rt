@@ -22,8 +22,9 @@ ghost use Rattle.wb_compose.specs.Composed.{IsComposed};
 ghost use Rattle.wb_compose.specs.Existence.{AnswersText, IsLanguageFor};
 ghost use Rattle.wb_compose.specs.HostLanguage.{host_language};
 ghost use Rattle.wb_compose.specs.Images.{IsImage};
-ghost use Rattle.wb_compose.specs.Joined.{AreCertifiedApart, Extended, piece_in, pieces_in};
-ghost use Rattle.wb_compose.specs.Numbers.{HasTestedNumbers, KeepsNumbers};
+ghost use Rattle.wb_determinism_beside.specs.Pieces.{piece_in};
+ghost use Rattle.wb_compose.specs.Joined.{AreCertifiedApart, Extended, pieces_in};
+ghost use Rattle.wb_determinism_beside.specs.KeptNumbers.{HasTestedNumbers, KeepsNumbers};
 ghost use Rattle.wb_compose.specs.Rules.{HasRuleAtPrefixes};
 ghost use Rattle.wb_compose.specs.Written.{name_in, written_in};
 

@@ -30,9 +30,9 @@ use Rattle.wb_syntax_resolved.specs.Resolved.{IsResolved}
 use Rattle.wb_syntax.specs.declared.item.PlainForm.{PlainForm}
 use Rattle.wb_syntax.specs.declared.item.PlainForm.TheVariants as i
 use Rattle.wb_syntax.specs.SpecText.{SpecView}
-use Rattle.wb_compose.proofs.KeptLemmas as k
-use Rattle.wb_compose.proofs.RowLemmas.{map_at}
-use Rattle.wb_compose.proofs.WrittenRows.{names_apart, row_down, row_up, up}
+use Rattle.wb_determinism_beside.proofs.KeptLemmas as k
+use Rattle.wb_determinism_beside.proofs.RowLemmas.{map_at}
+use Rattle.wb_determinism_beside.proofs.WrittenRows.{names_apart, row_down, row_up, up}
 
 -- the preferences that items write they declare
 preference_declares : (items : Items) (x : PreferenceDeclaration) → Contains (preferences items) x

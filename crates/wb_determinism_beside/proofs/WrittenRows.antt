@@ -40,9 +40,9 @@ use Rattle.wb_syntax.specs.declared.pattern.Role.TheVariants as role
 use Rattle.wb_syntax.specs.SpecText.{SpecView}
 use Rattle.wb_compose_theory.specs.Blocks.{lift}
 use Rattle.wb_compose_theory_grammar.proofs.PlaceLemmas.{lift_below, lift_past}
-use Rattle.wb_compose.proofs.GroupLemmas.{IsStretch, follow_count, follow_kept}
-use Rattle.wb_compose.proofs.KeptLemmas as k
-use Rattle.wb_compose.proofs.RowLemmas.{map_at}
+use Rattle.wb_determinism_beside.proofs.GroupLemmas.{IsStretch, follow_count, follow_kept}
+use Rattle.wb_determinism_beside.proofs.KeptLemmas as k
+use Rattle.wb_determinism_beside.proofs.RowLemmas.{map_at}
 
 -- what items write of terminals they declare
 lexical_declares : (items : Items) (x : LexicalDeclaration) → Contains (lexicals items) x

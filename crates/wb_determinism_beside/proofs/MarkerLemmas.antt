@@ -32,9 +32,9 @@ use Rattle.wb_syntax.specs.SpecText.{SpecView}
 use Rattle.wb_compose_theory_grammar.specs.Bridges as own
 use Rattle.wb_compose_theory_grammar.specs.Bridges.{AreMarkers, BeginsBridge, HasShape, IsNoMarker}
 use Rattle.wb_compose_theory.specs.Marks.{Each}
-use Rattle.wb_compose.specs.Joined.{is_marker_in}
-use Rattle.wb_compose.proofs.KeptLemmas as k
-use Rattle.wb_compose.proofs.RowLemmas.{new_at}
+use Rattle.wb_determinism_beside.specs.Pieces.{is_marker_in}
+use Rattle.wb_determinism_beside.proofs.KeptLemmas as k
+use Rattle.wb_determinism_beside.proofs.RowLemmas.{new_at}
 
 -- what is marking is a marker, and the other way round
 marking_is : (kind : TerminalKind) → is_marking kind ≡ true → kind ≡ Marking

@@ -35,9 +35,9 @@ use Rattle.wb_syntax_resolved.specs.Resolved.{IsResolved}
 use Rattle.wb_syntax.specs.declared.item.PlainForm.{PlainForm}
 use Rattle.wb_syntax.specs.declared.item.PlainForm.TheVariants as i
 use Rattle.wb_syntax.specs.SpecText.{SpecView}
-use Rattle.wb_compose.proofs.InRange.{grammar_of, in_range, with_some}
-use Rattle.wb_compose.proofs.RowLemmas.{Kept, all_below, kept_at, map_at, same_list}
-use Rattle.wb_compose.proofs.CutLemmas.{length-take_within}
+use Rattle.wb_determinism_beside.proofs.InRange.{grammar_of, in_range, with_some}
+use Rattle.wb_determinism_beside.proofs.RowLemmas.{Kept, all_below, kept_at, map_at, same_list}
+use Rattle.wb_determinism_beside.proofs.RowLemmas.{length-take_within}
 
 -- a number that is moved stays where its name does
 same_number : {X : Type 0} (entry : X → Entry) (before rows : List X) → NamesDiffer (map entry rows) → (k other : ℕ) (was row : X)

@@ -20,8 +20,8 @@ use Rattle.wb_compose_theory.specs.Blocks.{lift}
 use Rattle.wb_compose_theory_grammar.specs.Bridges.{begins, bridge_in_list, mark_by}
 use Rattle.wb_compose_theory_grammar.specs.Numberings.{image_of, phi_of, up_of}
 use Rattle.wb_compose_theory_grammar.specs.UnitedWorlds.{index_of}
-use Rattle.wb_compose.specs.Joined.{is_marker_in, piece_in}
-use Rattle.wb_compose.specs.Numbers.{HasTestedNumbers, KeepsNumbers, KeepsPlaces}
+use Rattle.wb_determinism_beside.specs.Pieces.{is_marker_in, piece_in}
+use Rattle.wb_determinism_beside.specs.KeptNumbers.{HasTestedNumbers, KeepsNumbers, KeepsPlaces}
 
 -- each nonterminal has one hole
 length-hole_productions : (next : ℕ) (xs : List ℕ) → length (hole_productions next xs) ≡ length xs

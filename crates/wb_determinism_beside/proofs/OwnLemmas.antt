@@ -28,12 +28,12 @@ use Rattle.wb_syntax_resolved.specs.declared.terminal.Terminal.{Terminal}
 use Rattle.wb_syntax_resolved.specs.Once.{Entry}
 use Rattle.wb_syntax_resolved.specs.Resolved.{IsResolved}
 use Rattle.wb_syntax.specs.SpecText.{SpecView}
-use Rattle.wb_compose.specs.Numbers.{IsAdded, IsSameEntry, KeepsNumbers, StaysFirst}
-use Rattle.wb_compose.proofs.GrammarKept.{production_same}
-use Rattle.wb_compose.proofs.InRange.{in_range}
-use Rattle.wb_compose.proofs.KeptLemmas as k
-use Rattle.wb_compose.proofs.MarkerLemmas as mark
-use Rattle.wb_compose.proofs.RowLemmas.{all_below, new_at}
+use Rattle.wb_determinism_beside.specs.KeptNumbers.{IsAdded, IsSameEntry, KeepsNumbers, StaysFirst}
+use Rattle.wb_determinism_beside.proofs.GrammarKept.{production_same}
+use Rattle.wb_determinism_beside.proofs.InRange.{in_range}
+use Rattle.wb_determinism_beside.proofs.KeptLemmas as k
+use Rattle.wb_determinism_beside.proofs.MarkerLemmas as mark
+use Rattle.wb_determinism_beside.proofs.RowLemmas.{all_below, new_at}
 
 -- a production of the nonterminal
 record HasRule (g : GrammarView) (a : ℕ) : Type 0 where

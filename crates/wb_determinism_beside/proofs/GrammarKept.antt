@@ -17,9 +17,9 @@ use Rattle.wb_syntax_resolved.specs.Grammar.{IsGrammarProduction, symbol_of}
 use Rattle.wb_syntax_resolved.specs.Resolved.{IsResolved}
 use Rattle.wb_syntax.specs.SpecText.{SpecView}
 use Rattle.wb_compose_theory_grammar.specs.Pieces.{Extends}
-use Rattle.wb_compose.proofs.InRange.{concrete_below, terminal_below, tree_below}
-use Rattle.wb_compose.proofs.KeptLemmas as k
-use Rattle.wb_compose.proofs.RowLemmas.{prefix_of, some_once}
+use Rattle.wb_determinism_beside.proofs.InRange.{concrete_below, terminal_below, tree_below}
+use Rattle.wb_determinism_beside.proofs.KeptLemmas as k
+use Rattle.wb_determinism_beside.proofs.RowLemmas.{prefix_of, some_once}
 
 module _ (host r : ResolvedParts) (spec : SpecView) (names : ResolvesExtension host spec r) (host_whole : IsResolved host)
     (whole : IsResolved r) (h g : GrammarView) (host_start : host.grammar ≡ Some h) (start : r.grammar ≡ Some g) where

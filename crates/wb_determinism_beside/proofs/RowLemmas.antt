@@ -1,5 +1,5 @@
 -- Rows that keep their places: of sources those that are first and lead are first.
-use Rattle.std.proofs.Common.{◌≡◌, ◌≤◌, ◌<◌, ◌++◌, ◌∷◌, ◌⊎◌, inl, inr, [], ℕ, zero, suc, List, Some, map, length, slice_get}
+use Rattle.std.proofs.Common.{◌≡◌, ◌≤◌, ◌<◌, ◌++◌, ◌∷◌, ◌⊎◌, inl, inr, [], ℕ, zero, suc, List, Some, map, length, slice_get, take}
 use Rattle.std.proofs.Common.{ap, refl, sym, subst, ◌∙◌, arith}
 use Rattle.std.proofs.lemmas.Option.{slice_get_within, same_Some}
 use Rattle.wb_lemmas.proofs.Places.{append_keeps, at_within, nothing_at}
@@ -143,3 +143,9 @@ some_once {X} (x ∷ xs) (y ∷ ys) e =
     let first : x ≡ y = cc in
     let rest : map (λ (x : X). Some x) xs ≡ map (λ (x : X). Some x) ys = cc in
     ap (λ zs. x ∷ zs) (some_once xs ys rest) ∙ ap (λ z. z ∷ ys) first
+
+-- so many are taken where there are so many, and the others are left
+pub length-take_within : {X : Type 0} (n : ℕ) (xs : List X) → n ≤ length xs → length (take n xs) ≡ n
+length-take_within zero xs within = refl
+length-take_within (suc n) [] within = absurd (omega (arith, within))
+length-take_within (suc n) (x ∷ xs) within = ap suc (length-take_within n xs (omega (arith, within)))

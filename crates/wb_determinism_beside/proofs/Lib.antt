@@ -1,0 +1,15 @@
+pub mod RowLemmas
+pub mod InRange
+pub mod KeptLemmas
+pub mod GrammarKept
+pub mod MarkerLemmas
+pub mod OwnLemmas
+pub mod NumberLemmas
+pub mod PieceLemmas
+pub mod GroupLemmas
+pub mod WrittenRows
+pub mod WrittenPreferences
+pub mod LayoutRows
+pub mod ScannedLemmas
+pub mod HoleLemmas
+pub mod GivenLemmas
