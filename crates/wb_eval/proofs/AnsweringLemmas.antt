@@ -1,5 +1,5 @@
 -- How an evaluation ends, and how far it is from its end.
-use Rattle.std.proofs.Common.{get_or, ◌≡◌, ◌∙◌, ◌≤◌, ◌<◌, ◌+◌, ◌*◌, ◌-◌, ℕ, suc, List, [], ◌∷◌, Option, Some, None, length, refl, sym, ap}
+use Rattle.std.proofs.Common.{get_or, ◌≡◌, ◌∙◌, ◌≤◌, ◌<◌, ◌+◌, ◌*◌, ◌-◌, ℕ, List, [], ◌∷◌, Option, Some, None, length, refl, sym, ap}
 use Rattle.std.proofs.Common.{subst, arith}
 use Rattle.std.proofs.lemmas.List.{get_or_append_left, length-append, length-take-le}
 use Rattle.std.proofs.lemmas.Option.{slice_get_within}
@@ -11,7 +11,7 @@ use Rattle.wb_values.specs.Tree.{Tree, node, empty}
 use Rattle.wb_values.specs.ValuesIn.{tree_in, value_in, IsIn}
 use Rattle.wb_eval_theory.specs.Instances.{Instance}
 use Rattle.wb_eval_theory.specs.Needed.{IsNeeded, itself, NeedsMoreThan}
-use Rattle.wb_eval_theory.specs.Walks.{done, value, fault}
+use Rattle.wb_eval_theory.specs.Walks.{done, value}
 use Rattle.wb_eval.proofs.BackLemmas.{back}
 use Rattle.wb_eval.proofs.LeaveLemmas.{named_length}
 use Rattle.wb_eval.proofs.StartLemmas.{stack_some}
@@ -32,7 +32,8 @@ use Rattle.wb_eval.specs.Inner.Works.{IsExtended, Fails, IsFramed}
 
 module _ (a : AttributionParts) (operations : Operations) (trees : List Tree) (m : Machine) where
   -- the value of the first instance
-  pub answers_value : {under : List Value} (v : Value) (steps : ℕ) → Runs a operations trees under m (done (value (value_in trees v))) → IsIn (length trees) v
+  pub answers_value : {under : List Value} (v : Value) (steps : ℕ) → Runs a operations trees under m (done (value (value_in trees v)))
+      → IsIn (length trees) v
       → length m.stack.items ≡ 1 → m.entered ≤ steps → IsAnswered a operations trees m.root m.attribute steps (evaluated.Value v)
   answers_value {under} v steps runs inside one le = by_waiting r.waiting refl where
     r : IsMachine a operations trees under m

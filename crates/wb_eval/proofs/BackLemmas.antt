@@ -1,5 +1,6 @@
 -- The instance at work is left with its value, and the one that waited for it goes on.
-use Rattle.std.proofs.Common.{◌≡◌, ◌≢◌, ◌⊎◌, ◌∙◌, ◌≤◌, ◌<◌, ◌-◌, ◌++◌, ℕ, zero, suc, List, [], ◌∷◌, Option, Result, Ok, Err, Some, None, length}
+use Rattle.std.proofs.Common.{◌≡◌, ◌≢◌, ◌⊎◌, ◌∙◌, ◌<◌, ◌-◌, ◌++◌, ℕ, zero, suc, List, [], ◌∷◌, Option, Result, Ok, Err, Some, None}
+use Rattle.std.proofs.Common.{length}
 use Rattle.std.proofs.Common.{slice_get, take, drop, map, refl, sym, ap, subst, arith}
 use Rattle.std.specs.Prelude.{OnOk}
 use Rattle.std.proofs.lemmas.List.{length-append, length-take-le, length-map}
@@ -7,11 +8,9 @@ use Rattle.wb_lemmas.proofs.Places.{at_within, append_keeps, push_last}
 use Rattle.wb_operations.specs.Operations.{Operations}
 use Rattle.wb_syntax_resolved.specs.declared.attribution.AttributionParts.{AttributionParts}
 use Rattle.wb_values.specs.declared.value.Value.{Value}
-use Rattle.wb_values.specs.declared.value.Value.TheVariants as stored
 use Rattle.wb_values.specs.Tree.{Tree, children_of}
 use Rattle.wb_values.specs.ValuesIn.{tree_in, value_in, IsIn}
-use Rattle.wb_eval_rules.specs.Code.{visit, Instruction, does, instruction_of}
-use Rattle.wb_eval_rules.specs.declared.code.Op.{Op}
+use Rattle.wb_eval_rules.specs.Code.{visit, does, instruction_of}
 use Rattle.wb_eval_theory.specs.Walks.{done, value}
 use Rattle.wb_eval.proofs.FrameLemmas.{moved, frames_less, frames_length, piled_more, piled_none, set_here}
 use Rattle.wb_eval.proofs.LeaveLemmas.{left, tree_key, kept_synthesized, kept_inherited, kept_tree, is_tree, IsBackAt}
@@ -21,14 +20,15 @@ use Rattle.wb_eval.proofs.VisitLemmas.{IsVisiting, read_known}
 use Rattle.wb_eval.specs.Inner.Answering.{IsLeaving, IsPopped, with_answer}
 use Rattle.wb_eval.specs.Inner.Fits.{stack_of, CodeFits}
 use Rattle.wb_eval.specs.Inner.Going.{resume}
-use Rattle.wb_eval.specs.Inner.Machines.{tree_value, named, known, IsKey, IsKeptIn, IsMachine, IsSuspended, AreSuspended, Runs, IsAttributeSet, IsSet, IsFor}
+use Rattle.wb_eval.specs.Inner.Machines.{tree_value, named, known, IsKey, IsKeptIn, IsMachine, IsSuspended, Runs}
+use Rattle.wb_eval.specs.Inner.Machines.{IsAttributeSet, IsSet, IsFor}
 use Rattle.wb_eval.specs.Inner.Piles.{Wait, piled, code_left, AreWaits, IsWaitOf}
 use Rattle.wb_eval.specs.Inner.Works.{IsGoing, GoesOnAt, IsTurn}
 use Rattle.wb_eval.specs.declared.frame.Frame.{Frame}
 use Rattle.wb_eval.specs.declared.machine.Key.{Key}
 use Rattle.wb_eval.specs.declared.machine.Key.TheVariants as key
 use Rattle.wb_eval.specs.declared.machine.Machine.{Machine}
-use Rattle.wb_eval_memo.specs.Memos.{count, path_in, recall, IsWhole}
+use Rattle.wb_eval_memo.specs.Memos.{path_in, recall, IsWhole}
 use Rattle.wb_eval_memo.specs.declared.memo.Memo.{Memo}
 
 -- what is said of a call that keeps the value of an attribute
@@ -46,7 +46,8 @@ known_set old new (key.Synthesized site x) v whole is_key s = s.set
 known_set old new (key.Inherited site x) v whole is_key s = s.set
 known_set old new (key.Tree site) v whole (le, path) s =
     let t = whole.trees in
-    ap tree_value (ap (λ ts. slice_get ts site) s.set ∙ set_here old.trees.items site (Some s.id) (omega (arith, le, t))) ∙ ap Some (sym s.is)
+    ap tree_value (ap (λ ts. slice_get ts site) s.set ∙ set_here old.trees.items site (Some s.id) (omega (arith, le, t)))
+    ∙ ap Some (sym s.is)
 
 -- a place behind which there is code is within
 drop_within : {X : Type 0} (xs rest : List X) (n : ℕ) (x : X) → drop n xs ≡ x ∷ rest → n < length xs
@@ -92,7 +93,7 @@ module _ (a : AttributionParts) (operations : Operations) (trees : List Tree) {u
       kept_inherited a operations trees m v runs inside new site x s.whole s.sites s.trees s.set s.kept le this_is
   kept_in new (key.Tree site) at s =
       let (le, (q, made, path, this_is)) = tree_key a operations trees m runs.machine site at in
-      kept_tree a operations trees m v runs inside new site s.id q made s.sites s.cells s.values s.set le path this_is s.is
+      kept_tree a operations trees m v runs inside new site s.id q made s.sites s.slots s.set le path this_is s.is
 
   -- what waited, with the frame that was taken
   module _ (new : Machine) (frame : Option Frame) (after : List Value) (p : IsPopped m new under after v frame)
@@ -143,7 +144,8 @@ module _ (a : AttributionParts) (operations : Operations) (trees : List Tree) {u
           let (c, at) = at_within front (length waits) (omega (arith, n)) in
           let last : length waits ≡ length front - 1 = omega (arith, n) in
           let at_c = ap (λ l. slice_get l (length waits)) keys_are ∙ append_keeps front (p.key ∷ []) (length waits) c at in
-          let at_next = ap (λ l. slice_get l (suc (length waits))) keys_are ∙ ap (slice_get (front ++ p.key ∷ [])) n ∙ push_last front p.key in
+          let at_next = ap (λ l. slice_get l (suc (length waits))) keys_are ∙ ap (slice_get (front ++ p.key ∷ [])) n
+          ∙ push_last front p.key in
           let at_wait = ap (λ l. slice_get l (length waits)) waits_are ∙ push_last waits (Some w) in
           let (is_c, is_next, s) = runs.machine.suspended.each (length waits) c p.key w at_c at_next at_wait in
           record { c = c; at = sym (ap (slice_get front) last) ∙ at; is_next = is_next; suspended = s }
@@ -157,7 +159,8 @@ module _ (a : AttributionParts) (operations : Operations) (trees : List Tree) {u
           let k = kept in
           let back = returns_to waits (Some w) (piled waits) waits_are are refl in
           let same_count = k.counts in
-          let t = moved a operations trees runs.machine.top m.attribute runs.machine.all m.memo new.memo (named m.memo i.c) (named m.memo i.c)
+          let t = moved a operations trees runs.machine.top m.attribute runs.machine.all m.memo new.memo (named m.memo i.c)
+          (named m.memo i.c)
           (named m.memo p.key) (named new.memo p.key) w.site w.code w.values s refl (sym (k.names p.key)) (k.paths w.site)
           (k.trees_kept w.site s.id s.has) (omega (arith, same_count)) in
           let on = back.1 i.c (resume operations (path_in new.memo w.site) (children_of (tree_in trees t.id.0)) w.code 0
@@ -196,7 +199,8 @@ module _ (a : AttributionParts) (operations : Operations) (trees : List Tree) {u
             going = subst (λ (n : ℕ). IsGoing a operations trees new n t.way t.rest (under ++ v ∷ [])) site_is going;
           }
 
-    by_frame : (f : Option Frame) → AreWaits (new.frames.items ++ f ∷ []) runs.machine.waits → IsTurn a operations trees new (with_answer f under v) f
+    by_frame : (f : Option Frame) → AreWaits (new.frames.items ++ f ∷ []) runs.machine.waits
+        → IsTurn a operations trees new (with_answer f under v) f
     by_frame f all = at_last f (frames_less new.frames.items f runs.machine.waits all) where
       at_last : (f : Option Frame) → (waits : List (Option Wait)) × (w : Option Wait) × (runs.machine.waits ≡ waits ++ w ∷ [])
           × AreWaits new.frames.items waits × IsWaitOf f w → IsTurn a operations trees new (with_answer f under v) f

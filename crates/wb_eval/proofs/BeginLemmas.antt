@@ -15,18 +15,18 @@ use Rattle.wb_eval.proofs.MachineLemmas.{begins}
 use Rattle.wb_eval_memo.proofs.SitesLemmas.{root_path}
 use Rattle.wb_eval.specs.Inner.Answering.{IsAhead}
 use Rattle.wb_eval.specs.Inner.Machines.{HasTree, AreNamed, IsNode, IsMachine, IsBlank, IsFresh, IsFirst}
-use Rattle.wb_eval_memo.specs.Memos.{count, path_in, numbered, recall, IsWhole}
+use Rattle.wb_eval_memo.specs.Memos.{count, path_in, recall, IsWhole}
 use Rattle.wb_eval.specs.Inner.Piles.{Wait, AreWaits}
 use Rattle.wb_lemmas.proofs.Places.{nothing_at}
 use Rattle.wb_eval.specs.Inner.State.{start}
-use Rattle.wb_eval_rows.specs.Sparse.{number_at}
 use Rattle.wb_eval.specs.declared.machine.Key.TheVariants as key
 use Rattle.wb_eval.specs.declared.machine.Machine.{Machine}
 use Rattle.wb_eval_memo.specs.declared.memo.Memo.{Memo}
 
 module _ (a : AttributionParts) (operations : Operations) (trees : List Tree) (m : Machine) (evaluable : IsEvaluable a operations)
     (inside : m.root.0 < length trees) (asked : IsAsked a (tree_in trees m.root.0) m.attribute) (whole : IsWhole m.memo)
-    (origins : m.memo.sites.origins.items ≡ []) (its_trees : m.memo.trees.items ≡ Some m.root ∷ []) (values : m.memo.values.items ≡ [])
+    (origins : m.memo.sites.origins.items ≡ []) (its_trees : m.memo.trees.items ≡ Some m.root ∷ []) (values : (i x : ℕ)
+    → recall m.memo i x ≡ None)
     (stack : m.stack.items ≡ key.Synthesized 0 m.attribute ∷ []) (frames : m.frames.items ≡ [])
     (entered : m.entered ≡ 1) where
   no_sites : count m.memo ≡ 0
@@ -39,15 +39,8 @@ module _ (a : AttributionParts) (operations : Operations) (trees : List Tree) (m
   only_root zero id has = (refl, let h = sym (ap (λ ts. slice_get ts 0) its_trees) ∙ has in cc h)
   only_root (suc i) id has = absurd (let h = sym (ap (λ ts. slice_get ts (suc i)) its_trees) ∙ has in cc h)
 
-  nothing_known : (i x : ℕ) → recall m.memo i x ≡ None
-  nothing_known i x = by_number (number_at m.memo.cells i x) refl where
-    by_number : (n : ℕ) → number_at m.memo.cells i x ≡ n → recall m.memo i x ≡ None
-    by_number zero is = ap (numbered m.memo.values.items) is
-    by_number (suc n) is =
-        absurd (let lt = whole.numbers i x n is in let l = ap length values in omega (arith, lt, l))
-
   no_value : (i x : ℕ) (w : _) → recall m.memo i x ≡ Some w → ⊥
-  no_value i x w has = let h = sym (nothing_known i x) ∙ has in cc h
+  no_value i x w has = let h = sym (values i x) ∙ has in cc h
 
   below_root : (i : ℕ) (q : Path) (b : _) → i ≤ count m.memo → path_in m.memo i ≡ down q b → ⊥
   below_root zero q b le is = let h = sym root_here ∙ is in cc h
@@ -122,7 +115,7 @@ begun_ahead {a} {operations} {trees} old m f more =
           (subst (λ (i : TreeId). IsAsked a (tree_in trees i.0) old.attribute) (sym more.root) f.asked))
           (subst IsWhole (sym more.memo) b.whole) (ap (λ (z : Memo). z.sites.origins.items) more.memo ∙ b.origins)
           (ap (λ (z : Memo). z.trees.items) more.memo ∙ b.its_trees ∙ ap (λ (i : TreeId). Some i ∷ []) (sym more.root))
-          (ap (λ (z : Memo). z.values.items) more.memo ∙ b.values) stack (ap (λ fs. fs.items) more.frames ∙ b.frames)
+          (λ i x. ap (λ (z : Memo). recall z i x) more.memo ∙ b.values i x) stack (ap (λ fs. fs.items) more.frames ∙ b.frames)
           (more.entered ∙ ap (λ n. n + 1) b.entered);
       root = more.root;
       attribute = more.attribute;

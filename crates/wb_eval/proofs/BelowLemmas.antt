@@ -1,5 +1,5 @@
 -- What a visit reads one step down, and visits at a memo that has grown.
-use Rattle.std.proofs.Common.{◌≡◌, ◌∙◌, ℕ, List, ◌∷◌, Option, refl, sym, subst, arith}
+use Rattle.std.proofs.Common.{◌≡◌, ◌∙◌, ℕ, List, Option, refl, sym, subst, arith}
 use Rattle.std.proofs.lemmas.Option.{same_Some}
 use Rattle.wb_flow_theory.specs.Modular.{IsProduction}
 use Rattle.wb_flow_theory.specs.Vertices.{child}

@@ -1,5 +1,6 @@
 -- What code of a typed expression fits.
-use Rattle.std.proofs.Common.{◌≡◌, ◌∙◌, ◌+◌, ◌++◌, ℕ, zero, suc, List, [], ◌∷◌, Option, Some, inl, inr, length, refl, sym, ap, subst, arith, slice_get, drop}
+use Rattle.std.proofs.Common.{◌≡◌, ◌∙◌, ◌++◌, ℕ, zero, suc, List, [], ◌∷◌, inl, inr, length, refl, sym, ap, subst, arith}
+use Rattle.std.proofs.Common.{slice_get, drop}
 use Rattle.std.proofs.lemmas.List.{append_assoc}
 use Rattle.wb_base.specs.Different.{Differ}
 use Rattle.wb_base.specs.declared.symbol.Kind.{Kind}
@@ -13,21 +14,17 @@ use Rattle.wb_syntax_resolved.specs.Expression.{Expression, Expressions, Node}
 use Rattle.wb_syntax_resolved.specs.Named.{IsNamedNode}
 use Rattle.wb_types.specs.Kinds.{HasKind, HaveKinds}
 use Rattle.wb_types.specs.Kinds as k
-use Rattle.wb_values.specs.Signature.{Signature}
-use Rattle.wb_values.specs.Tree.{node, Value, tree, Values, empty, more}
 use Rattle.wb_eval_rules.proofs.CodeLemmas.{length_code}
-use Rattle.wb_eval_rules.specs.Code.{visit, build, call, stay, Way, next, skip, unless, Instruction, does, count, number_in, or_zero}
-use Rattle.wb_eval_rules.specs.Code.{last_job, before_last, codes_of, code_of}
+use Rattle.wb_eval_rules.specs.Code.{build, call, stay, Way, next, skip, unless, Instruction, does, count, number_in, or_zero}
+use Rattle.wb_eval_rules.specs.Code.{before_last, codes_of, code_of}
 use Rattle.wb_eval_theory.proofs.ExpressionLemmas.{IsIn as IsPart, IsInOne}
-use Rattle.wb_eval_theory.specs.Instances.{Path}
-use Rattle.wb_eval_theory.specs.Walks.{Walk, branch, with_call, number_of, walk_expression, walk_expressions}
 use Rattle.wb_eval.proofs.CodeWalkLemmas.{code_apart}
 use Rattle.wb_eval_rules.proofs.NumberLemmas.{number_is}
-use Rattle.wb_eval.specs.Inner.Fits.{more_kinds, WayFits, IsTyped, CodeFits}
-use Rattle.wb_eval.specs.Inner.Going.{popped, below, on_top, go, pushed, resume}
+use Rattle.wb_eval.specs.Inner.Fits.{more_kinds, WayFits, CodeFits}
 
 -- as many kinds as expressions
-pub have_length : {a : AttributionParts} {signatures : List OperationSignature} {production : Production} (ks : List Kind) (es : Expressions)
+pub have_length : {a : AttributionParts} {signatures : List OperationSignature} {production : Production} (ks : List Kind)
+    (es : Expressions)
     → HaveKinds a signatures production es ks → length ks ≡ count es
 have_length ks x.none k.nothing = refl
 have_length ks (x.more e es) (k.next {ks = rest} first later) = ap suc (have_length rest es later)
@@ -94,10 +91,13 @@ module _ (a : AttributionParts) (operations : Operations) (production : Producti
         let behind_f : FitHere last 0 (is ∷ kinds) = (is, kinds, refl, fit) in
         let third = code_fits f is has_f (λ part i. names part (inr (inr i))) next last kinds behind_f in
         let behind_h : FitHere (code_of operations.signatures f next ++ last) (size f) (is ∷ kinds) =
-        fits_behind a operations production (code_of operations.signatures f next) last (is ∷ kinds) (size f) (sym (length_code operations.signatures f next)) behind_f in
-        let second = code_fits h is has_h (λ part i. names part (inr (inl i))) (skip (size f)) (code_of operations.signatures f next ++ last)
+        fits_behind a operations production (code_of operations.signatures f next) last (is ∷ kinds) (size f)
+        (sym (length_code operations.signatures f next)) behind_f in
+        let second = code_fits h is has_h (λ part i. names part (inr (inl i))) (skip (size f))
+        (code_of operations.signatures f next ++ last)
         kinds behind_h in
-        let behind_c = fits_behind a operations production (code_of operations.signatures h (skip (size f))) (code_of operations.signatures f next ++ last) kinds
+        let behind_c = fits_behind a operations production (code_of operations.signatures h (skip (size f)))
+        (code_of operations.signatures f next ++ last) kinds
         (size h) (sym (length_code operations.signatures h (skip (size f)))) third in
         subst (λ l. FitHere l 0 kinds) (sym (code_apart operations.signatures c h f way code))
         (code_fits c kd.Bool has_c (λ part i. names part (inl i)) (unless (size h))

@@ -1,10 +1,10 @@
 -- An instruction on values: a tree that is built of the last, a call on them, a value that stays; and where code goes on after it.
-use Rattle.std.proofs.Common.{◌≡◌, ◌∙◌, ◌≤◌, ◌<◌, ◌+◌, ◌-◌, ◌++◌, ℕ, zero, suc, Bool, true, false, List, [], ◌∷◌, Option, Some, None, All, length}
-use Rattle.std.proofs.Common.{refl, sym, ap, subst, arith, slice_get, take, drop, append_assoc, append-nil, inl, inr, ◌⊎◌}
-use Rattle.std.proofs.lemmas.List.{get_or_append_left, length-drop, length-append, take_at, drop_at}
-use Rattle.std.proofs.lemmas.List.Elements.{All-push}
+use Rattle.std.proofs.Common.{◌≡◌, ◌∙◌, ◌≤◌, ◌<◌, ◌-◌, ◌++◌, ℕ, suc, List, [], ◌∷◌, Some, All}
+use Rattle.std.proofs.Common.{length}
+use Rattle.std.proofs.Common.{refl, sym, ap, subst, arith, slice_get, take, drop}
+use Rattle.std.proofs.lemmas.List.{get_or_append_left, length-append}
 use Rattle.std.proofs.lemmas.Option.{same_Some, slice_get_within}
-use Rattle.wb_lemmas.proofs.Elements.{all_at, all_left, all_right, all_weaker}
+use Rattle.wb_lemmas.proofs.Elements.{all_at, all_weaker}
 use Rattle.wb_lemmas.proofs.Places.{push_last, default_at}
 use Rattle.wb_flow_theory.specs.Modular.{IsProduction}
 use Rattle.wb_base.specs.declared.symbol.Kind.{Kind}
@@ -18,106 +18,25 @@ use Rattle.wb_values.specs.declared.value.Value.{Value}
 use Rattle.wb_values.specs.declared.value.Value.TheVariants as stored
 use Rattle.wb_values.specs.Fits.{FitsValue, FitAll}
 use Rattle.wb_values.specs.Signature.{Signature}
-use Rattle.wb_values.specs.Tree.{Plain, bool, Tree, node, plain, Values, empty, more, production_of, children_of}
+use Rattle.wb_values.specs.Tree.{Plain, Tree, node, plain, Values, empty, production_of, children_of}
 use Rattle.wb_values.specs.Tree as t
-use Rattle.wb_values.specs.ValuesIn.{tree_in, value_in, values_in, IsIn}
-use Rattle.wb_eval_rules.specs.Code.{build, call, stay, Way, next, skip, unless, Instruction, does}
+use Rattle.wb_values.specs.ValuesIn.{tree_in, values_in, IsIn}
+use Rattle.wb_eval_rules.specs.Code.{build, call, Way, Instruction, does}
 use Rattle.wb_eval_theory.proofs.LawLemmas.{setting_of}
 use Rattle.wb_eval_theory.proofs.SoundLemmas.{plains_kinds, gives_kind}
 use Rattle.wb_eval_theory.specs.Instances.{Path}
-use Rattle.wb_eval_theory.specs.Walks.{Walk, done, value, fault, branch, plains, with_given}
-use Rattle.wb_eval.proofs.CodeFitLemmas.{fits_drop}
-use Rattle.wb_eval.proofs.CodeWalkLemmas.{popped_all, below_all, size_of, resume_drop}
+use Rattle.wb_eval_theory.specs.Walks.{done, fault, plains, with_given}
+use Rattle.wb_eval.proofs.PopLemmas.{values_size, IsPopped, pop, last_front, last_args}
+use Rattle.wb_eval.proofs.CodeWalkLemmas.{popped_all, below_all, size_of}
 use Rattle.wb_eval.proofs.FrameLemmas.{values_more}
 use Rattle.wb_eval.proofs.PlainLemmas.{plains_stored, kinds_fit, plain_is, plain_inside}
-use Rattle.wb_eval.proofs.RunLemmas.{more_runs, still_in}
-use Rattle.wb_eval.proofs.StackLemmas.{stack_push, stack_append, fit_length, kinds_length, fit_popped}
-use Rattle.wb_eval.specs.Inner.Fits.{stack_of, more_kinds, ValuesFit, WayFits, CodeFits}
-use Rattle.wb_eval.specs.Inner.Going.{popped, below, on_top, go, pushed, resume}
+use Rattle.wb_eval.proofs.StoreLemmas.{more_runs, still_in}
+use Rattle.wb_eval.specs.Inner.Fits.{stack_of, ValuesFit, WayFits, CodeFits}
+use Rattle.wb_eval.specs.Inner.Going.{popped, below, go, pushed, resume}
 use Rattle.wb_eval.specs.Inner.Machines.{Runs}
 use Rattle.wb_eval.specs.Inner.Works.{IsEvaluating, IsGoing}
 use Rattle.wb_eval.specs.declared.machine.Machine.{Machine}
 use Rattle.wb_eval_memo.specs.Memos.{path_in}
-
--- sizes of stacks
-pub values_size : (trees : List Tree) (xs : List Value) → size_of (values_in trees xs) ≡ length xs
-values_size trees [] = refl
-values_size trees (x ∷ xs) = ap suc (values_size trees xs)
-
-pushed_length : (us : Values) (base : List t.Value) → length (pushed us base) ≡ size_of us + length base
-pushed_length empty base = omega arith
-pushed_length (more u us) base = let h = pushed_length us (u ∷ base) in omega (arith, h)
-
-pub stack_length : (trees : List Tree) (xs : List Value) → length (stack_of trees xs) ≡ length xs
-stack_length trees xs = let h = pushed_length (values_in trees xs) [] in let g = values_size trees xs in omega (arith, h, g)
-
-split : {X : Type 0} (k : ℕ) (xs : List X) → take k xs ++ drop k xs ≡ xs
-split zero [] = refl
-split (suc k) [] = refl
-split zero (x ∷ xs) = refl
-split (suc k) (x ∷ xs) = ap (λ l. x ∷ l) (split k xs)
-
-module _ (a : AttributionParts) (operations : Operations) (trees : List Tree) where
-  -- what is on top and what is below, where kinds of a list are on top
-  pub record IsPopped (values : List Value) (n : ℕ) (ks base : List Kind) : Type 0 where
-    pub front : List Value
-    pub args : List Value
-    pub whole : front ++ args ≡ values
-    pub count : length args ≡ n
-    pub front_inside : All (IsIn (length trees)) front
-    pub args_inside : All (IsIn (length trees)) args
-    pub args_fit : FitAll a.signatures (values_in trees args) ks
-    pub front_fit : ValuesFit a.signatures (stack_of trees front) base
-    pub stack_is : stack_of trees values ≡ pushed (values_in trees args) (stack_of trees front)
-
-  pub pop : (values : List Value) (n : ℕ) (ks base kinds : List Kind) → All (IsIn (length trees)) values
-      → ValuesFit a.signatures (stack_of trees values) kinds → kinds ≡ more_kinds ks base → length ks ≡ n → IsPopped values n ks base
-  pop values n ks base kinds inside fit kinds_are len =
-      let k = length values - n in
-      let whole = split k values in
-      let lens = fit_length a.signatures (stack_of trees values) kinds fit in
-      let kl = kinds_length a.signatures ks base in
-      let sl = stack_length trees values in
-      let ka = ap length kinds_are in
-      let enough : n ≤ length values = omega (arith, lens, kl, sl, ka, len) in
-      let dl : length (drop k values) ≡ length values - k = length-drop k values in
-      let count : length (drop k values) ≡ n = omega (arith, dl, enough) in
-      let ins = subst (All (IsIn (length trees))) (sym whole) inside in
-      let stack : stack_of trees values ≡ pushed (values_in trees (drop k values)) (stack_of trees (take k values)) =
-      ap (stack_of trees) (sym whole) ∙ stack_append trees (take k values) (drop k values) [] in
-      let fit' = subst (ValuesFit a.signatures (pushed (values_in trees (drop k values)) (stack_of trees (take k values)))) kinds_are
-      (subst (λ (l : List t.Value). ValuesFit a.signatures l kinds) stack fit) in
-      let vsz = values_size trees (drop k values) in
-      let (args_fit, front_fit) = fit_popped a.signatures ks base (values_in trees (drop k values)) (stack_of trees (take k values)) fit'
-      (omega (arith, vsz, count, len)) in
-      record {
-        front = take k values;
-        args = drop k values;
-        whole = whole;
-        count = count;
-        front_inside = all_left (IsIn (length trees)) (take k values) (drop k values) ins;
-        args_inside = all_right (IsIn (length trees)) (take k values) (drop k values) ins;
-        args_fit = args_fit;
-        front_fit = front_fit;
-        stack_is = stack;
-      }
-
--- the last values of all are those of the instance at work
-last_front : (values under own front args : List Value) (n : ℕ) → values ≡ under ++ own → front ++ args ≡ own → length args ≡ n
-    → take (length values - n) values ≡ under ++ front
-last_front values under own front args n are whole count =
-    let all : values ≡ (under ++ front) ++ args = are ∙ ap (λ l. under ++ l) (sym whole) ∙ sym (append_assoc under front args) in
-    let l = length-append (under ++ front) args in
-    let k = ap length all in
-    ap (take (length values - n)) all ∙ take_at (under ++ front) args (length values - n) (omega (arith, l, k, count))
-
-last_args : (values under own front args : List Value) (n : ℕ) → values ≡ under ++ own → front ++ args ≡ own → length args ≡ n
-    → (drop (length values - n) values ≡ args) × (n ≤ length values)
-last_args values under own front args n are whole count =
-    let all : values ≡ (under ++ front) ++ args = are ∙ ap (λ l. under ++ l) (sym whole) ∙ sym (append_assoc under front args) in
-    let l = length-append (under ++ front) args in
-    let k = ap length all in
-    (ap (drop (length values - n)) all ∙ drop_at (under ++ front) args (length values - n) (omega (arith, l, k, count)), omega (arith, l, k, count))
 
 module _ (a : AttributionParts) (operations : Operations) (trees : List Tree) (m : Machine) (site : ℕ) (way : Way)
     (code : List Instruction) (values : List Value) where

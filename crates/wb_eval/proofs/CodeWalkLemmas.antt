@@ -1,5 +1,6 @@
 -- What code of an expression is: the walk of the expression.
-use Rattle.std.proofs.Common.{◌≡◌, ◌∙◌, ◌+◌, ◌++◌, ℕ, zero, suc, List, [], ◌∷◌, Option, Some, inl, inr, length, refl, sym, ap, subst, arith, slice_get, drop}
+use Rattle.std.proofs.Common.{◌≡◌, ◌∙◌, ◌+◌, ◌++◌, ℕ, zero, suc, List, [], ◌∷◌, Some, length, refl, sym, ap, arith}
+use Rattle.std.proofs.Common.{drop}
 use Rattle.std.proofs.lemmas.List.{append_assoc}
 use mathlib.Core.Path.{fun_ext}
 use Rattle.wb_base.specs.Different.{Differ}
@@ -10,21 +11,17 @@ use Rattle.wb_syntax_expressions.specs.Expression.{size}
 use Rattle.wb_operations.specs.Operations.{OperationSignature, Operations, names_of}
 use Rattle.wb_syntax_resolved.specs.declared.attribution.AttributionParts.{AttributionParts}
 use Rattle.wb_syntax_resolved.specs.declared.production.Production.{Production}
-use Rattle.wb_syntax_resolved.specs.Expression.{Expression, Expressions, Node}
-use Rattle.wb_syntax_resolved.specs.Named.{IsNamedNode}
+use Rattle.wb_syntax_resolved.specs.Expression.{Expression, Expressions}
 use Rattle.wb_types.specs.Kinds.{HasKind, HaveKinds}
 use Rattle.wb_types.specs.Kinds as k
-use Rattle.wb_values.specs.Signature.{Signature}
 use Rattle.wb_values.specs.Tree.{node, Value, tree, Values, empty, more}
 use Rattle.wb_eval_rules.proofs.CodeLemmas.{length_code}
-use Rattle.wb_eval_rules.specs.Code.{visit, build, call, stay, Way, next, skip, unless, Instruction, does, count, number_in, or_zero}
-use Rattle.wb_eval_rules.specs.Code.{last_job, before_last, codes_of, code_of}
-use Rattle.wb_eval_theory.proofs.ExpressionLemmas.{IsIn as IsPart, IsInOne}
+use Rattle.wb_eval_rules.specs.Code.{build, call, stay, Way, next, skip, unless, Instruction, does, count, number_in, or_zero}
+use Rattle.wb_eval_rules.specs.Code.{before_last, codes_of, code_of}
 use Rattle.wb_eval_theory.specs.Instances.{Path}
 use Rattle.wb_eval_theory.specs.Walks.{Walk, branch, with_call, number_of, walk_expression, walk_expressions}
 use Rattle.wb_eval_rules.proofs.NumberLemmas.{number_is}
-use Rattle.wb_eval.specs.Inner.Fits.{more_kinds, WayFits, IsTyped, CodeFits}
-use Rattle.wb_eval.specs.Inner.Going.{popped, below, on_top, go, pushed, resume}
+use Rattle.wb_eval.specs.Inner.Going.{popped, below, go, pushed, resume}
 
 abbrev pub size_of : Values → ℕ
 size_of empty = zero
@@ -65,7 +62,8 @@ below_all us n values l =
 -- the code of a choice, and what is behind it
 pub code_apart : (signatures : List OperationSignature) (c h f : Expression) (way : Way) (code : List Instruction)
     → code_of signatures (x.If c h f) way ++ code
-    ≡ code_of signatures c (unless (size h)) ++ (code_of signatures h (skip (size f)) ++ (code_of signatures f next ++ does stay way ∷ code))
+    ≡ code_of signatures c (unless (size h)) ++
+    (code_of signatures h (skip (size f)) ++ (code_of signatures f next ++ does stay way ∷ code))
 unfolding before_last
 code_apart signatures c h f way code =
     let first = code_of signatures c (unless (size h)) in
@@ -125,7 +123,8 @@ module _ (operations : Operations) (q : Path) (vs : Values) where
         ≡ with_call operations (number_of operations.signatures name) us (On code way values)
     unfolding resume
     called_walk name i found n us way code values l =
-        ap (λ ws. with_call operations (Some (number_in operations.signatures name)) ws (λ v. go (At code) way v (below n (pushed us values))))
+        ap (λ ws. with_call operations (Some (number_in operations.signatures name)) ws
+        (λ v. go (At code) way v (below n (pushed us values))))
         (popped_all us n values l)
         ∙ ap (λ rest. with_call operations (Some (number_in operations.signatures name)) us (λ v. go (At code) way v rest))
         (below_all us n values l)

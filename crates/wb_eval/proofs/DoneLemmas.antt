@@ -214,20 +214,27 @@ module _ (a : AttributionParts) (operations : Operations) (trees : List Tree) (m
   pub from_form : (new : List Value) (after : Machine) (r : Option Key)
       → HasVisited a operations trees m after site (does (job_of u) way) way code new r
       → HasVisited a operations trees m after site (does (job_of t) way) way code new r
-  from_form new after r it = subst (λ (z : Task). HasVisited a operations trees m after site (does (job_of z) way) way code new r) (sym is) it
+  from_form new after r it = subst (λ (z : Task). HasVisited a operations trees m after site (does (job_of z) way) way code new r)
+      (sym is) it
 
 -- a label of a child or local, or the text of a child
 module _ (a : AttributionParts) (operations : Operations) (trees : List Tree) (m : Machine) (site : ℕ) (way : Way)
     (code : List Instruction) (old : List Value) (t : Task) (p : Place) where
   pub place_there : (t ≡ task.Label p) ⊎ (t ≡ task.Lexeme p) → IsEvaluating a operations trees m site (does (job_of t) way ∷ code) old
       → HasLabel trees m site p
-  place_there (inl is) ev = label_there a operations trees m site way code old old p (in_form a operations trees m site way code old t (task.Label p) is ev)
-  place_there (inr is) ev = lexeme_there a operations trees m site way code old old p (in_form a operations trees m site way code old t (task.Lexeme p) is ev)
+  place_there (inl is) ev = label_there a operations trees m site way code old old p
+      (in_form a operations trees m site way code old t (task.Label p) is ev)
+  place_there (inr is) ev = lexeme_there a operations trees m site way code old old p
+      (in_form a operations trees m site way code old t (task.Lexeme p) is ev)
 
   pub place_visited : (t ≡ task.Label p) ⊎ (t ≡ task.Lexeme p) → IsEvaluating a operations trees m site (does (job_of t) way ∷ code) old
       → (new : List Value) (after : Machine) (r : Option Key) → IsLabelVisited trees m after site p old new r
       → HasVisited a operations trees m after site (does (job_of t) way) way code new r
   place_visited (inl is) ev new after r it =
-      from_form a operations trees m site way code old t (task.Label p) is new after r (label_visited a operations trees m site way code old new p (in_form a operations trees m site way code old t (task.Label p) is ev) after r it)
+      from_form a operations trees m site way code old t (task.Label p) is new after r
+      (label_visited a operations trees m site way code old new p
+      (in_form a operations trees m site way code old t (task.Label p) is ev) after r it)
   place_visited (inr is) ev new after r it =
-      from_form a operations trees m site way code old t (task.Lexeme p) is new after r (lexeme_visited a operations trees m site way code old new p (in_form a operations trees m site way code old t (task.Lexeme p) is ev) after r it)
+      from_form a operations trees m site way code old t (task.Lexeme p) is new after r
+      (lexeme_visited a operations trees m site way code old new p
+      (in_form a operations trees m site way code old t (task.Lexeme p) is ev) after r it)

@@ -1,33 +1,32 @@
 -- A value that stays, where code goes on with a value, and the end of code.
-use Rattle.std.proofs.Common.{◌≡◌, ◌∙◌, ◌≤◌, ◌<◌, ◌+◌, ◌-◌, ◌++◌, ℕ, zero, suc, Bool, true, false, List, [], ◌∷◌, Option, Some, None, All, length}
-use Rattle.std.proofs.Common.{refl, sym, ap, subst, arith, slice_get, take, drop, append_assoc, append-nil, inl, inr, ◌⊎◌}
+use Rattle.std.proofs.Common.{◌≡◌, ◌∙◌, ◌<◌, ◌-◌, ◌++◌, ℕ, Bool, true, false, List, [], ◌∷◌, Some, All}
+use Rattle.std.proofs.Common.{length}
+use Rattle.std.proofs.Common.{refl, sym, ap, subst, arith, slice_get, take, drop, append_assoc}
 use Rattle.std.proofs.lemmas.List.{length-append, take_at}
 use Rattle.std.proofs.lemmas.List.Elements.{All-push}
-use Rattle.std.proofs.lemmas.Option.{same_Some, slice_get_within}
-use Rattle.wb_lemmas.proofs.Elements.{all_at, all_left, all_right, all_weaker}
-use Rattle.wb_lemmas.proofs.Places.{push_last, default_at}
-use Rattle.wb_flow_theory.specs.Modular.{IsProduction}
+use Rattle.std.proofs.lemmas.Option.{same_Some}
+use Rattle.wb_lemmas.proofs.Elements.{all_left, all_right}
+use Rattle.wb_lemmas.proofs.Places.{push_last}
 use Rattle.wb_base.specs.declared.symbol.Kind.{Kind}
 use Rattle.wb_base.specs.declared.symbol.Kind.TheVariants as kd
-use Rattle.wb_operations.specs.Operations.{OperationSignature, Operations, IsPlainSignature}
+use Rattle.wb_operations.specs.Operations.{Operations}
 use Rattle.wb_syntax_resolved.specs.declared.attribution.AttributionParts.{AttributionParts}
-use Rattle.wb_values.specs.declared.value.TreeId.{TreeId}
 use Rattle.wb_values.specs.declared.value.Value.{Value}
 use Rattle.wb_values.specs.declared.value.Value.TheVariants as stored
-use Rattle.wb_values.specs.Fits.{FitsValue, FitAll}
+use Rattle.wb_values.specs.Fits.{FitsValue}
 use Rattle.wb_values.specs.Signature.{Signature}
 use Rattle.wb_values.specs.Tree.{Plain, bool, Tree, node, plain, Values, empty, more, production_of, children_of}
 use Rattle.wb_values.specs.Tree as t
-use Rattle.wb_values.specs.ValuesIn.{tree_in, value_in, values_in, IsIn}
-use Rattle.wb_eval_rules.specs.Code.{build, call, stay, Way, next, skip, unless, Instruction, does}
+use Rattle.wb_values.specs.ValuesIn.{tree_in, value_in, IsIn}
+use Rattle.wb_eval_rules.specs.Code.{stay, Way, next, skip, unless, Instruction, does}
 use Rattle.wb_eval_theory.specs.Instances.{Path}
-use Rattle.wb_eval_theory.specs.Walks.{Walk, done, value, fault, branch, plains, with_given}
+use Rattle.wb_eval_theory.specs.Walks.{done, value, branch}
 use Rattle.wb_eval.proofs.CodeFitLemmas.{fits_drop}
-use Rattle.wb_eval.proofs.CodeWalkLemmas.{popped_all, below_all, size_of, resume_drop}
-use Rattle.wb_eval.proofs.CodeTaskLemmas.{stack_length}
-use Rattle.wb_eval.proofs.StackLemmas.{stack_push, stack_append, fit_length, kinds_length, fit_popped}
-use Rattle.wb_eval.specs.Inner.Fits.{stack_of, more_kinds, ValuesFit, WayFits, CodeFits}
-use Rattle.wb_eval.specs.Inner.Going.{popped, below, on_top, go, pushed, resume}
+use Rattle.wb_eval.proofs.CodeWalkLemmas.{resume_drop}
+use Rattle.wb_eval.proofs.PopLemmas.{stack_length}
+use Rattle.wb_eval.proofs.StackLemmas.{stack_push, fit_length}
+use Rattle.wb_eval.specs.Inner.Fits.{stack_of, ValuesFit, CodeFits}
+use Rattle.wb_eval.specs.Inner.Going.{on_top, go, resume}
 use Rattle.wb_eval.specs.Inner.Machines.{Runs}
 use Rattle.wb_eval.specs.Inner.Works.{IsEvaluating, IsGoing}
 use Rattle.wb_eval.specs.declared.machine.Machine.{Machine}

@@ -46,7 +46,8 @@ module _ {a : AttributionParts} {operations : Operations} {trees : List Tree} {u
       (subst (Wants a operations trees under m) (sym same) (alone_wanted k alone none))
 
   -- through the forwarded tree, whose site is there
-  module _ (site x : ℕ) (f : IsForwarding a operations trees under m site x) (after : Machine) (is : after ≡ with_memo m after.memo) (below : ℕ)
+  module _ (site x : ℕ) (f : IsForwarding a operations trees under m site x) (after : Machine) (is : after ≡ with_memo m after.memo)
+      (below : ℕ)
       (whole : IsWhole after.memo) (grown : IsGrown m.memo after.memo)
       (reached : IsReached trees m.memo after.memo site step.Forward below) where
     below_path : path_in after.memo below ≡ down (path_in m.memo site) (made forward)
@@ -59,7 +60,8 @@ module _ {a : AttributionParts} {operations : Operations} {trees : List Tree} {u
 
     forward_runs : Runs a operations trees under after forward_walk
     forward_runs =
-        let given : count m.memo < count after.memo → IsGiven a operations trees f.runs.machine.top (path_in m.memo site) step.Forward reached.0 =
+        let given : count m.memo < count after.memo
+        → IsGiven a operations trees f.runs.machine.top (path_in m.memo site) step.Forward reached.0 =
         λ fresh. record {
           child_node = λ other same. absurd (let h = sym (reached.1 fresh) ∙ same in cc h);
           child_has = λ k same. absurd (cc same);

@@ -11,7 +11,6 @@ use Rattle.wb_lemmas.proofs.Places.{at_push, append_keeps, append_before, push_l
 use Rattle.wb_flow_theory.specs.Modular.{IsProduction}
 use Rattle.wb_operations.specs.Operations.{Operations}
 use Rattle.wb_syntax_resolved.specs.declared.attribution.AttributionParts.{AttributionParts}
-use Rattle.wb_syntax_resolved.specs.Expression.{Expression}
 use Rattle.wb_values.specs.declared.value.TreeId.{TreeId}
 use Rattle.wb_values.specs.declared.value.Value.{Value}
 use Rattle.wb_values.specs.declared.value.Value.TheVariants as stored
@@ -165,8 +164,10 @@ module _ (a : AttributionParts) (operations : Operations) (trees : List Tree) (t
           let at_k : slice_get (keys ++ k ∷ []) (suc i) ≡ Some k = ap (slice_get (keys ++ k ∷ [])) next_is ∙ push_last keys k in
           let v_is : k ≡ v = same_Some k v (sym at_k ∙ next) in
           let (is_j, is_k, w) = its f same in
-          subst (λ z. IsKey m u × IsKey m z × IsSuspended a operations trees top attribute (all ++ x ∷ []) m (named m u) (named m z) f.site f.code f.values)
-          v_is (subst (λ z. IsKey m z × IsKey m k × IsSuspended a operations trees top attribute (all ++ x ∷ []) m (named m z) (named m k) f.site f.code
+          subst (λ z. IsKey m u × IsKey m z
+          × IsSuspended a operations trees top attribute (all ++ x ∷ []) m (named m u) (named m z) f.site f.code f.values)
+          v_is (subst (λ z. IsKey m z × IsKey m k
+          × IsSuspended a operations trees top attribute (all ++ x ∷ []) m (named m z) (named m k) f.site f.code
           f.values) u_is (is_j, is_k, entered_one m (named m j) (named m k) x f.site f.code f.values w))
       | inl before ↦
           let c = were.count in

@@ -125,7 +125,8 @@ module _ {a : AttributionParts} {operations : Operations} {trees : List Tree} {u
     -- the tree of a local or forward
     module _ (q : Path) (k : Made) (u : Tree) (p : Production) (this_is : r.this ≡ tree_at q k) (there : IsNodeAt a operations r.top q u)
         (is : IsProduction a (production_of u) p) where
-      tree_walk : (o : Option Expression) → rule_of p (tree_of k) ≡ o → Runs a operations trees under m (walk_made operations q (children_of u) o)
+      tree_walk : (o : Option Expression) → rule_of p (tree_of k) ≡ o
+          → Runs a operations trees under m (walk_made operations q (children_of u) o)
       unfolding walk_of
       tree_walk o rule =
           comes u (walk_made operations q (children_of u) o)

@@ -24,20 +24,22 @@ use Rattle.wb_eval_theory.specs.Instances.{Path, down, Instance, synthesized_at,
 use Rattle.wb_eval_theory.specs.Walks.{Walk, value, done}
 use Rattle.wb_eval.proofs.FrameLemmas.{set_here, set_there, waits_moved, waits_left}
 use Rattle.wb_eval.proofs.MachineLemmas.{leaves}
-use Rattle.wb_eval.proofs.StepLemmas.{key_here, last_key, named_less, this_value, memo_synthesized, memo_inherited, still_recalled, same_key}
+use Rattle.wb_eval.proofs.StepLemmas.{key_here, last_key, named_less, this_value, memo_synthesized, memo_inherited, still_recalled}
+use Rattle.wb_eval.proofs.StepLemmas.{same_key}
 use Rattle.wb_eval.proofs.StepLemmas.{same_named, paths, counts, tree_new}
 use Rattle.wb_eval.specs.Inner.Machines.{HasTree, tree_named, named, IsKey, AreNamed, IsRecalled, IsValueOf, IsNode, IsMachine, IsTree}
 use Rattle.wb_eval.specs.Inner.Machines.{IsKeptIn, AreSuspended}
 use Rattle.wb_eval.specs.Inner.Machines.{Runs}
-use Rattle.wb_eval_memo.specs.Memos.{count, path_in, numbered, recall, IsWhole}
+use Rattle.wb_eval_memo.specs.Memos.{count, path_in, recall, IsWhole}
 use Rattle.wb_eval_memo.specs.Sites.{path_at, paths_of, IsSites}
-use Rattle.wb_eval_rows.specs.Sparse.{number_at, IsForest}
+use Rattle.wb_eval_memo.specs.Slots.{slot_value, AreSlots}
 use Rattle.wb_eval.specs.Inner.Piles.{Wait, piled, AreWaits}
 use Rattle.wb_eval.specs.Inner.State.{IsState, HasCome}
 use Rattle.wb_eval.specs.declared.machine.Key.{Key}
 use Rattle.wb_eval.specs.declared.machine.Key.TheVariants as key
 use Rattle.wb_eval.specs.declared.machine.Machine.{Machine}
 use Rattle.wb_eval_memo.specs.declared.memo.Memo.{Memo}
+use Rattle.wb_eval_memo.specs.declared.slots.Slots.{Slots}
 
 -- as many instances as keys
 pub named_length : (m : Memo) (ks : List Key) (base is : List Instance) → AreNamed m ks base is → length is ≡ length ks + length base
@@ -88,14 +90,16 @@ module _ (a : AttributionParts) (operations : Operations) (trees : List Tree) {u
               this = j;
               waiting = js;
               state = subst (λ (y : ℕ). IsState a operations r.top y r.all j js) (sym attribute)
-                  (leaves a operations r.top m.attribute (subst (IsState a operations r.top m.attribute r.all r.this) is r.state) runs.come);
+                  (leaves a operations r.top m.attribute (subst (IsState a operations r.top m.attribute r.all r.this) is r.state)
+                  runs.come);
               counted = count_is ∙ r.counted;
               memo = kept.memo;
               complete = λ z has. elim (r.complete z has) [
-                | inl on_stack ↦ elim (contains_cases r.this z (j ∷ js) (subst (λ (w : List Instance). Contains (r.this ∷ w) z) is on_stack)) [
-                  | inl same ↦ inr (subst (IsRecalled new.memo) same kept.this_recalled)
-                  | inr later ↦ inl later
-                ]
+                | inl on_stack ↦ elim
+                    (contains_cases r.this z (j ∷ js) (subst (λ (w : List Instance). Contains (r.this ∷ w) z) is on_stack)) [
+                      | inl same ↦ inr (subst (IsRecalled new.memo) same kept.this_recalled)
+                      | inr later ↦ inl later
+                    ]
                 | inr recalled ↦ inr (kept.recalled z recalled)
               ];
               stack = subst (λ (ks : List Key). AreNamed new.memo ks [] (j ∷ js)) (sym new_stack)
@@ -109,7 +113,8 @@ module _ (a : AttributionParts) (operations : Operations) (trees : List Tree) {u
                   (waits_moved a operations trees r.top m.attribute r.all m.memo new.memo front waits
                   (waits_left a operations trees r.top m.attribute r.all m.memo front k waits wait
                   (subst (AreSuspended a operations trees r.top m.attribute r.all m.memo (front ++ k ∷ [])) waits_are
-                  (subst (λ (ks : List Key). AreSuspended a operations trees r.top m.attribute r.all m.memo ks r.waits) stack_is r.suspended)))
+                  (subst (λ (ks : List Key). AreSuspended a operations trees r.top m.attribute r.all m.memo ks r.waits) stack_is
+                  r.suspended)))
                   (let c = kept.counts in omega (arith, c)) (λ n le. kept.paths n) (λ n id le has. kept.trees_kept n id has) kept.keys
                   (λ c is. kept.names c)));
             } in (
@@ -174,8 +179,8 @@ module _ (a : AttributionParts) (operations : Operations) (trees : List Tree) {u
       tree_only made_one.nonterminal v made_one.fits
 
   -- the tree of a local or forward
-  module _ (new : Memo) (site : ℕ) (id : TreeId) (q : Path) (k : Made) (sites : new.sites ≡ m.memo.sites) (cells : new.cells ≡ m.memo.cells)
-      (values : new.values ≡ m.memo.values) (set : new.trees.items ≡ slice_set m.memo.trees.items site (Some id)) (le : site ≤ count m.memo)
+  module _ (new : Memo) (site : ℕ) (id : TreeId) (q : Path) (k : Made) (sites : new.sites ≡ m.memo.sites) (slots : new.slots ≡ m.memo.slots)
+      (set : new.trees.items ≡ slice_set m.memo.trees.items site (Some id)) (le : site ≤ count m.memo)
       (path : path_in m.memo site ≡ down q (made k)) (this_is : r.this ≡ tree_at q k) (v_is : v ≡ stored.Tree id) where
     same_path : (i : ℕ) → path_in new i ≡ path_in m.memo i
     same_path i = ap (λ s. path_at (paths_of s.origins.items) i) sites
@@ -184,8 +189,7 @@ module _ (a : AttributionParts) (operations : Operations) (trees : List Tree) {u
     same_count = ap (λ s. length s.origins.items) sites
 
     same_recall : (i y : ℕ) → recall new i y ≡ recall m.memo i y
-    same_recall i y =
-        ap (λ vs. numbered vs.items (number_at new.cells i y)) values ∙ ap (λ cs. numbered m.memo.values.items (number_at cs i y)) cells
+    same_recall i y = ap (λ (s : Slots). slot_value s i y) slots
 
     within : site < length m.memo.trees.items
     within = let t = r.memo.whole.trees in omega (arith, le, t)
@@ -220,10 +224,8 @@ module _ (a : AttributionParts) (operations : Operations) (trees : List Tree) {u
         whole = record {
           sites = subst IsSites (sym sites) r.memo.whole.sites;
           trees = ap length set ∙ length-set m.memo.trees.items site (Some id) ∙ r.memo.whole.trees ∙ ap suc (sym same_count);
-          cells = subst IsForest (sym cells) r.memo.whole.cells;
-          past = λ i y lt. ap (λ cs. number_at cs i y) cells ∙ r.memo.whole.past i y (omega (arith, lt, same_count));
-          numbers = λ i y n is. subst (λ vs. n < length vs.items) (sym values)
-              (r.memo.whole.numbers i y n (sym (ap (λ cs. number_at cs i y) cells) ∙ is));
+          slots = subst (AreSlots (suc (count new))) (sym slots)
+              (subst (λ (n : ℕ). AreSlots (suc n) m.memo.slots) (sym same_count) r.memo.whole.slots);
         };
         nodes = λ i other has. subst (λ (p : Path). IsNode a operations trees r.top p other) (sym (same_path i))
             (elim (tree_cases i other has) [

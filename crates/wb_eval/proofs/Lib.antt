@@ -4,11 +4,13 @@ pub mod CodeWalkLemmas
 pub mod CodeFitLemmas
 pub mod FrameLemmas
 pub mod RunLemmas
+pub mod StoreLemmas
 pub mod StackLemmas
 pub mod VisitLemmas
 pub mod BelowLemmas
 pub mod DoneLemmas
 pub mod SteadyLemmas
+pub mod PopLemmas
 pub mod CodeTaskLemmas
 pub mod FollowLemmas
 pub mod PlainLemmas

@@ -1,5 +1,5 @@
 -- What evaluation with a stack and a memo keeps, and that it counts exactly.
-use Rattle.std.proofs.Common.{◌≡◌, ◌∙◌, ◌⊎◌, ◌<◌, ◌≤◌, ◌++◌, inl, inr, ℕ, zero, suc, List, [], ◌∷◌, length, refl, sym, subst, ap, arith}
+use Rattle.std.proofs.Common.{◌≡◌, ◌∙◌, ◌⊎◌, ◌<◌, ◌≤◌, ◌++◌, inl, inr, ℕ, List, [], ◌∷◌, length, refl, sym, subst, arith}
 use Rattle.std.proofs.Common.{Contains}
 use Rattle.std.proofs.Common.{slice_get, Some, length-append, get_or}
 use Rattle.std.proofs.lemmas.List.{get_or_default}

@@ -1,6 +1,7 @@
 -- An instruction that was done, and code that goes on or stops.
-use Rattle.std.proofs.Common.{◌≡◌, ◌∙◌, ◌≤◌, ◌<◌, ◌+◌, ◌-◌, ◌^◌, ◌++◌, ◌∷◌, [], ℕ, zero, suc, inl, inr, true, false, Bool, List, Option, Some, None, length}
-use Rattle.std.proofs.Common.{take, drop, map, slice_get, get_or, All, refl, sym, ap, subst, arith, ◌⊎◌}
+use Rattle.std.proofs.Common.{◌≡◌, ◌∙◌, ◌≤◌, ◌<◌, ◌+◌, ◌-◌, ◌^◌, ◌++◌, ◌∷◌, [], ℕ, zero, suc, inl, inr, List, Option}
+use Rattle.std.proofs.Common.{Some, None, length}
+use Rattle.std.proofs.Common.{take, drop, slice_get, get_or, All, refl, sym, ap, subst, arith}
 use Rattle.std.proofs.lemmas.List.{length-map}
 use Rattle.wb_operations.specs.Given.{FitKinds, plains_of}
 use Rattle.wb_operations.specs.Operations.{OperationSignature, Operations}
@@ -28,7 +29,6 @@ use Rattle.wb_eval.specs.declared.context.Expression.{Expression}
 use Rattle.wb_eval.specs.declared.machine.Key.{Key}
 use Rattle.wb_eval.specs.declared.machine.Machine.{Machine}
 use Rattle.wb_eval.specs.declared.ran.Ran.{Ran}
-use Rattle.wb_eval.specs.declared.ran.Ran.TheVariants as ran
 use Rattle.wb_eval.specs.declared.ran.Stop.{Stop}
 use Rattle.wb_eval.specs.declared.ran.Stop.TheVariants as stop
 
@@ -68,7 +68,11 @@ module _ {a : AttributionParts} {operations : Operations} {trees : List Tree} {m
       let ev' = as_form (task.Call i n) is in
       let runs = call_failed a operations trees m site way code old i n code_of_fault ev' (given_fault _ code_of_fault gave) in (
         same_machine m,
-        record { under = ev'.under; runs = subst (λ (z : ℕ). Runs a operations trees ev'.under m (done (fault z code_of_fault))) (sym same) runs },
+        record {
+          under = ev'.under;
+          runs = subst (λ (z : ℕ). Runs a operations trees ev'.under m (done (fault z code_of_fault)))
+              (sym same) runs;
+        },
       )
   call_done i n is new (Some (stop.Needs key)) never = absurd never
 
@@ -76,13 +80,15 @@ module _ {a : AttributionParts} {operations : Operations} {trees : List Tree} {m
   stay_done is = (same_machine m, stayed a operations trees m site way code old (as_form task.Stay is))
 
 -- a visit that is done, or for which code stops
-pub visit_none : {a : AttributionParts} {operations : Operations} {trees : List Tree} (m new : Machine) (site : ℕ) (i : Instruction) (way : Way)
+pub visit_none : {a : AttributionParts} {operations : Operations} {trees : List Tree} (m new : Machine) (site : ℕ) (i : Instruction)
+    (way : Way)
     (code : List Instruction) (values : List Value) (r : Option Key) → r ≡ None
     → HasVisited a operations trees m new site i way code values r → HasDone a operations trees m new site i way code values None
 visit_none {a} {operations} {trees} m new site i way code values r is it =
     subst (HasVisited a operations trees m new site i way code values) is it
 
-pub visit_some : {a : AttributionParts} {operations : Operations} {trees : List Tree} (m new : Machine) (site : ℕ) (i : Instruction) (way : Way)
+pub visit_some : {a : AttributionParts} {operations : Operations} {trees : List Tree} (m new : Machine) (site : ℕ) (i : Instruction)
+    (way : Way)
     (code : List Instruction) (values : List Value) (r : Option Key) (k : Key) → r ≡ Some k
     → HasVisited a operations trees m new site i way code values r
     → HasDone a operations trees m new site i way code values (Some (stop.Needs k))
@@ -179,7 +185,8 @@ less_left (after.Unless k) old new at result n (taken, inr (truth, inl is)) lt s
 less_left (after.Unless k) old new at result n (taken, inr (truth, inr (first, second))) lt short = omega (arith, first, lt, short)
 
 -- a frame's code goes on behind its read
-pub going_here : {a : AttributionParts} {operations : Operations} {trees : List Tree} {m : Machine} (f : Frame) (values : List Value) (op : Op)
+pub going_here : {a : AttributionParts} {operations : Operations} {trees : List Tree} {m : Machine} (f : Frame) (values : List Value)
+    (op : Op)
     → GoesOnAt a operations trees m values f → op ≡ get_or f.code.now f.at op
     → IsGoing a operations trees m f.site (way_of op.after) (drop (f.at + 1) (instructions f.code.now)) values
 going_here {a} {operations} {trees} {m} f values op g is =

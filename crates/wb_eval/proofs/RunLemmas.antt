@@ -1,9 +1,8 @@
 -- What an evaluation keeps as sites and trees are added, and what its memo says of what is read.
-use Rattle.std.proofs.Common.{◌≡◌, ◌∙◌, ◌≤◌, ◌<◌, ◌++◌, inl, inr, ℕ, zero, suc, List, [], ◌∷◌, Option, Some, None, length, refl, sym, ap}
+use Rattle.std.proofs.Common.{◌≡◌, ◌∙◌, ◌≤◌, ◌<◌, inl, inr, ℕ, List, [], ◌∷◌, Option, Some, None, length, refl, sym, ap}
 use Rattle.std.proofs.Common.{subst, arith}
-use Rattle.std.proofs.Common.{slice_get, length-append, Contains, get_or}
+use Rattle.std.proofs.Common.{slice_get, Contains}
 use Rattle.std.proofs.lemmas.Bool.{cases_lt}
-use Rattle.std.proofs.lemmas.List.{get_or_append_left}
 use Rattle.std.proofs.lemmas.Option.{slice_get_within, same_Some}
 use Rattle.wb_lemmas.proofs.Members.{contains_first}
 use Rattle.wb_flow_theory.specs.Occurrences.{Goes}
@@ -25,12 +24,13 @@ use Rattle.wb_eval_theory.specs.Answers.{IsNodeAt, at_made, HasAnswer}
 use Rattle.wb_eval_theory.specs.Instances.{Path, root, down, Instance, synthesized_at, inherited_at, tree_at}
 use Rattle.wb_eval_theory.specs.Needed.{next}
 use Rattle.wb_eval_theory.specs.Walks.{value, Walk, read}
-use Rattle.wb_eval.proofs.FrameLemmas.{waits_moved, more_waits}
+use Rattle.wb_eval.proofs.FrameLemmas.{waits_moved}
 use Rattle.wb_eval.proofs.MachineLemmas.{never_waiting, goes_on, reads_here}
+use Rattle.wb_eval_memo.proofs.MemoLemmas.{nothing_past}
 use Rattle.wb_eval_memo.proofs.SitesLemmas.{one_site}
 use Rattle.wb_eval.specs.Inner.Machines.{HasTree, tree_named, named, IsKey, AreNamed, tree_value, known, IsRecalled, IsValueOf, IsNode}
-use Rattle.wb_eval.specs.Inner.Machines.{IsMemo, IsMachine, Runs, with_memo}
-use Rattle.wb_eval_memo.specs.Memos.{count, path_in, numbered, recall, IsWhole, IsGrown, IsBelow}
+use Rattle.wb_eval.specs.Inner.Machines.{IsMemo, Runs, with_memo}
+use Rattle.wb_eval_memo.specs.Memos.{count, path_in, recall, IsWhole, IsGrown, IsBelow}
 use Rattle.wb_eval_memo.specs.Sites.{step_of}
 use Rattle.wb_eval.specs.declared.machine.Key.{Key}
 use Rattle.wb_eval.specs.declared.machine.Key.TheVariants as key
@@ -40,7 +40,7 @@ use Rattle.wb_eval_memo.specs.declared.sites.Step.{Step}
 
 -- nothing is known of a site that isn't there
 none_past : (m : Memo) (i x : ℕ) → IsWhole m → count m < i → recall m i x ≡ None
-none_past m i x whole lt = ap (numbered m.values.items) (whole.past i x lt)
+none_past = nothing_past
 
 module _ (a : AttributionParts) (operations : Operations) (trees : List Tree) where
   abbrev pub Runs_ : List Value → Machine → Walk → Type 0
@@ -153,7 +153,8 @@ module _ (a : AttributionParts) (operations : Operations) (trees : List Tree) wh
     )
 
   -- a machine whose memo has grown
-  pub grown_runs : {under : List Value} (m : Machine) (w : Walk) (new : Memo) (parent site : ℕ) (step : Step) (its_tree : Option TreeId) (runs : Runs_ under m w)
+  pub grown_runs : {under : List Value} (m : Machine) (w : Walk) (new : Memo) (parent site : ℕ) (step : Step) (its_tree : Option TreeId)
+      (runs : Runs_ under m w)
       → IsWhole new → IsGrown m.memo new → IsBelow m.memo new parent step its_tree site → parent ≤ count m.memo
       → (id : TreeId) × HasTree m.memo parent id
       → (count m.memo < count new → IsGiven runs.machine.top (path_in m.memo parent) step its_tree)
@@ -183,7 +184,8 @@ module _ (a : AttributionParts) (operations : Operations) (trees : List Tree) wh
           waits = r.waits;
           frames = r.frames;
           piled_is = r.piled_is;
-          suspended = waits_moved a operations trees r.top m.attribute r.all m.memo new m.stack.items r.waits r.suspended grown.more grown.paths
+          suspended = waits_moved a operations trees r.top m.attribute r.all m.memo new m.stack.items r.waits r.suspended grown.more
+              grown.paths
               (λ i id le had. (id, grown.trees i le ∙ had, refl))
               (grown_key m.memo new parent site step its_tree r.top r.all r.memo whole grown below there has given)
               (grown_named m.memo new parent site step its_tree r.top r.all r.memo whole grown below there has given);
@@ -218,7 +220,8 @@ module _ (a : AttributionParts) (operations : Operations) (trees : List Tree) wh
   tree_id (Some None) v is = absurd (cc is)
   tree_id (Some (Some id)) v is = (id, refl, cc is)
 
-  pub value_known : {under : List Value} (m : Machine) (k : Key) (v : Value) (rest : t.Value → Walk) (runs : Runs_ under m (read (named m.memo k) rest)) → IsKey m.memo k
+  pub value_known : {under : List Value} (m : Machine) (k : Key) (v : Value) (rest : t.Value → Walk)
+      (runs : Runs_ under m (read (named m.memo k) rest)) → IsKey m.memo k
       → known m.memo k ≡ Some v → IsValueOf a operations trees runs.machine.top runs.machine.all (named m.memo k) v
   value_known m (key.Synthesized i x) v rest runs le is =
       let there = reads_there m (named m.memo (key.Synthesized i x)) rest runs in
@@ -240,7 +243,8 @@ module _ (a : AttributionParts) (operations : Operations) (trees : List Tree) wh
       }))
 
   -- a value that is known is read
-  pub runs_on : {under : List Value} (m : Machine) (k : Key) (v : Value) (rest : t.Value → Walk) → Runs_ under m (read (named m.memo k) rest) → IsKey m.memo k
+  pub runs_on : {under : List Value} (m : Machine) (k : Key) (v : Value) (rest : t.Value → Walk)
+      → Runs_ under m (read (named m.memo k) rest) → IsKey m.memo k
       → known m.memo k ≡ Some v → Runs_ under m (rest (value_in trees v)) × IsIn (length trees) v
   runs_on m k v rest runs is_key is =
       let has = value_known m k v rest runs is_key is in (
@@ -265,7 +269,8 @@ module _ (a : AttributionParts) (operations : Operations) (trees : List Tree) wh
             let g = sym none ∙ h in cc g
 
   -- what isn't known wasn't entered
-  pub not_entered : {under : List Value} (m : Machine) (k : Key) (rest : t.Value → Walk) (runs : Runs_ under m (read (named m.memo k) rest)) → IsKey m.memo k
+  pub not_entered : {under : List Value} (m : Machine) (k : Key) (rest : t.Value → Walk) (runs : Runs_ under m (read (named m.memo k) rest))
+      → IsKey m.memo k
       → known m.memo k ≡ None → ¬ Contains runs.machine.all (named m.memo k)
   not_entered m k rest runs is_key none has =
       let r = runs.machine in
@@ -273,69 +278,3 @@ module _ (a : AttributionParts) (operations : Operations) (trees : List Tree) wh
         | inl waits ↦ never_waiting a operations r.top m.attribute r.evaluable r.asked r.state runs.come waits
         | inr recalled ↦ not_recalled m.memo k r.memo.whole is_key none recalled
       ]
-
-  -- nothing that is needed lacks a definition
-  pub value_more : (more : List Tree) (v : Value) → IsIn (length trees) v → value_in (trees ++ more) v ≡ value_in trees v
-  value_more more (stored.Int z) inside = refl
-  value_more more (stored.Bool b) inside = refl
-  value_more more (stored.Text t) inside = refl
-  value_more more (stored.Tree id) inside = ap tree (get_or_append_left trees more (node 0 empty) id.0 inside)
-
-  pub still_in : (more : List Tree) (v : Value) → IsIn (length trees) v → IsIn (length (trees ++ more)) v
-  still_in more (stored.Int z) inside = tt
-  still_in more (stored.Bool b) inside = tt
-  still_in more (stored.Text t) inside = tt
-  still_in more (stored.Tree id) inside = let l = length-append trees more in omega (arith, l, inside)
-
-  -- trees are added to the store
-  module _ (more : List Tree) where
-    pub more_node : (top : Tree) (q : Path) (id : TreeId) → IsNode a operations trees top q id
-        → IsNode a operations (trees ++ more) top q id
-    more_node top q id n = record {
-      inside = let l = length-append trees more in let i = n.inside in omega (arith, l, i);
-      is_node = subst (IsNodeAt a operations top q) (sym (get_or_append_left trees more (node 0 empty) id.0 n.inside)) n.is_node;
-    }
-
-    pub more_value : (top : Tree) (all : List Instance) (i : Instance) (v : Value) → IsValueOf a operations trees top all i v
-        → IsValueOf a operations (trees ++ more) top all i v
-    more_value top all i v h = record {
-      answers = subst (λ (z : Rattle.wb_values.specs.Tree.Value). HasAnswer a operations top i (value z))
-          (sym (value_more more v h.inside)) h.answers;
-      inside = still_in more v h.inside;
-      entered = h.entered;
-    }
-
-    abbrev pub more_machine : (under : List Value) (m : Machine) → IsMachine a operations trees under m → IsMachine a operations (trees ++ more) under m
-    more_machine under m r = record {
-      top = r.top;
-      root_inside = let l = length-append trees more in let i = r.root_inside in omega (arith, l, i);
-      root_is = get_or_append_left trees more (node 0 empty) m.root.0 r.root_inside ∙ r.root_is;
-      evaluable = r.evaluable;
-      asked = r.asked;
-      all = r.all;
-      this = r.this;
-      waiting = r.waiting;
-      state = r.state;
-      counted = r.counted;
-      memo = record {
-        whole = r.memo.whole;
-        nodes = λ i id has. more_node r.top (path_in m.memo i) id (r.memo.nodes i id has);
-        made_trees = r.memo.made_trees;
-        child_trees = r.memo.child_trees;
-        root_tree = r.memo.root_tree;
-        parents = r.memo.parents;
-        synthesized = λ i x v le goes has. more_value r.top r.all (synthesized_at (path_in m.memo i) x) v
-            (r.memo.synthesized i x v le goes has);
-        inherited = λ i x v le goes has. more_value r.top r.all (inherited_at (path_in m.memo i) x) v (r.memo.inherited i x v le goes has);
-      };
-      complete = r.complete;
-      stack = r.stack;
-      waits = r.waits;
-      frames = r.frames;
-      piled_is = r.piled_is;
-      suspended = more_waits a operations trees r.top m.attribute r.all more m.memo m.stack.items r.waits r.suspended
-          (λ i id has. (r.memo.nodes i id has).inside);
-    }
-
-    pub more_runs : (under : List Value) (m : Machine) (w : Walk) → Runs_ under m w → Runs a operations (trees ++ more) under m w
-    more_runs under m w runs = record { machine = more_machine under m runs.machine; come = runs.come }

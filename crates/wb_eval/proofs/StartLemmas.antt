@@ -2,13 +2,12 @@
 use Rattle.std.proofs.Common.{subst, ◌≡◌, ◌≢◌, ◌∙◌, ◌≤◌, ◌<◌, ◌-◌, ℕ, List, [], ◌∷◌, Option, Some, None, length, refl, sym, ap, arith}
 use Rattle.std.proofs.Common.{slice_get, append-nil, ◌++◌}
 use Rattle.std.proofs.Common.{get_or}
-use Rattle.wb_flow_theory.specs.Rules.{IsRule, HasRule}
+use Rattle.wb_flow_theory.specs.Rules.{HasRule}
 use Rattle.wb_flow_theory.specs.Vertices.{Made, child, made, local, forward, top_synthesized, inherited, tree_of}
 use Rattle.wb_operations.specs.Operations.{Operations}
 use Rattle.wb_syntax_resolved.specs.declared.attribution.AttributionParts.{AttributionParts}
 use Rattle.wb_syntax_resolved.specs.declared.production.Production.{Production}
-use Rattle.wb_syntax_resolved.specs.Expression.{Node}
-use Rattle.wb_eval_rules.specs.Code.{Instruction, next, instructions, IsCodeOf, code_of}
+use Rattle.wb_eval_rules.specs.Code.{Instruction, next, instructions, code_of}
 use Rattle.wb_eval_rules.specs.Codes.{HasCode}
 use Rattle.wb_eval_rules.specs.declared.code.Op.{Op}
 use Rattle.wb_values.specs.declared.value.TreeId.{TreeId}
@@ -28,7 +27,7 @@ use Rattle.wb_eval.specs.Inner.Starts.{HasProduction, IsProductionAt, IsAtWork, 
 use Rattle.wb_eval.specs.Inner.Starts.{made_by}
 use Rattle.wb_eval.proofs.CodeWalkLemmas.{code_walk}
 use Rattle.wb_eval.proofs.CodeFitLemmas.{code_fits}
-use Rattle.wb_eval.specs.Inner.Fits.{stack_of, CodeFits}
+use Rattle.wb_eval.specs.Inner.Fits.{CodeFits}
 use Rattle.wb_eval.specs.Inner.Going.{resume}
 use Rattle.wb_eval.specs.Inner.Works.{IsEvaluating}
 use Rattle.wb_eval.specs.declared.machine.Key.{Key}
@@ -71,7 +70,8 @@ module _ {a : AttributionParts} {operations : Operations} {trees : List Tree} {u
           → HasCode operations.signatures p (inherited (step_of o.step) x) code
           → IsStarting a operations trees under m o.parent (instructions code)
       inherited_starting p code (id, has, is) has_code =
-          let (e, rule_is, nodes_are) = rule_expression w.machine (production_of (tree_in trees id.0)) p _ has_code.nodes is has_code.rule in
+          let (e, rule_is, nodes_are) = rule_expression w.machine (production_of (tree_in trees id.0)) p _ has_code.nodes is has_code.rule
+          in
           record {
             id = id;
             has = has;
@@ -122,7 +122,8 @@ module _ {a : AttributionParts} {operations : Operations} {trees : List Tree} {u
       tree_starting k p code step_is (id, has, is) has_code =
           let (c, way, this_is, f) = tree_from in
           let k_is : c ≡ k = let h = sym way ∙ step_is in cc h in
-          let (e, rule_is, nodes_are) = rule_expression w.machine (production_of (tree_in trees id.0)) p _ has_code.nodes is has_code.rule in
+          let (e, rule_is, nodes_are) = rule_expression w.machine (production_of (tree_in trees id.0)) p _ has_code.nodes is has_code.rule
+          in
           record {
             id = id;
             has = has;
@@ -240,7 +241,8 @@ module _ {a : AttributionParts} {operations : Operations} {trees : List Tree} {u
             (subst (Runs a operations trees under m) (sym walk) start.runs);
       }
 
-module _ {a : AttributionParts} {operations : Operations} {trees : List Tree} {under : List Value} {m : Machine} (r : IsMachine a operations trees under m) where
+module _ {a : AttributionParts} {operations : Operations} {trees : List Tree} {under : List Value} {m : Machine}
+    (r : IsMachine a operations trees under m) where
   -- there is an instance at work, and it is that of the last key
   pub stack_some : 1 ≤ length m.stack.items
   stack_some = let h = named_length m.memo m.stack.items [] (r.this ∷ r.waiting) r.stack in omega (arith, h)

@@ -20,7 +20,7 @@ use Rattle.wb_eval_theory.proofs.ReadLemmas.{IsThere}
 use Rattle.wb_eval_theory.specs.Evaluable.{IsAsked}
 use Rattle.wb_eval_theory.specs.Instances.{Path, Instance, synthesized_at, inherited_at, tree_at}
 use Rattle.wb_eval_theory.specs.Walks.{value, done}
-use Rattle.wb_eval.proofs.FrameLemmas.{waits_entered, frames_more, frames_length, piled_more, piled_none}
+use Rattle.wb_eval.proofs.FrameLemmas.{waits_entered, frames_more, piled_more, piled_none}
 use Rattle.wb_eval.proofs.MachineLemmas.{enters, answers_here}
 use Rattle.wb_eval.proofs.RunLemmas.{goes_synthesized, goes_inherited}
 use Rattle.wb_eval.specs.Inner.Machines.{HasTree, tree_named, named, IsKey, AreNamed, IsRecalled, IsValueOf, IsNode, IsMemo, IsMachine}

@@ -1,2 +1,3 @@
 pub mod SitesLemmas
+pub mod SlotLemmas
 pub mod MemoLemmas

@@ -61,7 +61,8 @@ added old new parent s is there fresh pushed set kept found =
         | inl (e, f) ↦
             let h : link new i t ≡ suc (length xs) = ap (λ (z : ℕ). link new z t) e ∙ ap (link new parent) f ∙ set in
             let k_is : length xs ≡ k = let g = sym h ∙ linked in omega (arith, g) in
-            ap (λ (l : List Origin). slice_get l k) pushed ∙ subst (λ (z : ℕ). slice_get (xs ++ origin parent s ∷ []) z ≡ Some (origin parent s)) k_is last
+            ap (λ (l : List Origin). slice_get l k) pushed
+            ∙ subst (λ (z : ℕ). slice_get (xs ++ origin parent s ∷ []) z ≡ Some (origin parent s)) k_is last
             ∙ ap Some (ap (λ (z : ℕ). origin z s) (sym e) ∙ ap (origin i) (sym f))
         | inr other ↦
             ap (λ (l : List Origin). slice_get l k) pushed
@@ -102,7 +103,8 @@ paths_length paths (p ∷ origins) =
     let r = paths_length (paths ++ x ∷ []) origins in
     omega (arith, l, r)
 
-paths_prefix : (paths : List Path) (origins : List Origin) (i : ℕ) → i < length paths → path_at (paths_from paths origins) i ≡ path_at paths i
+paths_prefix : (paths : List Path) (origins : List Origin) (i : ℕ) → i < length paths
+    → path_at (paths_from paths origins) i ≡ path_at paths i
 unfolding paths_from
 paths_prefix paths [] i lt = refl
 paths_prefix paths (p ∷ origins) i lt =
@@ -120,10 +122,12 @@ path_from paths (p ∷ origins) zero o at lt =
     let l = length-append paths (x ∷ []) in
     let e : length paths + 0 ≡ length paths = omega arith in
     let up : path_at (paths_from (paths ++ x ∷ []) origins) o.parent ≡ path_at paths o.parent =
-    paths_prefix (paths ++ x ∷ []) origins o.parent (omega (arith, l, lt)) ∙ get_or_append_left paths (x ∷ []) root o.parent (omega (arith, lt)) in
+    paths_prefix (paths ++ x ∷ []) origins o.parent (omega (arith, l, lt))
+    ∙ get_or_append_left paths (x ∷ []) root o.parent (omega (arith, lt)) in
     ap (path_at (paths_from (paths ++ x ∷ []) origins)) e
     ∙ paths_prefix (paths ++ x ∷ []) origins (length paths) (omega (arith, l))
-    ∙ (let h = push_last paths x in let g : get_or (paths ++ x ∷ []) (length paths) root ≡ x = default_at (paths ++ x ∷ []) (length paths) root x h in g)
+    ∙ (let h = push_last paths x in
+    let g : get_or (paths ++ x ∷ []) (length paths) root ≡ x = default_at (paths ++ x ∷ []) (length paths) root x h in g)
     ∙ ap (λ (z : Origin). down (path_at paths z.parent) (step_of z.step)) same
     ∙ ap (λ (q : Path). down q (step_of o.step)) (sym up)
 path_from paths (p ∷ origins) (suc k) o at lt =

@@ -1,2 +1,3 @@
 -- Words of private functions.
 pub mod Steps
+pub mod Cells

@@ -3,8 +3,12 @@
 //! All is found by number in constant time. How values are found out is in `wb_eval`.
 #![tactic(auto)]
 
+mod cell;
 mod memo;
 mod sites;
+mod slots;
 
+pub use cell::Cell;
 pub use memo::Memo;
 pub use sites::{Origin, Sites, Step};
+pub use slots::Slots;

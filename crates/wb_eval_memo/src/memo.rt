@@ -6,10 +6,11 @@ ghost use Rattle.std.specs.Prelude.{◌≡◌, ◌≢◌, ◌⊎◌, ◌≤◌, 
 ghost use Rattle.wb_values.specs.declared.value.TreeId.{TreeId};
 ghost use Rattle.wb_eval_memo.specs.Sites.{link, step_of, path_at, paths_of};
 ghost use Rattle.wb_eval_memo.specs.Memos.{recall, IsWhole, IsGrown, IsBelow};
+ghost use Rattle.wb_eval_memo.specs.Slots.{slot_value, AreSlots};
 
 use crate::sites::{Sites, Step};
+use crate::slots::Slots;
 use std::alloc::{AllocError, Global};
-use wb_eval_rows::SparseRows;
 use wb_values::{TreeId, Value};
 
 /// The sites, their trees and the values of their attributes, as far as they are known.
@@ -18,27 +19,24 @@ pub struct Memo {
     pub sites: Sites,
     /// The tree of each site, where it is known.
     pub trees: Vec<Option<TreeId>>,
-    /// The numbers of values from 1 on, by site and attribute.
-    pub cells: SparseRows,
-    /// The values.
-    pub values: Vec<Value>,
+    /// The values of attributes.
+    pub slots: Slots,
 }
 
 impl Memo {
-    /// The root alone, with its tree. A site with values has room for so many at least.
+    /// The root alone, with its tree. Each site has room for the values of the first attributes, so many of them.
     pub fn new(alloc: Global, root: TreeId, room: usize) -> Result<Memo, AllocError>
         ensures whole { IfOk result IsWhole }
         ensures origins { IfOk result (λ made. made.sites.origins.items ≡ []) }
         ensures trees { IfOk result (λ made. made.trees.items ≡ Some root ∷ []) }
-        ensures values { IfOk result (λ made. made.values.items ≡ []) }
+        ensures values { IfOk result (λ made. (site attribute : ℕ) → recall made site attribute ≡ None) }
     {
-        let mut trees = Vec::new(alloc);
-        push_tree(&mut trees, Some(root))?;
+        let slots = root_slots(alloc, room)?;
+        let trees = root_trees(alloc, root)?;
         Ok(Memo {
             sites: Sites::new(alloc),
             trees,
-            cells: SparseRows::new(alloc, room),
-            values: Vec::new(alloc),
+            slots,
         })
     }
 
@@ -52,12 +50,11 @@ impl Memo {
         requires { IsWhole self.now }
         ensures { IfOk result (λ found. found ≡ recall self.now site attribute) }
     {
-        let number = self.cells.get(site, attribute);
-        if number == 0 {
-            return Ok(None);
+        if site < self.trees.len() {
+            self.slots.get(site, attribute)
+        } else {
+            Ok(None)
         }
-        let value = self.values[number - 1].copy()?;
-        Ok(Some(value))
     }
 
     /// Keeps the value of an attribute.
@@ -75,11 +72,7 @@ impl Memo {
         ensures set { OnOk result (recall self.new site attribute ≡ Some value) }
         ensures kept { OnOk result ((i other : ℕ) → (i ≢ site) ⊎ (other ≢ attribute) → recall self.new i other ≡ recall self.old i other) }
     {
-        self.values.reserve(1)?;
-        let number = self.values.len() + 1;
-        self.cells.put(site, attribute, number)?;
-        self.values.push_reserved(value);
-        Ok(())
+        self.slots.set(site, attribute, value)
     }
 
     /// The site one step down from another, or 0 where it isn't there.
@@ -106,6 +99,7 @@ impl Memo {
         ensures site { IfOk result (λ site. IsBelow self.old self.new parent step tree site) }
     {
         self.trees.reserve(1)?;
+        self.slots.add_site()?;
         let site = self.sites.add(parent, step)?;
         self.trees.push_reserved(tree);
         Ok(site)
@@ -117,20 +111,30 @@ impl Drop for Memo {
         let Memo {
             sites,
             trees,
-            cells: _,
-            values,
+            slots,
         } = self;
         drop(sites);
         drop(trees);
-        drop(values);
+        drop(slots);
     }
 }
 
-// Adds a tree after others.
-fn push_tree(trees: &mut Vec<Option<TreeId>>, tree: Option<TreeId>) -> Result<(), AllocError>
-    ensures { OnOk result (trees.new.items ≡ trees.old.items ++ tree ∷ []) }
+// One site, of which no value is known.
+fn root_slots(alloc: Global, width: usize) -> Result<Slots, AllocError>
+    ensures slots { IfOk result (AreSlots 1) }
+    ensures none { IfOk result (λ made. (site attribute : ℕ) → slot_value made site attribute ≡ None) }
 {
+    let mut slots = Slots::new(alloc, width);
+    slots.add_site()?;
+    Ok(slots)
+}
+
+// The tree of the root.
+fn root_trees(alloc: Global, root: TreeId) -> Result<Vec<Option<TreeId>>, AllocError>
+    ensures { IfOk result (λ made. made.items ≡ Some root ∷ []) }
+{
+    let mut trees = Vec::new(alloc);
     trees.reserve(1)?;
-    trees.push_reserved(tree);
-    Ok(())
+    trees.push_reserved(Some(root));
+    Ok(trees)
 }

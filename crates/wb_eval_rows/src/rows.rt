@@ -11,18 +11,21 @@ ghost use Rattle.wb_eval_rows.specs.Inner.Lists.{HasSameNumbers, IsLonger, IsMor
 use std::alloc::{AllocError, Global};
 use std::marker::Model;
 
+// No number is so large, and no row begins or ends so far on.
+const LOW: usize = 4_294_967_296;
+
 // Where a row lies, and how long it is.
 #[derive(Clone, Copy)]
 struct Row {
-    first: usize,
-    width: usize,
+    first: u32,
+    width: u32,
 }
 
-/// Numbers by row and column. What is not written is 0.
+/// Numbers of 32 bits by row and column. What is not written is 0. Where there is no such number or place, it is out of memory.
 pub struct Rows {
     least: usize,
     rows: Vec<Row>,
-    numbers: Vec<usize>,
+    numbers: Vec<u32>,
 }
 
 impl Model for Rows {
@@ -63,8 +66,8 @@ impl Rows {
     {
         if row < self.rows.len() {
             let place = self.rows[row];
-            if column < place.width {
-                self.numbers[place.first + column]
+            if column < place.width as usize {
+                self.numbers[place.first as usize + column] as usize
             } else {
                 0
             }
@@ -80,8 +83,11 @@ impl Rows {
         ensures columns { OnOk result ((other : ℕ) → other ≢ column → at self.new row other ≡ at self.old row other) }
         ensures rows { OnOk result ((i other : ℕ) → i ≢ row → at self.new i other ≡ at self.old i other) }
     {
+        if number >= LOW {
+            return Err(AllocError);
+        }
         self.add_rows(row)?;
-        self.set(row, column, number)?;
+        self.set(row, column, number as u32)?;
         Ok(())
     }
 
@@ -97,7 +103,7 @@ impl Rows {
     }
 
     // Writes the number at a place of a row that is there.
-    fn set(&mut self, row: usize, column: usize, number: usize) -> Result<(), AllocError>
+    fn set(&mut self, row: usize, column: usize, number: u32) -> Result<(), AllocError>
         requires { row < length self.old }
         ensures len { OnOk result (length self.new ≡ length self.old) }
         ensures set { OnOk result (at self.new row column ≡ number) }
@@ -115,7 +121,7 @@ impl Rows {
         ensures { OnOk result (IsLonger self.old self.new row column) }
     {
         let place = self.rows[row];
-        if column < place.width {
+        if column < place.width as usize {
             Ok(())
         } else {
             self.lay(row, column)
@@ -129,21 +135,27 @@ impl Rows {
         ensures { OnOk result (IsLonger self.old self.new row column) }
     {
         let place = self.rows[row];
-        let width = wider(place.width, column, self.least)?;
+        let width = wider(place.width as usize, column, self.least)?;
         let first = self.numbers.len();
+        if width >= LOW || first >= LOW {
+            return Err(AllocError);
+        }
         add_copy(&mut self.numbers, place, width)?;
-        self.rows[row] = Row { first, width };
+        self.rows[row] = Row {
+            first: first as u32,
+            width: width as u32,
+        };
         Ok(())
     }
 
     // Writes a number in a row that is longer than its column.
-    fn write(&mut self, row: usize, column: usize, number: usize)
+    fn write(&mut self, row: usize, column: usize, number: u32)
         requires there { row < length self.old }
         requires within { column < length (row_at self.old row) }
         ensures { self.new ≡ slice_set self.old row (slice_set (row_at self.old row) column number) }
     {
         let place = self.rows[row];
-        self.numbers[place.first + column] = number;
+        self.numbers[place.first as usize + column] = number;
     }
 }
 
@@ -171,15 +183,16 @@ fn wider(width: usize, column: usize, least: usize) -> Result<usize, AllocError>
 }
 
 // Adds the numbers of a row after all others, and zeros until it is so long.
-fn add_copy(numbers: &mut Vec<usize>, place: Row, width: usize) -> Result<(), AllocError>
+fn add_copy(numbers: &mut Vec<u32>, place: Row, width: usize) -> Result<(), AllocError>
     requires within { place.first + place.width ≤ length numbers.old.items }
     requires wider { place.width ≤ width }
     ensures ok { OnOk result (numbers.new.items ≡ numbers.old.items ++ (row_of numbers.old.items place ++ replicate (width - place.width) 0)) }
     ensures more { IsMore numbers.old.items numbers.new.items }
 {
-    let end = place.first + place.width;
-    numbers.extend_from_within(place.first..end)?;
-    match numbers.len().checked_add(width - place.width) {
+    let first = place.first as usize;
+    let before = place.width as usize;
+    numbers.extend_from_within(first..first + before)?;
+    match numbers.len().checked_add(width - before) {
         Some(len) => numbers.resize(len, 0),
         None => Err(AllocError),
     }

@@ -1,6 +1,7 @@
 -- What an evaluation keeps from one instance to the next.
 use Rattle.std.specs.List.{slice_set}
-use Rattle.std.specs.Prelude.{◌≡◌, ◌≢◌, ◌⊎◌, ◌≤◌, ◌<◌, ◌+◌, ℕ, suc, List, [], ◌∷◌, ◌++◌, Option, Some, None, All, Contains, length, slice_get}
+use Rattle.std.specs.Prelude.{◌≡◌, ◌≢◌, ◌⊎◌, ◌≤◌, ◌<◌, ◌+◌, ℕ, suc, List, [], ◌∷◌, ◌++◌, Option, Some, None, All, Contains, length}
+use Rattle.std.specs.Prelude.{slice_get}
 use Rattle.wb_flow_theory.specs.Modular.{IsProduction}
 use Rattle.wb_flow_theory.specs.Occurrences.{Goes}
 use Rattle.wb_flow_theory.specs.Vertices.{Made, child, made}
@@ -85,7 +86,7 @@ pub record IsBlank (root : TreeId) (attribute : ℕ) (m : Machine) : Type 0 wher
   pub whole : IsWhole m.memo
   pub origins : m.memo.sites.origins.items ≡ []
   pub its_trees : m.memo.trees.items ≡ Some root ∷ []
-  pub values : m.memo.values.items ≡ []
+  pub values : (site x : ℕ) → recall m.memo site x ≡ None
   pub stack : m.stack.items ≡ []
   pub frames : m.frames.items ≡ []
   pub entered : m.entered ≡ 0
@@ -244,8 +245,7 @@ pub record IsTreeSet (old new : Memo) (site : ℕ) (v : Value) : Type 0 where
   pub id : TreeId
   pub is : v ≡ stored.Tree id
   pub sites : new.sites ≡ old.sites
-  pub cells : new.cells ≡ old.cells
-  pub values : new.values ≡ old.values
+  pub slots : new.slots ≡ old.slots
   pub set : new.trees.items ≡ slice_set old.trees.items site (Some id)
 
 -- the value of the instance of a key is kept

@@ -33,7 +33,7 @@ use Rattle.wb_eval.specs.declared.ran.Stop.{Stop}
 use Rattle.wb_eval.specs.declared.ran.Stop.TheVariants as stop
 use Rattle.wb_eval.specs.Inner.Fits.{stack_of, ValuesFit, WayFits, CodeFits}
 use Rattle.wb_eval.specs.Inner.Going.{go, resume}
-use Rattle.wb_eval.specs.Inner.Machines.{HasTree, named, known, IsSuspended, IsMachine, Runs, Wants, IsSame, IsSteady, with_memo}
+use Rattle.wb_eval.specs.Inner.Machines.{HasTree, named, known, IsSuspended, IsMachine, Runs, Wants, IsSteady, with_memo}
 use Rattle.wb_eval.specs.Inner.Piles.{code_left}
 use Rattle.wb_eval.specs.Inner.Reached.{HasChild, IsReached}
 use Rattle.wb_eval_memo.specs.Memos.{count, path_in, IsWhole, IsGrown}
@@ -238,7 +238,8 @@ pub record IsBuilt (trees new : List Tree) (before after : List Value) (producti
 abbrev pub IsCalled : Given → List Value → List Value → ℕ → ℕ → Option Stop → Type 0
 IsCalled given before after operation count None =
     (w : Value) × IsGiven given (Ok w) × (after ≡ take (length before - count) before ++ w ∷ [])
-IsCalled given before after operation count (Some (stop.Fault number code)) = (number ≡ operation) × IsGiven given (Err (refusal.Fault code))
+IsCalled given before after operation count (Some (stop.Fault number code)) = (number ≡ operation)
+    × IsGiven given (Err (refusal.Fault code))
 IsCalled given before after operation count (Some other) = ⊥
 
 -- there is a truth value at this place

@@ -19,7 +19,8 @@ turns-init g c =
     let operations : Operations = record { signatures = context.operations.now.signatures; meaning = g.M.Meaning.meaning } in
     let ahead = begun_ahead c.args.evaluation.now.machine c.start.new.self c.requires.fresh c.in_ok-start.ensures in
     record {
-      turn = subst (λ vs. IsMachine context.definitions.attributes.now operations c.args.store.now vs c.start.new.self) (sym c.requires.values)
+      turn = subst (λ vs. IsMachine context.definitions.attributes.now operations c.args.store.now vs c.start.new.self)
+          (sym c.requires.values)
           ahead.whole;
       root = refl;
       attribute = refl;
@@ -67,7 +68,8 @@ returns-in-Over-clause-answered g c =
     answered_before context.definitions.attributes.now operations c.run.new.store c.args.evaluation.now.machine m context.steps
     c.in-Over.answer (same.same.root ∙ c.turns.invariant.root ∙ c.in_ok-start.ensures.root)
     (same.same.attribute ∙ c.turns.invariant.attribute ∙ c.in_ok-start.ensures.attribute)
-    (subst (IsTurned context.definitions.attributes.now operations c.run.new.store m c.proceed.new.evaluation.machine c.proceed.new.evaluation.values.items context.steps) c.in-Over.is
+    (subst (IsTurned context.definitions.attributes.now operations c.run.new.store m c.proceed.new.evaluation.machine
+    c.proceed.new.evaluation.values.items context.steps) c.in-Over.is
     (c.in_ok-answer.ensures _ _ _ ran))
 
 pub turns-preserved : goal.turns-preserved
@@ -94,4 +96,5 @@ turns-smaller g c =
     let (same, ran) = c.in_ok-ran.ensures.ran in
     let goes = subst (IsTurned context.definitions.attributes.now operations c.run.new.store m c.proceed.new.evaluation.machine
     c.proceed.new.evaluation.values.items context.steps) c.in-Goes.is (c.in_ok-answer.ensures _ _ _ ran) in
-    subst (λ n. turns_left context.steps c.proceed.new.evaluation.machine < n) (turns_same context.steps c.turns.evaluation.machine m same) goes.less
+    subst (λ n. turns_left context.steps c.proceed.new.evaluation.machine < n) (turns_same context.steps c.turns.evaluation.machine m same)
+    goes.less

@@ -15,7 +15,8 @@ pub returns : goal.returns
 returns c =
     let e = c.in_ok-below.ensures in
     let made : (r : Option Key)
-    → IsReading c.below.new.self c.args.evaluation.now.values.items c.read.new.values.items (key.Synthesized c.in_ok-below.below c.args.attribute) r
+    → IsReading c.below.new.self c.args.evaluation.now.values.items c.read.new.values.items
+    (key.Synthesized c.in_ok-below.below c.args.attribute) r
     → IsReadBelow c.args.store.now c.args.evaluation.now.machine c.below.new.self c.args.site c.args.step
     (λ below. key.Synthesized below c.args.attribute) c.args.evaluation.now.values.items c.read.new.values.items r =
     λ r reading. record {

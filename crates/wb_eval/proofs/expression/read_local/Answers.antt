@@ -19,7 +19,8 @@ read-requires-clause-key c =
 pub returns : goal.returns
 returns c =
     let e = c.in_ok-below.ensures in
-    let made : (r : Option Key) → IsReading c.below.new.self c.args.evaluation.now.values.items c.read.new.values.items (key.Tree c.in_ok-below.below) r
+    let made : (r : Option Key)
+    → IsReading c.below.new.self c.args.evaluation.now.values.items c.read.new.values.items (key.Tree c.in_ok-below.below) r
     → IsReadBelow c.args.store.now c.args.evaluation.now.machine c.below.new.self c.args.site (step.Local c.args.local)
     (λ below. key.Tree below) c.args.evaluation.now.values.items c.read.new.values.items r =
     λ r reading. record {

@@ -25,7 +25,8 @@ returns c =
     (child_here c.args.store.now c.args.machine.now c.args.site c.args.k c.requires c.tree_at-tree.result c.tree_at-tree.ensures).0 in
     let value = c.in_ok-value.ensures in
     IfOk-weaker c.visit_value.result _ _
-    (child_pushed c.args.store.now c.args.machine.now c.args.values.now.items c.visit_value.new.values.items c.args.site c.args.k c.tree_at-tree.result
+    (child_pushed c.args.store.now c.args.machine.now c.args.values.now.items c.visit_value.new.values.items c.args.site c.args.k
+    c.tree_at-tree.result
     c.in_ok-value.value c.tree_at-tree.ensures value.value
     (is_in_more c.tree_at-tree.result.0 (length c.args.store.now) c.in_ok-value.value (omega (arith, inside)) value.below))
     c.visit_value.ensures

@@ -1,9 +1,8 @@
-use Rattle.std.proofs.Common.{rules, ◌≡◌, ◌∙◌, ◌<◌, ◌+◌, ◌≤◌, ◌^◌, ◌-◌, ◌∷◌, [], List, Some, None, drop, get_or, length, refl, ap, subst, sym, arith}
-use Rattle.std.proofs.lemmas.Result.{IfOk-weaker}
+use Rattle.std.proofs.Common.{rules, ◌<◌, ◌+◌, ◌≤◌, ◌^◌, [], List, drop, length, refl, subst}
 use Rattle.wb_operations.specs.Operations.{Operations}
 use Rattle.wb_values.specs.declared.value.Value.{Value}
 use Rattle.wb_eval_rules.specs.Code.{Instruction, instruction_of, instructions, way_of}
-use Rattle.wb_eval.specs.Inner.Works.{IsEvaluating, IsAfter, HasDone, IsGoing}
+use Rattle.wb_eval.specs.Inner.Works.{IsEvaluating, HasDone}
 use Rattle.wb_eval.proofs.FollowLemmas.{at_end, ends}
 use Rattle.wb_eval.proofs.PerformLemmas.{code_at, code_past, followed, less_left, stopped, truth_for}
 use Rattle.wb_eval.proofs.SteadyLemmas.{extended_twice, same_machine, same_store, same_twice}
@@ -56,7 +55,8 @@ returns-in-Some-clause-ran g c =
     let left = code_at code c.ops.at op within c.index-code-at.is in
     let ev = subst (λ (l : List Instruction). IsEvaluating a operations c.ops.store m.machine x.site l m.values.items) left
     c.ops.invariant.evaluating in
-    let (steady, after) = subst (HasDone a operations c.perform.new.store m.machine new.machine x.site (instruction_of op) (way_of op.after) rest
+    let (steady, after) = subst
+    (HasDone a operations c.perform.new.store m.machine new.machine x.site (instruction_of op) (way_of op.after) rest
     new.values.items) c.in-Some.is (c.in_ok-stop.ensures.done a rest ev) in (
       same_twice c.args.evaluation.now.machine m.machine new.machine c.ops.invariant.same steady,
       stopped a operations c.perform.new.store new.machine x.site x c.ops.at (instruction_of op) (way_of op.after) rest new.values.items
@@ -81,7 +81,8 @@ follow-at-requires-clause-truth g c =
     let left = code_at code c.ops.at op within c.index-code-at.is in
     let ev = subst (λ (l : List Instruction). IsEvaluating a operations c.ops.store m.machine x.site l m.values.items) left
     c.ops.invariant.evaluating in
-    let (steady, going) = subst (HasDone a operations c.perform.new.store m.machine new.machine x.site (instruction_of op) (way_of op.after) rest
+    let (steady, going) = subst
+    (HasDone a operations c.perform.new.store m.machine new.machine x.site (instruction_of op) (way_of op.after) rest
     new.values.items) c.in_default.is (c.in_ok-stop.ensures.done a rest ev) in
     truth_for a operations c.perform.new.store new.machine x.site op.after rest new.values.items going
 
@@ -100,10 +101,12 @@ ops-preserved g c =
     let left = code_at code c.ops.at op within c.index-code-at.is in
     let ev = subst (λ (l : List Instruction). IsEvaluating a operations c.ops.store m.machine x.site l m.values.items) left
     c.ops.invariant.evaluating in
-    let (steady, going) = subst (HasDone a operations c.perform.new.store m.machine new.machine x.site (instruction_of op) (way_of op.after) rest
+    let (steady, going) = subst
+    (HasDone a operations c.perform.new.store m.machine new.machine x.site (instruction_of op) (way_of op.after) rest
     new.values.items) c.in_default.is (c.in_ok-stop.ensures.done a rest ev) in
     record {
-      evaluating = followed a operations c.perform.new.store new.machine x.site code op.after new.values.items c.follow-at.new.values.items c.ops.at
+      evaluating = followed a operations c.perform.new.store new.machine x.site code op.after new.values.items c.follow-at.new.values.items
+          c.ops.at
           c.follow-at.result short c.follow-at.ensures going;
       same = same_twice c.args.evaluation.now.machine m.machine new.machine c.ops.invariant.same steady;
       store = extended_twice c.args.store.now c.ops.store c.perform.new.store c.ops.invariant.store c.perform.ensures.store;
@@ -114,7 +117,8 @@ ops-smaller g c =
     let code = c.args.expression.now.code.now in
     let within : c.ops.at < length code = search rules in
     let short : length code < 2 ^ 64 = search rules in
-    less_left c.index-code-at.result.after c.perform.new.evaluation.values.items c.follow-at.new.values.items c.ops.at c.follow-at.result (length code)
+    less_left c.index-code-at.result.after c.perform.new.evaluation.values.items c.follow-at.new.values.items c.ops.at c.follow-at.result
+    (length code)
     c.follow-at.ensures within short
 
 pub take_last-requires : goal.take_last-requires

@@ -1,4 +1,4 @@
-use Rattle.std.specs.Prelude.{◌≡◌, ◌-◌, drop, length}
+use Rattle.std.specs.Prelude.{◌-◌, drop, length}
 use Rattle.wb_eval.specs.Inner.Machines.{IsSteady}
 use Rattle.wb_eval.specs.Inner.Works.{IsEvaluating, IsExtended}
 use Rattle.wb_eval_rules.specs.Code.{instructions}

@@ -1,4 +1,3 @@
-use Rattle.std.proofs.Common.{sym, subst}
 use Rattle.std.proofs.lemmas.Result.{IfOk-weaker}
 use Rattle.wb_eval.proofs.SteadyLemmas.{same_store}
 use Rattle.wb_eval.proofs.PerformLemmas.{build_here, call_here, build_done, call_done, stay_done}
@@ -29,7 +28,8 @@ call-requires-clause-kept g c = c.requires.kept
 
 pub returns-in_ok-build_tree-in-Build-clause-done : goal.returns-in_ok-build_tree-in-Build-clause-done
 returns-in_ok-build_tree-in-Build-clause-done g c = λ a rest ev.
-    build_done c.args.evaluation.now.values.items c.args.op.now.task ev _ _ c.in-Build.is c.build_tree.new.store c.build_tree.new.values.items
+    build_done c.args.evaluation.now.values.items c.args.op.now.task ev _ _ c.in-Build.is c.build_tree.new.store
+    c.build_tree.new.values.items
     c.in_ok-build_tree-in-Build.ensures.built
 
 pub returns-in_ok-build_tree-in-Build-clause-store : goal.returns-in_ok-build_tree-in-Build-clause-store

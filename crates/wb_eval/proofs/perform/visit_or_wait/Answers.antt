@@ -1,4 +1,3 @@
-use Rattle.std.proofs.Common.{subst}
 use Rattle.wb_eval.proofs.PerformLemmas.{visit_none, visit_some}
 use Rattle.wb_eval.proofs.perform.visit_or_wait.Goals as goal
 

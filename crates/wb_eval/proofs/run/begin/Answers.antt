@@ -1,4 +1,4 @@
-use Rattle.std.proofs.Common.{rules, ◌∙◌, ◌≡◌, ◌-◌, List, length, subst, sym, arith}
+use Rattle.std.proofs.Common.{rules, List, subst, sym, arith}
 use Rattle.std.proofs.lemmas.Result.{IfOk-weaker}
 use Rattle.wb_operations.specs.Operations.{Operations}
 use Rattle.wb_eval_rules.specs.Code.{Instruction, instructions}

@@ -1,4 +1,4 @@
-use Rattle.std.proofs.Common.{rules, ◌≡◌, ◌<◌, ◌+◌, ◌^◌, get_or, length, subst, sym, arith}
+use Rattle.std.proofs.Common.{rules, ◌<◌, ◌^◌, length, subst, sym}
 use Rattle.wb_operations.specs.Operations.{Operations}
 use Rattle.wb_eval.proofs.PerformLemmas.{followed, going_here, truth_for}
 use Rattle.wb_eval_rules.specs.declared.code.Op.{Op}
@@ -43,7 +43,8 @@ follow-at-requires-clause-truth g c =
     let turn = subst (IsTurn a operations c.args.store.now m.machine m.values.items) c.in-Some.is c.requires.turn in
     let op = c.index-frame-frame.result in
     subst (λ (o : Op). HasTruthFor o.after m.values.items) c.index-frame-frame.is
-    (truth_for a operations c.args.store.now m.machine f.site op.after _ m.values.items (going_here f m.values.items op turn c.index-frame-frame.is))
+    (truth_for a operations c.args.store.now m.machine f.site op.after _ m.values.items
+    (going_here f m.values.items op turn c.index-frame-frame.is))
 
 pub evaluate_code-requires-clause-evaluating : goal.evaluate_code-requires-clause-evaluating
 evaluate_code-requires-clause-evaluating g c =
@@ -54,7 +55,8 @@ evaluate_code-requires-clause-evaluating g c =
     let turn = subst (IsTurn a operations c.args.store.now m.machine m.values.items) c.in-Some.is c.requires.turn in
     let op = c.index-frame-frame.result in
     let short : length f.code.now < 2 ^ 64 = search rules in
-    followed a operations c.args.store.now m.machine f.site f.code.now op.after m.values.items c.follow-at.new.values.items f.at c.follow-at.result short
+    followed a operations c.args.store.now m.machine f.site f.code.now op.after m.values.items c.follow-at.new.values.items f.at
+    c.follow-at.result short
     (subst (λ (o : Op). IsFollowed o.after m.values.items c.follow-at.new.values.items f.at c.follow-at.result) (sym c.index-frame-frame.is)
     c.follow-at.ensures) (going_here f m.values.items op turn c.index-frame-frame.is)
 

@@ -1,4 +1,4 @@
-use Rattle.std.proofs.Common.{rules, refl, sym, subst}
+use Rattle.std.proofs.Common.{rules}
 use Rattle.std.proofs.lemmas.Result.{IfOk-weaker}
 use Rattle.wb_eval.proofs.SteadyLemmas.{same_memo}
 use Rattle.wb_eval.proofs.ForwardLemmas.{forward_wanted, forward_alone, alone_ran}

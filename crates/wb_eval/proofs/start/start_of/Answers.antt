@@ -29,7 +29,8 @@ start_of_inherited-requires-clause-works c =
 
 pub returns-in-Inherited : goal.returns-in-Inherited
 returns-in-Inherited c = λ operations under works coded.
-    c.start_of_inherited.ensures operations under (subst (λ (k : Key). IsAtWork c.args.definitions.now.attributes.now operations c.args.store.now under
+    c.start_of_inherited.ensures operations under
+    (subst (λ (k : Key). IsAtWork c.args.definitions.now.attributes.now operations c.args.store.now under
     c.args.machine.now k) c.in-Inherited.is works) coded
 
 pub start_of_tree-requires-clause-works : goal.start_of_tree-requires-clause-works
@@ -43,5 +44,6 @@ start_of_tree-requires-clause-works c =
 
 pub returns-in-Tree : goal.returns-in-Tree
 returns-in-Tree c = λ operations under works coded.
-    c.start_of_tree.ensures operations under (subst (λ (k : Key). IsAtWork c.args.definitions.now.attributes.now operations c.args.store.now under
+    c.start_of_tree.ensures operations under
+    (subst (λ (k : Key). IsAtWork c.args.definitions.now.attributes.now operations c.args.store.now under
     c.args.machine.now k) c.in-Tree.is works) coded

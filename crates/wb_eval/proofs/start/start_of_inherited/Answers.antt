@@ -22,7 +22,8 @@ pub returns-in-Some : goal.returns-in-Some
 returns-in-Some c = λ operations under works coded.
     inherited_starting c.args.site c.args.attribute works c.index-origin.result.now c.index-origin.ensures
     c.rules_at-rules.result.production.now c.in-Some.code.now c.rules_at-rules.ensures.production
-    (subst (λ (v : Vertex). HasCode operations.signatures c.rules_at-rules.result.production.now v c.in-Some.code.now) c.target_below.ensures
+    (subst (λ (v : Vertex). HasCode operations.signatures c.rules_at-rules.result.production.now v c.in-Some.code.now)
+    c.target_below.ensures
     (c.in-Some.ensures.some operations.signatures (c.rules_at-rules.ensures.codes operations.signatures coded)))
 
 pub returns-in-None : goal.returns-in-None

@@ -48,14 +48,12 @@ returns-in-Tree-answer c =
     let new : Memo = record {
       sites = old.sites;
       trees = with_item old.trees c.in-Tree.site (Some c.in-Tree-answer.tree);
-      cells = old.cells;
-      values = old.values;
+      slots = old.slots;
     } in
     subst (λ (k : Key). IsSet old new k c.args.answer) (sym c.in-Tree.is) (record {
       id = c.in-Tree-answer.tree;
       is = c.in-Tree-answer.is;
       sites = refl;
-      cells = refl;
-      values = refl;
+      slots = refl;
       set = refl;
     })

@@ -1,4 +1,4 @@
-use Rattle.std.proofs.Common.{◌≡◌, ◌∙◌, ◌-◌, ◌<◌, ◌≢◌, ◌++◌, ◌∷◌, [], suc, Some, length, slice_get, take, refl, sym, ap, subst, arith}
+use Rattle.std.proofs.Common.{◌≡◌, ◌∙◌, ◌-◌, ◌≢◌, ◌++◌, ◌∷◌, [], Some, length, slice_get, take, refl, sym, ap, subst, arith}
 use Rattle.wb_lemmas.proofs.Places.{at_once, read_at}
 use Rattle.wb_eval.proofs.StepLemmas.{last_key}
 use Rattle.wb_eval.specs.Inner.Machines.{IsKey, IsFor}

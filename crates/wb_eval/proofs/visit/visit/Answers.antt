@@ -65,7 +65,8 @@ returns-in-Text c = λ a operations rest ev.
     let t = c.args.op.now.task in
     IfOk-weaker c.visit_text.result _ _
     (λ r it. from_form _ _ _ _ _ _ _ vs t (task.Text c.in-Text.text) c.in-Text.is c.visit_text.new.values.items _ r
-    (text_visited _ _ _ _ _ _ _ vs c.visit_text.new.values.items c.in-Text.text (in_form _ _ _ _ _ _ _ vs t (task.Text c.in-Text.text) c.in-Text.is ev) r it))
+    (text_visited _ _ _ _ _ _ _ vs c.visit_text.new.values.items c.in-Text.text
+    (in_form _ _ _ _ _ _ _ vs t (task.Text c.in-Text.text) c.in-Text.is ev) r it))
     c.visit_text.ensures
 
 pub returns-in-Bool : goal.returns-in-Bool
@@ -74,7 +75,8 @@ returns-in-Bool c = λ a operations rest ev.
     let t = c.args.op.now.task in
     IfOk-weaker c.visit_value-in-Bool.result _ _
     (λ r it. from_form _ _ _ _ _ _ _ vs t (task.Bool c.in-Bool.truth) c.in-Bool.is c.visit_value-in-Bool.new.values.items _ r
-    (truth_visited _ _ _ _ _ _ _ vs c.visit_value-in-Bool.new.values.items c.in-Bool.truth (in_form _ _ _ _ _ _ _ vs t (task.Bool c.in-Bool.truth) c.in-Bool.is ev) r
+    (truth_visited _ _ _ _ _ _ _ vs c.visit_value-in-Bool.new.values.items c.in-Bool.truth
+    (in_form _ _ _ _ _ _ _ vs t (task.Bool c.in-Bool.truth) c.in-Bool.is ev) r
     it)) c.visit_value-in-Bool.ensures
 
 pub returns-in-Label : goal.returns-in-Label
@@ -82,7 +84,8 @@ returns-in-Label c = λ a operations rest ev.
     let vs = c.args.evaluation.now.values.items in
     let new = c.visit_label.new.evaluation in
     IfOk-weaker c.visit_label.result _ _
-    (λ r it. place_visited _ _ _ _ _ _ _ vs c.args.op.now.task c.in-Label.place c.in-Label.is ev new.values.items new.machine r it) c.visit_label.ensures
+    (λ r it. place_visited _ _ _ _ _ _ _ vs c.args.op.now.task c.in-Label.place c.in-Label.is ev new.values.items new.machine r it)
+    c.visit_label.ensures
 
 pub returns-in-Read : goal.returns-in-Read
 returns-in-Read c = λ a operations rest ev.
@@ -92,7 +95,8 @@ returns-in-Read c = λ a operations rest ev.
     let form = task.Read c.in-Read.label c.in-Read.attribute in
     IfOk-weaker c.read_below.result _ _
     (λ r it. from_form _ _ _ _ _ _ _ vs t form c.in-Read.is new.values.items new.machine r
-    (below_visited _ _ _ _ _ _ _ vs new.values.items c.in-Read.label c.in-Read.attribute (in_form _ _ _ _ _ _ _ vs t form c.in-Read.is ev) new.machine r
+    (below_visited _ _ _ _ _ _ _ vs new.values.items c.in-Read.label c.in-Read.attribute
+    (in_form _ _ _ _ _ _ _ vs t form c.in-Read.is ev) new.machine r
     (subst (λ (s : Step). IsReadBelow c.args.store.now c.args.evaluation.now.machine new.machine c.args.site s
     (λ below. key.Synthesized below c.in-Read.attribute) vs new.values.items r) c.step_to.ensures it))) c.read_below.ensures
 
@@ -103,7 +107,8 @@ returns-in-Top c = λ a operations rest ev.
     let form = task.Top c.in-Top.attribute in
     IfOk-weaker c.read.result _ _
     (λ r it. from_form _ _ _ _ _ _ _ vs t form c.in-Top.is c.read.new.values.items _ r
-    (top_visited _ _ _ _ _ _ _ vs c.read.new.values.items c.in-Top.attribute (in_form _ _ _ _ _ _ _ vs t form c.in-Top.is ev) r it)) c.read.ensures
+    (top_visited _ _ _ _ _ _ _ vs c.read.new.values.items c.in-Top.attribute (in_form _ _ _ _ _ _ _ vs t form c.in-Top.is ev) r it))
+    c.read.ensures
 
 pub returns-in-Forward : goal.returns-in-Forward
 returns-in-Forward c = λ a operations rest ev.
@@ -113,5 +118,6 @@ returns-in-Forward c = λ a operations rest ev.
     let form = task.Forward c.in-Forward.attribute in
     IfOk-weaker c.read_below-in-Forward.result _ _
     (λ r it. from_form _ _ _ _ _ _ _ vs t form c.in-Forward.is new.values.items new.machine r
-    (forward_visited _ _ _ _ _ _ _ vs new.values.items c.in-Forward.attribute (in_form _ _ _ _ _ _ _ vs t form c.in-Forward.is ev) new.machine r it))
+    (forward_visited _ _ _ _ _ _ _ vs new.values.items c.in-Forward.attribute
+    (in_form _ _ _ _ _ _ _ vs t form c.in-Forward.is ev) new.machine r it))
     c.read_below-in-Forward.ensures

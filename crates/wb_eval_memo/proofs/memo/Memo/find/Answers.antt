@@ -1,4 +1,4 @@
-use Rattle.std.proofs.Common.{rules, ◌≡◌, ◌≢◌, ℕ, zero, suc, sym, refl}
+use Rattle.std.proofs.Common.{◌≡◌, ◌≢◌, ℕ, zero, suc, sym, refl}
 use Rattle.std.proofs.lemmas.Option.{slice_get_within}
 use Rattle.wb_eval_memo.specs.Memos.{IsBelow, IsWhole}
 use Rattle.wb_eval_memo.specs.Sites.{link}
