@@ -10,6 +10,8 @@ mod printer;
 #[cfg(test)]
 mod reader;
 #[cfg(test)]
+mod recheck_text;
+#[cfg(test)]
 mod terms;
 #[cfg(test)]
 mod tokens;

@@ -1,0 +1,3 @@
+mod LineStateLemmas
+mod MissingLemmas
+mod PlaceLemmas

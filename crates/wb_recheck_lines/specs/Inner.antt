@@ -1,0 +1,2 @@
+-- kernels and entries up to a place
+pub mod Walks

@@ -1,0 +1,13 @@
+//! Are the lines of a certificate those of a grammar's kernels, or which is the first that is wrong, or which kernel lacks a move?
+//!
+//! Each line is compared with the kernels as `wb_items` makes them. What a certificate is, is defined in `wb_recheck_theory`, and its text
+//! is read by `wb_recheck_text`.
+#![tactic(auto)]
+
+mod line_states;
+mod missing_moves;
+mod refusal;
+
+pub use line_states::{LineStates, states_of_lines};
+pub use missing_moves::missing_move;
+pub use refusal::LineRefusal;

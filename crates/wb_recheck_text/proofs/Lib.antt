@@ -1,0 +1,11 @@
+mod EntryLemmas
+mod HeadLemmas
+mod LawLemmas
+mod LineLemmas
+mod NameLemmas
+mod NumberLemmas
+mod PrintLemmas
+mod ProgressLemmas
+mod ReservedLemmas
+mod StopLemmas
+mod WordLemmas
