@@ -10,7 +10,7 @@ use Rattle.wb_base.specs.Grammar.{GrammarView, Production}
 use Rattle.wb_certify.specs.Kept.{AreCertifiedBoth}
 use Rattle.wb_compose.specs.Joined.{Extended}
 use Rattle.wb_compose.specs.Written.{written_in}
-use Rattle.wb_compose.proofs.InRange.{child_terminal, child_tree, row_of_plain}
+use Rattle.wb_determinism_beside.proofs.InRange.{child_terminal, child_tree, row_of_plain}
 use Rattle.wb_scan_theory.specs.Shown.{AgreesWith, kind_of}
 use Rattle.wb_lemmas.proofs.Places.{append_after, append_keeps, at_append, at_take, at_within}
 use Rattle.wb_operations.specs.Operations.{OperationSignature}

@@ -20,3 +20,17 @@ mod ComposedValues
 mod LengthLemmas
 mod TextLemmas
 mod OneLemmas
+pub mod BlockLemmas
+pub mod MarkingLemmas
+pub mod UnionLemmas
+pub mod ExtendsLemmas
+pub mod ShownLemmas
+pub mod PlainLemmas
+pub mod AskedLemmas
+pub mod ValueLemmas
+mod FlagLemmas
+-- the first marker of a text in other languages of one union
+pub mod MarkerLemmas
+-- a text has one reading
+pub mod OneReading
+mod ReadingLemmas

@@ -1,5 +1,5 @@
-//! Texts in the language of a certified host with certified extensions: the tree of a text, the values at its root, and the text that a
-//! number makes.
+//! Texts in the language of a certified host with certified extensions: the tree of a text, the values at its root, whether it means what it
+//! means to the host alone, and the text that a number makes.
 //!
 //! The language and its attributes are made in `wb_compose`; here their numbers get the names that reports show, the host's and then each
 //! extension's. Values of attributes of a tree are in `wb_eval_root`.
@@ -9,11 +9,16 @@ mod expression_rows;
 mod expressions;
 mod generated;
 pub mod generated_laws;
+mod markers;
 mod names;
+mod pair;
 mod question;
+mod reading;
+pub mod reading_laws;
 mod root;
 mod signatures;
 mod text_answer;
+mod text_reading;
 mod text_values;
 pub mod tree_laws;
 mod trees;
@@ -26,9 +31,11 @@ pub use expressions::united_expressions;
 pub use generated::generated_text;
 pub use names::united_terminals;
 pub use question::Question;
+pub use reading::union_reading;
 pub use root::root_attribute;
 pub use signatures::united_signatures;
 pub use text_answer::TextAnswer;
+pub use text_reading::TextReading;
 pub use text_values::text_value;
 pub use trees::{united_name, united_stop, united_text_answer};
 pub use value::TextValue;

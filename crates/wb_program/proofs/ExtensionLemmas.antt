@@ -16,18 +16,18 @@ use Rattle.wb_report.specs.declared.refusal.Refusal.TheVariants as r
 use Rattle.wb_report.specs.declared.spec_reason.SpecReason.TheVariants as t
 use Rattle.wb_syntax_resolved.specs.declared.resolved.ResolvedParts.{ResolvedParts}
 use Rattle.wb_world.specs.Shelf.{Files}
-use Rattle.wb_program_words.specs.Words.{texts}
-use Rattle.wb_program_inputs.specs.Reads.{Read, file_of, certified_extension, Passes, StopsAt}
-use Rattle.wb_program_inputs.specs.Files.{KnownFile}
-use Rattle.wb_program_inputs.specs.ExtensionChecks.{RefusedExtension}
-use Rattle.wb_program_inputs.specs.HostChecks.{IsHostFile, RefusesHost}
-use Rattle.wb_program_inputs.specs.Stopped.{Outside, Stopped}
-use Rattle.wb_program_inputs.specs.declared.reading.ReadFailure.{ReadFailure}
-use Rattle.wb_program_inputs.specs.declared.reading.ReadFailure.TheVariants.{Absent, ReadFault, NoMemory}
-use Rattle.wb_program_inputs.specs.declared.status.Status.{Status}
-use Rattle.wb_program_inputs.specs.declared.status.Status.TheVariants.{Done, TooManyExtensions}
-use Rattle.wb_program_inputs.proofs.CauseLemmas.{stops_first}
-use Rattle.wb_program_inputs.proofs.HostLemmas.{refused_checks}
+use Rattle.wb_program_words.specs.Asked.{texts}
+use Rattle.wb_program.specs.Stops.{Read, file_of, certified_extension, Passes, StopsAt}
+use Rattle.wb_program.specs.Files.{KnownFile}
+use Rattle.wb_program.specs.ExtensionChecks.{RefusedExtension}
+use Rattle.wb_program.specs.HostChecks.{IsHostFile, RefusesHost}
+use Rattle.wb_program.specs.Inner.Stopped.{Outside, Stopped}
+use Rattle.wb_program.specs.declared.files.ReadFailure.{ReadFailure}
+use Rattle.wb_program.specs.declared.files.ReadFailure.TheVariants.{Absent, ReadFault, NoMemory}
+use Rattle.wb_program.specs.declared.status.Status.{Status}
+use Rattle.wb_program.specs.declared.status.Status.TheVariants.{Done, TooManyExtensions}
+use Rattle.wb_program.proofs.StopLemmas.{stops_first}
+use Rattle.wb_program.proofs.FileLemmas.{refused_checks}
 use Rattle.wb_program.specs.CertifyReport.{CertifyReport, ExtensionsReport, IsExtensionNamed}
 use Rattle.wb_program.specs.Inner.Extensions.{EndsAtExtension, LeadsTo, StopsFrom, CertifyStops}
 

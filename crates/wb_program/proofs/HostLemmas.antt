@@ -8,14 +8,14 @@ use Rattle.wb_report.specs.declared.done.Done.TheVariants as done
 use Rattle.wb_report.specs.declared.outcome.Outcome.TheVariants as o
 use Rattle.wb_syntax_resolved.specs.declared.resolved.ResolvedParts.{ResolvedParts}
 use Rattle.wb_world.specs.Shelf.{Files}
-use Rattle.wb_program_inputs.specs.Checks.{Ends, Check}
-use Rattle.wb_program_inputs.specs.Texts.{IsText, IsTooLongText}
-use Rattle.wb_program_inputs.specs.HostChecks.{IsHostFile, IsWellDefinedFile, RefusesHost}
-use Rattle.wb_program_inputs.specs.declared.status.Status.{Status}
-use Rattle.wb_program_inputs.specs.declared.status.Status.TheVariants.{Done, TextTooLong}
+use Rattle.wb_program.specs.Checks.{Ends, Check}
+use Rattle.wb_program.specs.Texts.{IsText, IsTooLongText}
+use Rattle.wb_program.specs.HostChecks.{IsHostFile, IsWellDefinedFile, RefusesHost}
+use Rattle.wb_program.specs.declared.status.Status.{Status}
+use Rattle.wb_program.specs.declared.status.Status.TheVariants.{Done, TextTooLong}
 use Rattle.wb_program.specs.CheckReport.{CheckReport}
 use Rattle.wb_program.specs.ValueReport.{TermReport, ValueReport}
-use Rattle.wb_program_inputs.proofs.HostLemmas.{refused_checks}
+use Rattle.wb_program.proofs.FileLemmas.{refused_checks}
 
 -- `check` of a certified host
 pub check_done : (operations : List OperationSignature) (known : Option Files) (file : List ℕ) (r : ResolvedParts) (status : Status)

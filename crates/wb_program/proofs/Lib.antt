@@ -1,14 +1,34 @@
-mod Answering
+mod AllReports
 mod AnswerLemmas
+mod Answering
+mod AttributeLemmas
 mod CauseLemmas
+mod CertifyLaws
+mod CheckLaws
+mod ComposeLaws
+pub mod ComposeLemmas
+pub mod Excludes
 mod ExtensionLemmas
+pub mod FileLemmas
+mod GenerateLaws
 mod HostLemmas
 mod Known
-mod OneComposeReport
-mod OneExtensionReport
-mod OneHostReport
+pub mod MakesLemmas
+pub mod OneCheck
+pub mod OneHostChecks
 pub mod OneReport
-mod OneValueReport
-mod Reported
-pub mod ShownAgain
+pub mod OneSeveralReport
+mod Pieces
+mod ReadingLaws
+mod ReportLaws
+mod RunLaws
+mod SeveralLemmas
+mod ShowLaws
 mod ShowLemmas
+pub mod ShownAgain
+mod SourceLemmas
+pub mod StopLemmas
+mod TreeLaws
+mod ValueLaws
+pub mod WordLemmas
+pub mod WrittenWhole

@@ -11,11 +11,11 @@ use Rattle.wb_report.specs.declared.refusal.Refusal.{Refusal}
 use Rattle.wb_certify_shown.specs.Shows.{written_reason, of_spec}
 use Rattle.wb_syntax.specs.SpecText.{SpecView}
 use Rattle.wb_world.specs.Shelf.{Files}
-use Rattle.wb_program_inputs.specs.Contents.{ContentsAre, ReadIs}
-use Rattle.wb_program_inputs.specs.declared.reading.Contents.{Contents}
-use Rattle.wb_program_inputs.specs.declared.reading.Contents.TheVariants.{Whole, TooLong}
-use Rattle.wb_program_inputs.specs.declared.status.Status.{Status}
-use Rattle.wb_program_inputs.proofs.HostLemmas.{read_is}
+use Rattle.wb_program.specs.Inner.Contents.{ContentsAre, ReadIs}
+use Rattle.wb_program.specs.declared.files.Contents.{Contents}
+use Rattle.wb_program.specs.declared.files.Contents.TheVariants.{Whole, TooLong}
+use Rattle.wb_program.specs.declared.status.Status.{Status}
+use Rattle.wb_program.proofs.FileLemmas.{read_is}
 use Rattle.wb_program.specs.ShowReport.{ShowReport}
 use Rattle.wb_program.specs.Inner.Shown.{ContentsShow, RefusesRead, ShowsRefusal}
 

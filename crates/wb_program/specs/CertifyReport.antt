@@ -11,11 +11,11 @@ use Rattle.wb_report.specs.declared.outcome.Outcome.TheVariants as o
 use Rattle.wb_report.specs.declared.refusal.Refusal.{Refusal}
 use Rattle.wb_syntax_resolved.specs.declared.resolved.ResolvedParts.{ResolvedParts}
 use Rattle.wb_world.specs.Shelf.{Files}
-use Rattle.wb_program_inputs.specs.Checks.{Report, Ends}
-use Rattle.wb_program_inputs.specs.HostChecks.{CertifiedChecks}
-use Rattle.wb_program_inputs.specs.Files.{KnownFile}
-use Rattle.wb_program_inputs.specs.declared.status.Status.TheVariants.{Done, SpecRefused, NotCertified, TooManyExtensions, WrongHost}
-use Rattle.wb_program_inputs.specs.ExtensionChecks.{AreTooMany, IsForOtherHost}
+use Rattle.wb_program.specs.Checks.{Report, Ends}
+use Rattle.wb_program.specs.HostChecks.{CertifiedChecks}
+use Rattle.wb_program.specs.Files.{KnownFile}
+use Rattle.wb_program.specs.declared.status.Status.TheVariants.{Done, SpecRefused, NotCertified, TooManyExtensions, WrongHost}
+use Rattle.wb_program.specs.ExtensionChecks.{AreTooMany, IsForOtherHost}
 
 module _ (operations : List OperationSignature) (known : Option Files) (host : ResolvedParts) where
   -- the file is no certified extension of the host by a refusal of this sort, and the line says why

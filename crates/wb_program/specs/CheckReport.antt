@@ -5,9 +5,9 @@ use Rattle.wb_report.specs.Lines.{report_of}
 use Rattle.wb_report.specs.declared.done.Done.TheVariants as done
 use Rattle.wb_report.specs.declared.outcome.Outcome.TheVariants as o
 use Rattle.wb_world.specs.Shelf.{Files}
-use Rattle.wb_program_inputs.specs.Checks.{Report, Ends}
-use Rattle.wb_program_inputs.specs.declared.status.Status.TheVariants.{Done}
-use Rattle.wb_program_inputs.specs.HostChecks.{CertifiedChecks}
+use Rattle.wb_program.specs.Checks.{Report, Ends}
+use Rattle.wb_program.specs.declared.status.Status.TheVariants.{Done}
+use Rattle.wb_program.specs.HostChecks.{CertifiedChecks}
 
 -- the host, and that it is certified
 abbrev pub CheckReport : List OperationSignature → Option Files → List ℕ → Report

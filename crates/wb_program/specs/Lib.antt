@@ -1,3 +1,19 @@
+-- the statuses as numbers
+pub mod StatusNumber
+-- what is known of files
+pub mod Files
+-- how reports are stated: checks in their order
+pub mod Checks
+-- the checks of a host
+pub mod HostChecks
+-- how extensions are refused
+pub mod ExtensionChecks
+-- the checks of several extensions
+pub mod SeveralChecks
+-- a text, and one that is too long
+pub mod Texts
+-- files as what they are read, and which one is missing or faulty where a run stops
+pub mod Stops
 -- the report of `show`
 pub mod ShowReport
 -- the report of `check`
@@ -12,9 +28,17 @@ pub mod ReadingReport
 pub mod ValueReport
 -- the report of `compose`
 pub mod ComposeReport
+-- the attribute that is asked at the root of a text, and what is reported of its value
+pub mod Values
+-- the report of `run`
+pub mod RunReport
+-- the report of `generate`
+pub mod GenerateReport
+-- what each command reports, and which files it comes to read
+pub mod Commands
 -- the report of words and files
 pub mod Report
--- which files are read, and the causes of ending at one
+-- the causes of ending at a file
 pub mod Reads
 -- what is written
 pub mod Written

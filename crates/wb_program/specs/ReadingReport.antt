@@ -5,15 +5,15 @@ use Rattle.wb_report.specs.Lines.{report_of}
 use Rattle.wb_report.specs.declared.done.Done.TheVariants as done
 use Rattle.wb_report.specs.declared.outcome.Outcome.TheVariants as o
 use Rattle.wb_syntax_resolved.specs.declared.resolved.ResolvedParts.{ResolvedParts}
-use Rattle.wb_reading_compose.specs.Readings.{IsUnionReading}
-use Rattle.wb_reading_compose.specs.declared.answer.TextReading.{TextReading}
-use Rattle.wb_reading_compose.specs.declared.answer.TextReading.TheVariants as r
+use Rattle.wb_compose_texts.specs.Readings.{IsUnionReading}
+use Rattle.wb_compose_texts.specs.declared.text_reading.TextReading.{TextReading}
+use Rattle.wb_compose_texts.specs.declared.text_reading.TextReading.TheVariants as r
 use Rattle.wb_world.specs.Shelf.{Files}
-use Rattle.wb_program_inputs.specs.Checks.{Report, Ends, Check}
-use Rattle.wb_program_inputs.specs.SeveralChecks.{SeveralChecks}
-use Rattle.wb_program_inputs.specs.declared.status.Status.{Status}
-use Rattle.wb_program_inputs.specs.declared.status.Status.TheVariants.{Done, TextTooLong}
-use Rattle.wb_program_inputs.specs.Texts.{IsTooLongText, IsText}
+use Rattle.wb_program.specs.Checks.{Report, Ends, Check}
+use Rattle.wb_program.specs.SeveralChecks.{SeveralChecks}
+use Rattle.wb_program.specs.declared.status.Status.{Status}
+use Rattle.wb_program.specs.declared.status.Status.TheVariants.{Done, TextTooLong}
+use Rattle.wb_program.specs.Texts.{IsTooLongText, IsText}
 
 -- the status and the line of a reading: the text has no marker, or this first one at this place
 abbrev pub ShownReading : TextReading → Report

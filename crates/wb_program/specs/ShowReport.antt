@@ -7,9 +7,9 @@ use Rattle.wb_report.specs.declared.outcome.Outcome.TheVariants as o
 use Rattle.wb_report.specs.declared.refusal.Refusal.{Refusal}
 use Rattle.wb_syntax.specs.Canonical.{IsCanonical}
 use Rattle.wb_world.specs.Shelf.{Files}
-use Rattle.wb_program_inputs.specs.Checks.{Report, Ends, Check}
-use Rattle.wb_program_inputs.specs.Files.{KnownFile}
-use Rattle.wb_program_inputs.specs.declared.status.Status.TheVariants.{Done, SpecRefused}
+use Rattle.wb_program.specs.Checks.{Report, Ends, Check}
+use Rattle.wb_program.specs.Files.{KnownFile}
+use Rattle.wb_program.specs.declared.status.Status.TheVariants.{Done, SpecRefused}
 
 -- the file isn't taken as a specification, and the line says why
 pub record RefusesSpec (known : Option Files) (file bytes : List ℕ) : Type 0 where

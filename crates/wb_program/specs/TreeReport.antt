@@ -9,11 +9,11 @@ use Rattle.wb_compose_texts.specs.Answers.{IsUnitedTextAnswer}
 use Rattle.wb_compose_texts.specs.declared.text_answer.TextAnswer.{TextAnswer}
 use Rattle.wb_compose_texts.specs.declared.text_answer.TextAnswer.TheVariants as t
 use Rattle.wb_world.specs.Shelf.{Files}
-use Rattle.wb_program_inputs.specs.Checks.{Report, Ends, Check}
-use Rattle.wb_program_inputs.specs.SeveralChecks.{SeveralChecks}
-use Rattle.wb_program_inputs.specs.declared.status.Status.{Status}
-use Rattle.wb_program_inputs.specs.declared.status.Status.TheVariants.{Done, TextStopped, TextTooLong, TooLongToPrint}
-use Rattle.wb_program_inputs.specs.Texts.{IsTooLongText, IsText}
+use Rattle.wb_program.specs.Checks.{Report, Ends, Check}
+use Rattle.wb_program.specs.SeveralChecks.{SeveralChecks}
+use Rattle.wb_program.specs.declared.status.Status.{Status}
+use Rattle.wb_program.specs.declared.status.Status.TheVariants.{Done, TextStopped, TextTooLong, TooLongToPrint}
+use Rattle.wb_program.specs.Texts.{IsTooLongText, IsText}
 
 -- the status and the line of the answer of a text: it has a tree, which is printed so; it stops there; or its tree is too long to print
 abbrev pub ShownText : TextAnswer → Report

@@ -10,12 +10,12 @@ use Rattle.wb_eval_root.specs.Answers.{IsRootAnswer}
 use Rattle.wb_eval_root.specs.declared.answer.RootAnswer.{RootAnswer}
 use Rattle.wb_eval_root.specs.declared.answer.RootAnswer.TheVariants as answered
 use Rattle.wb_world.specs.Shelf.{Files}
-use Rattle.wb_program_inputs.specs.Checks.{Report, Ends, Check}
-use Rattle.wb_program_inputs.specs.Texts.{IsText, IsTooLongText}
-use Rattle.wb_program_inputs.specs.declared.status.Status.{Status}
-use Rattle.wb_program_inputs.specs.declared.status.Status.TheVariants.{Done, OperationFault, MoreSteps, TextTooLong, TooLongToPrint}
-use Rattle.wb_program_inputs.specs.declared.status.Status.TheVariants.{UnknownAttribute, TermRefused}
-use Rattle.wb_program_inputs.specs.HostChecks.{WellDefinedChecks}
+use Rattle.wb_program.specs.Checks.{Report, Ends, Check}
+use Rattle.wb_program.specs.Texts.{IsText, IsTooLongText}
+use Rattle.wb_program.specs.declared.status.Status.{Status}
+use Rattle.wb_program.specs.declared.status.Status.TheVariants.{Done, OperationFault, MoreSteps, TextTooLong, TooLongToPrint}
+use Rattle.wb_program.specs.declared.status.Status.TheVariants.{UnknownAttribute, TermRefused}
+use Rattle.wb_program.specs.HostChecks.{WellDefinedChecks}
 
 -- the status and the line of an answer: the term of the file is refused, the attribute can't be asked for, its evaluation fails or needs
 -- more steps, or its value is too long to print, or is printed

@@ -8,25 +8,27 @@ ghost use Rattle.wb_certify.specs.Extensions.{IsOneExtension};
 ghost use Rattle.wb_certify_files.specs.ExtensionContents.{IsExtensionText, IsExtensionRefusal};
 ghost use Rattle.wb_certify_files.specs.HostContents.{IsHostText};
 ghost use Rattle.wb_report.specs.Lines.{report_of};
-ghost use Rattle.wb_program_words.specs.Words.{texts};
-ghost use Rattle.wb_program_inputs.specs.Contents.{ReadIs};
-ghost use Rattle.wb_program_inputs.specs.Files.{KnownFile};
-ghost use Rattle.wb_program_inputs.specs.Reads.{certified_extension, StopsAt};
-ghost use Rattle.wb_program_inputs.specs.Stopped.{outside};
-ghost use Rattle.wb_program_inputs.specs.Makes.{Answers, Makes};
+ghost use Rattle.wb_program_words.specs.Asked.{texts};
+ghost use Rattle.wb_program.specs.Inner.Contents.{ReadIs};
+ghost use Rattle.wb_program.specs.Files.{KnownFile};
+ghost use Rattle.wb_program.specs.Stops.{certified_extension, StopsAt};
+ghost use Rattle.wb_program.specs.Inner.Stopped.{outside};
+ghost use Rattle.wb_program.specs.Inner.Makes.{Answers, Makes};
 ghost use Rattle.wb_program.specs.CertifyReport.{CertifyReport, ExtensionsReport};
 ghost use Rattle.wb_program.specs.Inner.Extensions.{CertifyStops, IsFound};
 
+use crate::answer::{Answer, reported};
+use crate::composable::MOST_EXTENSIONS;
+use crate::files::{Contents, ReadFailure, named_contents};
+use crate::hosts::read_host;
+use crate::several::refused_extension;
+use crate::status::Status;
 use std::alloc::{AllocError, Global};
 use wb_base::{Bytes, Sequence};
 use wb_certify::CertifiedExtension;
 use wb_certify_files::{FileRefusal, extension_of};
 use wb_certify_host::CertifiedHost;
 use wb_operations::{Meaning, OperationTable};
-use wb_program_inputs::{
-    Answer, Contents, MOST_EXTENSIONS, ReadFailure, Status, named_contents, read_host,
-    refused_extension, reported,
-};
 use wb_report::{Done, Outcome, Refusal, SpecReason};
 use wb_world::Shelf;
 

@@ -1,19 +1,22 @@
 //! What does `check HOST` answer?
 //!
-//! Which certified host is in a file is found by `wb_program_inputs`, with whose checks other commands begin too.
+//! Which certified host is in a file is found in `hosts`, with whose checks other commands begin too.
 
 ghost use Rattle.std.specs.Prelude.{◌≡◌, IfOk, [], ◌∷◌};
 ghost use Rattle.wb_report.specs.Lines.{report_of};
-ghost use Rattle.wb_program_inputs.specs.Reads.{certified_host, StopsAt};
-ghost use Rattle.wb_program_inputs.specs.Stopped.{outside};
-ghost use Rattle.wb_program_inputs.specs.Makes.{Answers};
+ghost use Rattle.wb_program.specs.Stops.{certified_host, StopsAt};
+ghost use Rattle.wb_program.specs.Inner.Stopped.{outside};
+ghost use Rattle.wb_program.specs.Inner.Makes.{Answers};
 ghost use Rattle.wb_program.specs.CheckReport.{CheckReport};
 
+use crate::answer::{Answer, reported};
+use crate::files::ReadFailure;
+use crate::hosts::read_host;
+use crate::status::Status;
 use std::alloc::{AllocError, Global};
 use wb_base::{Bytes, Sequence};
 use wb_certify_host::CertifiedHost;
 use wb_operations::{Meaning, OperationTable};
-use wb_program_inputs::{Answer, ReadFailure, Status, read_host, reported};
 use wb_report::{Done, Outcome};
 use wb_world::Shelf;
 

@@ -1,18 +1,22 @@
 //! What does `compose HOST EXT..` answer?
 //!
-//! The host and the extensions come first, by the checks of `wb_program_inputs`, and then the language that `wb_compose` composes of them.
+//! The host and the extensions come first, by the checks of `composable`, and then the language that `wb_compose` composes of them.
 
 ghost use Rattle.std.specs.Prelude.{IfOk};
 ghost use Rattle.wb_compose.specs.Composed.{IsComposed};
 ghost use Rattle.wb_compose_texts.specs.Unions.{all_resolved};
-ghost use Rattle.wb_program_words.specs.Words.{texts};
-ghost use Rattle.wb_program_inputs.specs.Checks.{Ends};
-ghost use Rattle.wb_program_inputs.specs.ExtensionChecks.{AreApart};
-ghost use Rattle.wb_program_inputs.specs.Reads.{StopsComposed};
-ghost use Rattle.wb_program_inputs.specs.Stopped.{outside};
-ghost use Rattle.wb_program_inputs.specs.Makes.{Answers};
+ghost use Rattle.wb_program_words.specs.Asked.{texts};
+ghost use Rattle.wb_program.specs.Checks.{Ends};
+ghost use Rattle.wb_program.specs.ExtensionChecks.{AreApart};
+ghost use Rattle.wb_program.specs.Stops.{StopsComposed};
+ghost use Rattle.wb_program.specs.Inner.Stopped.{outside};
+ghost use Rattle.wb_program.specs.Inner.Makes.{Answers};
 ghost use Rattle.wb_program.specs.ComposeReport.{ComposeReport, ComposedLines};
 
+use crate::answer::{Answer, reported};
+use crate::composable::read_composable;
+use crate::files::ReadFailure;
+use crate::status::Status;
 use std::alloc::{AllocError, Global};
 use wb_base::Bytes;
 use wb_certify::CertifiedExtension;
@@ -20,7 +24,6 @@ use wb_certify_host::CertifiedHost;
 use wb_compose::{Composed, compose};
 use wb_compose_texts::withdrawn_names;
 use wb_operations::{Meaning, OperationTable};
-use wb_program_inputs::{Answer, ReadFailure, Status, read_composable, reported};
 use wb_report::{Done, Outcome};
 use wb_world::Shelf;
 

@@ -1,16 +1,27 @@
 //! Which status and which report do words and files give?
 //!
 //! One call, `workbench`, over any shelf and sink, so that its contract is the whole program's. Which words ask what is in
-//! `wb_program_words`, and what is in the files that they name in `wb_program_inputs`.
+//! `wb_program_words`; each command has a file here, and `composable`, `hosts`, `several` and `files` read what the words name.
 #![tactic(auto)]
 
+mod answer;
+mod asked;
 mod certify;
 mod check;
+mod composable;
 mod compose;
+mod files;
+mod generate;
+mod hosts;
 mod laws;
 mod program;
 mod reading;
+mod run;
+mod several;
 mod show;
+mod shown;
+mod source;
+mod status;
 mod texts;
 mod tree;
 mod value;
@@ -18,3 +29,4 @@ mod writing;
 
 pub use laws::{complete_law, one_status_law, one_text_law, shown_again_law};
 pub use program::workbench;
+pub use status::Status;

@@ -6,26 +6,30 @@ ghost use Rattle.std.specs.Prelude.{◌≡◌, ◌⊎◌, ◌≤◌, IfOk, IfErr
 ghost use Rattle.wb_world.specs.Cause.{NeverFalls, Rose};
 ghost use Rattle.wb_operations.specs.Kept.{IsKept};
 ghost use Rattle.wb_report.specs.Lines.{report_of};
-ghost use Rattle.wb_program_words.specs.Commands.{asked_by};
-ghost use Rattle.wb_program_words.specs.Words.{texts};
-ghost use Rattle.wb_program_inputs.specs.Stopped.{outside};
-ghost use Rattle.wb_program_inputs.specs.Makes.{Answers, Makes};
-ghost use Rattle.wb_program.specs.Reads.{AbsentCause, FaultCause, ComesTo, ReadsTo};
-ghost use Rattle.wb_program.specs.Report.{InCommandSet, IsReport, IsReportOf};
+ghost use Rattle.wb_program_words.specs.Asked.{asked_by, texts};
+ghost use Rattle.wb_program_words.specs.Laws.{HasFewLeaves};
+ghost use Rattle.wb_program.specs.Inner.Stopped.{outside};
+ghost use Rattle.wb_program.specs.Inner.Makes.{Answers, Makes};
+ghost use Rattle.wb_program.specs.Commands.{IsReportOf, ReadsTo};
+ghost use Rattle.wb_program.specs.Reads.{AbsentCause, FaultCause, ComesTo};
+ghost use Rattle.wb_program.specs.Report.{InCommandSet, IsReport};
 ghost use Rattle.wb_program.specs.Written.{Wrote};
-ghost use Rattle.wb_program.specs.Inner.Answered.{HasFewLeaves, Replies};
+ghost use Rattle.wb_program.specs.Inner.Answered.{Replies};
 
+use crate::answer::{Answer, reported};
 use crate::certify::answer_certify;
 use crate::check::answer_check;
 use crate::compose::answer_compose;
+use crate::files::ReadFailure;
+use crate::generate::answer_generate;
+use crate::run::answer_run;
 use crate::show::answer_show;
-use crate::texts::{answer_reading, answer_tree};
+use crate::status::Status;
+use crate::texts::{OfText, answer_of_text};
 use crate::value::answer_value;
 use crate::writing::write_report;
 use std::alloc::{AllocError, Global};
 use wb_operations::{Meaning, OperationRefusal, OperationTable};
-use wb_program_inputs::{Answer, ReadFailure, Status, reported};
-use wb_program_runs::{answer_generate, answer_run};
 use wb_program_words::{Command, command_of};
 use wb_report::Outcome;
 use wb_values::Value;
@@ -130,7 +134,15 @@ fn answer_to<S: Shelf, M: Meaning>(
             text,
             host,
             extensions,
-        } => answer_tree(alloc, shelf, text, host, extensions, operations),
+        } => answer_of_text(
+            alloc,
+            shelf,
+            OfText::Tree,
+            text,
+            host,
+            extensions,
+            operations,
+        ),
         Command::Compose { host, extensions } => {
             answer_compose(alloc, shelf, host, extensions, operations)
         }
@@ -156,7 +168,15 @@ fn answer_to<S: Shelf, M: Meaning>(
             text,
             host,
             extensions,
-        } => answer_reading(alloc, shelf, text, host, extensions, operations),
+        } => answer_of_text(
+            alloc,
+            shelf,
+            OfText::Reading,
+            text,
+            host,
+            extensions,
+            operations,
+        ),
     }
 }
 

@@ -2,14 +2,15 @@
 
 ghost use Rattle.std.specs.Prelude.{◌≡◌, IfOk};
 ghost use Rattle.wb_compose_texts.specs.Unions.{all_resolved};
-ghost use Rattle.wb_program_inputs.specs.ExtensionChecks.{AreApart};
+ghost use Rattle.wb_program.specs.ExtensionChecks.{AreApart};
 ghost use Rattle.wb_program.specs.ReadingReport.{ShownReading, TextReadingReport};
 
+use crate::answer::{Answer, reported};
+use crate::status::Status;
 use std::alloc::{AllocError, Global};
 use wb_certify::CertifiedExtension;
 use wb_certify_host::CertifiedHost;
-use wb_program_inputs::{Answer, Status, reported};
-use wb_reading_compose::{TextReading, union_reading};
+use wb_compose_texts::{TextReading, union_reading};
 use wb_report::{Done, Outcome};
 
 // The reading of a text, as an answer.

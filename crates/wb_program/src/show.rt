@@ -4,16 +4,18 @@
 
 ghost use Rattle.std.specs.Prelude.{IfOk};
 ghost use Rattle.wb_reader.specs.OneAnswer.{IsNoMemory};
-ghost use Rattle.wb_program_inputs.specs.Checks.{Ends};
-ghost use Rattle.wb_program_inputs.specs.Stopped.{outside};
-ghost use Rattle.wb_program_inputs.specs.Makes.{Answers};
+ghost use Rattle.wb_program.specs.Checks.{Ends};
+ghost use Rattle.wb_program.specs.Inner.Stopped.{outside};
+ghost use Rattle.wb_program.specs.Inner.Makes.{Answers};
 ghost use Rattle.wb_program.specs.ShowReport.{ShowReport};
 ghost use Rattle.wb_program.specs.Inner.Shown.{ContentsShow, ShowsRefusal};
 
+use crate::answer::{Answer, reported};
+use crate::files::{Contents, ReadFailure, read_file};
+use crate::status::Status;
 use std::alloc::{AllocError, Global};
 use wb_base::{Bytes, FILE_LIMIT};
 use wb_certify_shown::written_rule;
-use wb_program_inputs::{Answer, Contents, ReadFailure, Status, read_file, reported};
 use wb_reader::{SpecRefusal, read_spec};
 use wb_reader_printer::print_spec;
 use wb_report::{Outcome, Refusal};

@@ -4,28 +4,28 @@
 
 ghost use Rattle.std.specs.Prelude.{IfOk, ℕ, List};
 ghost use Rattle.wb_compose_texts.specs.Unions.{all_resolved};
-ghost use Rattle.wb_program_words.specs.Words.{texts};
-ghost use Rattle.wb_program_inputs.specs.Checks.{Check};
-ghost use Rattle.wb_program_inputs.specs.ExtensionChecks.{AreApart};
-ghost use Rattle.wb_program_inputs.specs.Reads.{StopsComposed};
-ghost use Rattle.wb_program_inputs.specs.SeveralChecks.{SeveralChecks};
-ghost use Rattle.wb_program_inputs.specs.Stopped.{outside};
-ghost use Rattle.wb_program_inputs.specs.Makes.{Answers};
-ghost use Rattle.wb_program_inputs.specs.Texts.{IsText, IsTooLongText, ReadText};
-ghost use Rattle.wb_program.specs.ReadingReport.{ReadingReport};
-ghost use Rattle.wb_program.specs.TreeReport.{TreeReport};
+ghost use Rattle.wb_program_words.specs.Asked.{texts};
+ghost use Rattle.wb_program.specs.Checks.{Check};
+ghost use Rattle.wb_program.specs.ExtensionChecks.{AreApart};
+ghost use Rattle.wb_program.specs.Stops.{StopsComposed};
+ghost use Rattle.wb_program.specs.SeveralChecks.{SeveralChecks};
+ghost use Rattle.wb_program.specs.Inner.Stopped.{outside};
+ghost use Rattle.wb_program.specs.Inner.Makes.{Answers};
+ghost use Rattle.wb_program.specs.Texts.{IsText, IsTooLongText};
+ghost use Rattle.wb_program.specs.Inner.Contents.{ReadText};
 ghost use Rattle.wb_program.specs.Inner.OfTexts.{OfTextReport};
 
+use crate::answer::{Answer, reported};
+use crate::composable::read_composable;
+use crate::files::{Contents, ReadFailure, read_file};
 use crate::reading::reading_of_text;
+use crate::status::Status;
 use crate::tree::tree_of_text;
 use std::alloc::{AllocError, Global};
 use wb_base::FILE_LIMIT;
 use wb_certify::CertifiedExtension;
 use wb_certify_host::CertifiedHost;
 use wb_operations::{Meaning, OperationTable};
-use wb_program_inputs::{
-    Answer, Contents, ReadFailure, Status, read_composable, read_file, reported,
-};
 use wb_report::Outcome;
 use wb_world::Shelf;
 
@@ -38,56 +38,8 @@ pub(crate) enum OfText {
     Reading,
 }
 
-// The answer for the tree of the text of a file, by the files.
-pub(crate) fn answer_tree<S: Shelf, M: Meaning>(
-    alloc: Global,
-    shelf: &mut S,
-    text: &str,
-    host: &str,
-    extensions: &[String],
-    operations: &OperationTable<M>,
-) -> Result<Answer, ReadFailure>
-    ensures { Answers (outside (S.files shelf.old) (S.absences shelf.old) (S.faults shelf.old)) (outside (S.files shelf.new) (S.absences shelf.new) (S.faults shelf.new))
-        result (TreeReport operations.now.signatures (S.files shelf.old) text.now host.now (texts extensions.now))
-        (λ P. StopsComposed operations.now.signatures (S.files shelf.old) host.now (texts extensions.now) P (λ r values. P text.now)) }
-{
-    answer_of_text(
-        alloc,
-        shelf,
-        OfText::Tree,
-        text,
-        host,
-        extensions,
-        operations,
-    )
-}
-
-// The answer for the reading of the text of a file, by the files.
-pub(crate) fn answer_reading<S: Shelf, M: Meaning>(
-    alloc: Global,
-    shelf: &mut S,
-    text: &str,
-    host: &str,
-    extensions: &[String],
-    operations: &OperationTable<M>,
-) -> Result<Answer, ReadFailure>
-    ensures { Answers (outside (S.files shelf.old) (S.absences shelf.old) (S.faults shelf.old)) (outside (S.files shelf.new) (S.absences shelf.new) (S.faults shelf.new))
-        result (ReadingReport operations.now.signatures (S.files shelf.old) text.now host.now (texts extensions.now))
-        (λ P. StopsComposed operations.now.signatures (S.files shelf.old) host.now (texts extensions.now) P (λ r values. P text.now)) }
-{
-    answer_of_text(
-        alloc,
-        shelf,
-        OfText::Reading,
-        text,
-        host,
-        extensions,
-        operations,
-    )
-}
-
 // The answer for the text of a file in the language of a host with extensions, by their files.
-fn answer_of_text<S: Shelf, M: Meaning>(
+pub(crate) fn answer_of_text<S: Shelf, M: Meaning>(
     alloc: Global,
     shelf: &mut S,
     asked: OfText,

@@ -3,15 +3,16 @@
 ghost use Rattle.std.specs.Prelude.{◌≡◌, IfOk};
 ghost use Rattle.wb_compose.specs.Composed.{IsComposed};
 ghost use Rattle.wb_compose_texts.specs.Unions.{all_resolved};
-ghost use Rattle.wb_program_inputs.specs.ExtensionChecks.{AreApart};
+ghost use Rattle.wb_program.specs.ExtensionChecks.{AreApart};
 ghost use Rattle.wb_program.specs.TreeReport.{ShownText, TextReport};
 
+use crate::answer::{Answer, reported};
+use crate::status::Status;
 use std::alloc::{AllocError, Global};
 use wb_certify::CertifiedExtension;
 use wb_certify_host::CertifiedHost;
 use wb_compose::{Composed, compose};
 use wb_compose_texts::{TextAnswer, united_text_answer};
-use wb_program_inputs::{Answer, Status, reported};
 use wb_report::{Done, Outcome};
 
 // The tree of a text, or its stop, as an answer.

@@ -7,20 +7,22 @@ ghost use Rattle.wb_flow_theory.specs.Modular.{EachProduction};
 ghost use Rattle.wb_flow_theory.specs.WellDefined.{IsWellDefinedProduction};
 ghost use Rattle.wb_operations.specs.Kept.{IsKept};
 ghost use Rattle.wb_types.specs.Rules.{KindsOk};
-ghost use Rattle.wb_program_inputs.specs.Checks.{Check};
-ghost use Rattle.wb_program_inputs.specs.Reads.{well_defined_host, written_term, StopsAt};
-ghost use Rattle.wb_program_inputs.specs.Stopped.{outside};
-ghost use Rattle.wb_program_inputs.specs.Makes.{Answers};
-ghost use Rattle.wb_program_inputs.specs.Texts.{IsText, IsTooLongText, ReadText};
+ghost use Rattle.wb_program.specs.Checks.{Check};
+ghost use Rattle.wb_program.specs.Stops.{well_defined_host, written_term, StopsAt};
+ghost use Rattle.wb_program.specs.Inner.Stopped.{outside};
+ghost use Rattle.wb_program.specs.Inner.Makes.{Answers};
+ghost use Rattle.wb_program.specs.Texts.{IsText, IsTooLongText};
+ghost use Rattle.wb_program.specs.Inner.Contents.{ReadText};
 ghost use Rattle.wb_program.specs.ValueReport.{RootReport, TermReport, ValueReport};
 
+use crate::answer::{Answer, reported};
+use crate::files::{Contents, ReadFailure, read_file};
+use crate::hosts::read_well_defined;
+use crate::status::Status;
 use std::alloc::{AllocError, Global};
 use wb_base::{Bytes, FILE_LIMIT, Sequence};
 use wb_eval_root::{RootAnswer, root_value};
 use wb_operations::{Meaning, OperationRefusal, OperationTable};
-use wb_program_inputs::{
-    Answer, Contents, ReadFailure, Status, read_file, read_well_defined, reported,
-};
 use wb_report::{Done, Outcome, Refusal, TermReason};
 use wb_syntax_resolved::Attribution;
 use wb_values::Value;

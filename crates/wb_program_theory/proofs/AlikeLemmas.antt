@@ -17,8 +17,8 @@ use Rattle.wb_report.specs.declared.outcome.Outcome.TheVariants as o
 use Rattle.wb_report.specs.declared.refusal.Refusal.{Refusal}
 use Rattle.wb_syntax.specs.SpecText.{SpecView}
 use Rattle.wb_world.specs.Shelf.{Files}
-use Rattle.wb_program_inputs.proofs.OneCheck.{on_file}
-use Rattle.wb_program_inputs.specs.Files.{FileIs}
+use Rattle.wb_program.proofs.OneCheck.{on_file}
+use Rattle.wb_program.specs.Files.{FileIs}
 use Rattle.wb_program_theory.specs.Codes.{IsOfWritten, ShowOneCode, code_of}
 use Rattle.wb_program_theory.proofs.AttributeCodes.{Coded, coded, none_some}
 use Rattle.wb_program_theory.proofs.ChainLemmas.{First, HasOne, NoneLeft, first_one, go_on, none_one}

@@ -12,22 +12,23 @@ use Rattle.wb_eval_root.specs.declared.value.TreeValue.TheVariants as t
 use Rattle.wb_generate.specs.declared.generated.Generated.{Generated}
 use Rattle.wb_generate.specs.declared.generated.Generated.TheVariants as g
 use Rattle.wb_operations.specs.Operations.{OperationSignature, Operations}
-use Rattle.wb_reading_compose.specs.declared.answer.TextReading.{TextReading}
-use Rattle.wb_reading_compose.specs.declared.answer.TextReading.TheVariants as reading
+use Rattle.wb_compose_texts.specs.declared.text_reading.TextReading.{TextReading}
+use Rattle.wb_compose_texts.specs.declared.text_reading.TextReading.TheVariants as reading
 use Rattle.wb_report.specs.declared.done.Done.{Done}
 use Rattle.wb_report.specs.declared.done.Done.TheVariants as done
 use Rattle.wb_syntax_resolved.specs.declared.resolved.ResolvedParts.{ResolvedParts}
 use Rattle.wb_world.specs.Shelf.{Files}
-use Rattle.wb_program_inputs.specs.Checks.{Report}
-use Rattle.wb_program_inputs.specs.Files.{KnownFile}
-use Rattle.wb_program_inputs.specs.SeveralChecks.{AreEach, EachChecks, SeveralChecks}
-use Rattle.wb_program_inputs.specs.declared.status.Status.{Status}
-use Rattle.wb_program_inputs.proofs.Excludes.{ExcludesExtensions, ExcludesHeaders, not_few}
-use Rattle.wb_program_inputs.proofs.OneCheck.{on_file}
-use Rattle.wb_program_inputs.proofs.OneSeveralReport.{one_values, refused_or_all}
-use Rattle.wb_program_runs.specs.GenerateReport.{GenerateChecks, ShownMade}
-use Rattle.wb_program_runs.specs.RunReport.{RunChecks}
-use Rattle.wb_program_runs.specs.Values.{ShownTextValue, ShownTreeValue}
+use Rattle.wb_program.specs.Checks.{Report}
+use Rattle.wb_program.specs.Files.{KnownFile}
+use Rattle.wb_program.specs.SeveralChecks.{AreEach, EachChecks, SeveralChecks}
+use Rattle.wb_program.specs.declared.status.Status.{Status}
+use Rattle.wb_program.specs.Inner.Below.{ExcludesExtensions, ExcludesHeaders}
+use Rattle.wb_program.proofs.Excludes.{not_few}
+use Rattle.wb_program.proofs.OneCheck.{on_file}
+use Rattle.wb_program.proofs.OneSeveralReport.{one_values, refused_or_all}
+use Rattle.wb_program.specs.GenerateReport.{GenerateChecks, ShownMade}
+use Rattle.wb_program.specs.RunReport.{RunChecks}
+use Rattle.wb_program.specs.Values.{ShownTextValue, ShownTreeValue}
 use Rattle.wb_program.specs.ReadingReport.{ShownReading}
 use Rattle.wb_program.specs.TreeReport.{ShownText}
 use Rattle.wb_program_theory.specs.Certified.{AreCertified, ComposeChecks, HaveNoRefusal, HaveOneValue, IsItsRest, IsRefusalStatus}

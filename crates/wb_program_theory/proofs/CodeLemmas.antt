@@ -11,17 +11,17 @@ use Rattle.wb_report.specs.declared.done.Done.TheVariants as done
 use Rattle.wb_report.specs.declared.outcome.Outcome.TheVariants as o
 use Rattle.wb_syntax_resolved.specs.declared.resolved.ResolvedParts.{ResolvedParts}
 use Rattle.wb_world.specs.Shelf.{Files}
-use Rattle.wb_program_inputs.proofs.Excludes.{ExcludesExtensions, ExcludesHeaders}
-use Rattle.wb_program_inputs.specs.Checks.{Ends}
-use Rattle.wb_program_inputs.specs.declared.status.Status.{Status}
-use Rattle.wb_program_inputs.specs.declared.status.Status.TheVariants as st
-use Rattle.wb_program_runs.specs.GenerateReport.{GenerateChecks}
-use Rattle.wb_program_runs.specs.RunReport.{RunChecks}
+use Rattle.wb_program.specs.Inner.Below.{ExcludesExtensions, ExcludesHeaders}
+use Rattle.wb_program.specs.Checks.{Ends}
+use Rattle.wb_program.specs.declared.status.Status.{Status}
+use Rattle.wb_program.specs.declared.status.Status.TheVariants as st
+use Rattle.wb_program.specs.GenerateReport.{GenerateChecks}
+use Rattle.wb_program.specs.RunReport.{RunChecks}
 use Rattle.wb_program_words.proofs.OneAsked.{one_asked}
 use Rattle.wb_program_words.specs.Asked.{Asked}
+use Rattle.wb_program_words.specs.Asked as a
 use Rattle.wb_program.specs.Laws.{HaveOneStatus}
-use Rattle.wb_program.specs.Report.{IsReportOf, certify_report, check_report, compose_report, generate_report, run_report, show_report}
-use Rattle.wb_program.specs.Report.{reading_report, tree_report, value_report}
+use Rattle.wb_program.specs.Commands.{IsReportOf}
 use Rattle.wb_program.specs.ShowReport.{ShowReport}
 use Rattle.wb_program.specs.ValueReport.{RootReport, ValueReport}
 use Rattle.wb_program_theory.specs.Certified.{ComposeChecks, IsRefusalStatus, ReadingChecks, TreeChecks}
@@ -92,26 +92,26 @@ module _ (extensions : ExcludesExtensions) (headers : ExcludesHeaders) (marks : 
       -- two reports of what is asked show one code
       asked_code : (asked : Asked) → IsReportOf operations (Some files) s bytes asked → IsReportOf operations (Some files) t others asked
           → ShowOneCode bytes others
-      asked_code asked (value_report {host = host} {term = term} {attribute = attribute} x) (value_report y) =
+      asked_code (a.value host term attribute) x y =
           value_code operations files host term attribute s t bytes others code code' x y
-      asked_code asked (show_report {file = file} x) (show_report y) = show_code files file s t bytes others code code' x y
-      asked_code asked (check_report {host = host} x) (check_report y) =
+      asked_code (a.show file) x y = show_code files file s t bytes others code code' x y
+      asked_code (a.check host) x y =
           one_file_code extensions headers marks operations.signatures files host [] bytes others
           (host_refused extensions headers marks operations.signatures files s bytes code host []
           (λ r. Ends st.Done (λ line. line ≡ report_of (o.Done (done.Certified r.host [])))) (λ r end. coding s st.Done code end.0) x)
           (host_refused extensions headers marks operations.signatures files t others code' host []
           (λ r. Ends st.Done (λ line. line ≡ report_of (o.Done (done.Certified r.host [])))) (λ r end. coding t st.Done code' end.0) y)
-      asked_code asked (certify_report {host = host} {extensions = all} x) (certify_report y) =
+      asked_code (a.certify host all) x y =
           one_file_code extensions headers marks operations.signatures files host all bytes others
           (certify_refused extensions headers marks operations.signatures files s bytes code host all x)
           (certify_refused extensions headers marks operations.signatures files t others code' host all y)
-      asked_code asked (compose_report {host = host} {extensions = all} x) (compose_report y) =
+      asked_code (a.compose host all) x y =
           one_file_code extensions headers marks operations.signatures files host all bytes others
           (several_refused extensions headers marks operations.signatures files s bytes code host all (ComposeChecks operations.signatures)
           (λ r values report. compose_well operations files r values s bytes report (refuses s code)) x)
           (several_refused extensions headers marks operations.signatures files t others code' host all (ComposeChecks operations.signatures)
           (λ r values report. compose_well operations files r values t others report (refuses t code')) y)
-      asked_code asked (tree_report {text = text} {host = host} {extensions = all} x) (tree_report y) =
+      asked_code (a.tree text host all) x y =
           one_file_code extensions headers marks operations.signatures files host all bytes others
           (several_refused extensions headers marks operations.signatures files s bytes code host all
           (TreeChecks operations.signatures (Some files) text)
@@ -119,7 +119,7 @@ module _ (extensions : ExcludesExtensions) (headers : ExcludesHeaders) (marks : 
           (several_refused extensions headers marks operations.signatures files t others code' host all
           (TreeChecks operations.signatures (Some files) text)
           (λ r values report. tree_well operations files r values text t others report (refuses t code')) y)
-      asked_code asked (run_report {text = text} {attribute = name} {host = host} {steps = steps} {extensions = all} x) (run_report y) =
+      asked_code (a.run text name steps host all) x y =
           one_file_code extensions headers marks operations.signatures files host all bytes others
           (several_refused extensions headers marks operations.signatures files s bytes code host all
           (RunChecks operations (Some files) text name steps)
@@ -127,8 +127,7 @@ module _ (extensions : ExcludesExtensions) (headers : ExcludesHeaders) (marks : 
           (several_refused extensions headers marks operations.signatures files t others code' host all
           (RunChecks operations (Some files) text name steps)
           (λ r values report. run_well operations files r values text name steps t others report (refuses t code')) y)
-      asked_code asked (generate_report {number = number} {size = size} {attribute = name} {host = host} {extensions = all} x)
-          (generate_report y) =
+      asked_code (a.generate number size name host all) x y =
           one_file_code extensions headers marks operations.signatures files host all bytes others
           (several_refused extensions headers marks operations.signatures files s bytes code host all
           (GenerateChecks operations number size name)
@@ -136,7 +135,7 @@ module _ (extensions : ExcludesExtensions) (headers : ExcludesHeaders) (marks : 
           (several_refused extensions headers marks operations.signatures files t others code' host all
           (GenerateChecks operations number size name)
           (λ r values report. generate_well operations files r values number size name t others report (refuses t code')) y)
-      asked_code asked (reading_report {text = text} {host = host} {extensions = all} x) (reading_report y) =
+      asked_code (a.reading text host all) x y =
           one_file_code extensions headers marks operations.signatures files host all bytes others
           (several_refused extensions headers marks operations.signatures files s bytes code host all
           (ReadingChecks operations.signatures (Some files) text)

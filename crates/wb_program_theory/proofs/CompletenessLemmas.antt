@@ -8,12 +8,12 @@ use Rattle.wb_eval_theory.proofs.EnoughLemmas.{more_enough, some_enough}
 use Rattle.wb_eval_theory.specs.Instances.{root, synthesized_at}
 use Rattle.wb_eval_theory.specs.Walks as walk
 use Rattle.wb_operations.specs.Operations.{Operations}
-use Rattle.wb_program_inputs.proofs.Excludes.{ExcludesExtensions, ExcludesHeaders}
-use Rattle.wb_program_inputs.specs.declared.status.Status.{Status}
-use Rattle.wb_program_inputs.specs.declared.status.Status.TheVariants.{Done, NotCertified, SpecRefused}
-use Rattle.wb_program_runs.specs.RunReport.{RunChecks}
+use Rattle.wb_program.specs.Inner.Below.{ExcludesExtensions, ExcludesHeaders}
+use Rattle.wb_program.specs.declared.status.Status.{Status}
+use Rattle.wb_program.specs.declared.status.Status.TheVariants.{Done, NotCertified, SpecRefused}
+use Rattle.wb_program.specs.RunReport.{RunChecks}
 use Rattle.wb_program.specs.Laws.{HaveOneStatus, HaveOneText}
-use Rattle.wb_program.specs.Report.{IsReport, run_report}
+use Rattle.wb_program.specs.Report.{IsReport}
 use Rattle.wb_program.specs.Written.{Wrote, WrotePrefix}
 use Rattle.wb_program_words.specs.Asked as a
 use Rattle.wb_report.specs.Lines.{report_of}
@@ -60,7 +60,7 @@ module _ (one_status : HaveOneStatus) (one_text : HaveOneText) where
       (inr (record {
         asked = a.run text name steps host all;
         asks = asks;
-        report = run_report (reports extensions headers operations.signatures files host all r values are
+        report = (reports extensions headers operations.signatures files host all r values are
             (RunChecks operations (Some files) text name steps) Done (report_of (o.Done (done.Value name printed)))
             (inr (
               comes.is.attribute,

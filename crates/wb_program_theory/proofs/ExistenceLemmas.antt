@@ -20,8 +20,8 @@ use Rattle.wb_operations.specs.Operations.{OperationSignature}
 use Rattle.wb_syntax_resolved.specs.Resolved.{IsResolved}
 use Rattle.wb_syntax_resolved.specs.declared.resolved.ResolvedParts.{ResolvedParts}
 use Rattle.wb_world.specs.Shelf.{Files}
-use Rattle.wb_program_inputs.specs.Files.{FileIs}
-use Rattle.wb_program_inputs.specs.SeveralChecks.{AreEach, IsNextText, names_of}
+use Rattle.wb_program.specs.Files.{FileIs}
+use Rattle.wb_program.specs.SeveralChecks.{AreEach, IsNextText, names_of}
 use Rattle.wb_program_theory.specs.Certified.{AreCertified}
 use Rattle.wb_program_theory.specs.Existence.{ComesToAnswer}
 use Rattle.wb_program_theory.proofs.FileLemmas.{all_differ}

@@ -16,8 +16,8 @@ use Rattle.wb_compose_theory_order.proofs.NumberLemmas.{reordering_map}
 use Rattle.wb_syntax_resolved.specs.declared.resolved.ResolvedParts.{ResolvedParts}
 use Rattle.wb_syntax.specs.SpecText.{SpecView}
 use Rattle.wb_world.specs.Shelf.{Files}
-use Rattle.wb_program_inputs.specs.Files.{FileIs}
-use Rattle.wb_program_inputs.specs.SeveralChecks.{AreEach, HasName, IsNextText, names_of}
+use Rattle.wb_program.specs.Files.{FileIs}
+use Rattle.wb_program.specs.SeveralChecks.{AreEach, HasName, IsNextText, names_of}
 
 -- a fact of a file that another follows from
 pub file_is : (file : Option (List ℕ)) (P Q : List ℕ → Type 0) → ((contents : List ℕ) → P contents → Q contents) → FileIs file P → FileIs file Q

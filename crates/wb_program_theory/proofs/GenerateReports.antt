@@ -22,15 +22,12 @@ use Rattle.wb_scan_theory.proofs.AnswersExist.{answer_exists}
 use Rattle.wb_scan_theory.specs.Bounds.{HasNoCycle}
 use Rattle.wb_syntax_resolved.specs.declared.resolved.ResolvedParts.{ResolvedParts}
 use Rattle.wb_world.specs.Shelf.{Files}
-use Rattle.wb_program_inputs.proofs.Excludes.{ExcludesExtensions, ExcludesHeaders}
-use Rattle.wb_program_inputs.specs.SeveralChecks.{names_of}
-use Rattle.wb_program_inputs.specs.declared.status.Status.TheVariants as s
-use Rattle.wb_program_runs.specs.GenerateReport.{GenerateChecks}
-use Rattle.wb_program_words.specs.Asked.{Asked}
+use Rattle.wb_program.specs.Inner.Below.{ExcludesExtensions, ExcludesHeaders}
+use Rattle.wb_program.specs.SeveralChecks.{names_of}
+use Rattle.wb_program.specs.declared.status.Status.TheVariants as s
+use Rattle.wb_program.specs.GenerateReport.{GenerateChecks}
 use Rattle.wb_program_words.specs.Asked as a
-use Rattle.wb_program_words.specs.Words.{Given, Says, Verb}
-use Rattle.wb_program_words.specs.Words as w
-use Rattle.wb_program.specs.Report.{generate_report}
+use Rattle.wb_program_words.proofs.FewLeaves.{few_leaves}
 use Rattle.wb_program_theory.specs.Existence.{ComesToAnswer}
 use Rattle.wb_program_theory.specs.Matching.{AllMatch}
 use Rattle.wb_program_theory.specs.Reported.{HaveGenerateReport, IsAny, IsReported}
@@ -39,23 +36,6 @@ use Rattle.wb_program_theory.proofs.ExistenceLemmas.{comes_to_answer}
 use Rattle.wb_program_theory.proofs.ExpressionsExist.{names_below, some_expressions}
 use Rattle.wb_program_theory.proofs.FileLemmas.{all_differ}
 use Rattle.wb_program_theory.proofs.RunReports.{text_reported}
-
--- the size is within its limit
-small_enough : {verb : Verb} {options : List Given} {positional : List (List ℕ)} {asked : Asked} → Says verb options positional asked
-    → (number size : ℕ) (name host : List ℕ) (extensions : List (List ℕ)) → asked ≡ a.generate number size name host extensions → size ≤ 100000
-small_enough (w.says_generate {number = n} {size = k} among given sized attribute) number size name host extensions is =
-    subst (λ z. z ≤ 100000) (size_is is) sized.high
-  where
-    size_is : {n m k l : ℕ} {x y h i : List ℕ} {xs ys : List (List ℕ)} → a.generate n k x h xs ≡ a.generate m l y i ys → k ≡ l
-    size_is e = cc
-small_enough w.says_value number size name host extensions is = absurd (cc)
-small_enough w.says_show number size name host extensions is = absurd (cc)
-small_enough w.says_check number size name host extensions is = absurd (cc)
-small_enough w.says_certify number size name host extensions is = absurd (cc)
-small_enough w.says_compose number size name host extensions is = absurd (cc)
-small_enough (w.says_tree among given) number size name host extensions is = absurd (cc)
-small_enough (w.says_run among given attribute steps) number size name host extensions is = absurd (cc)
-small_enough (w.says_reading among given) number size name host extensions is = absurd (cc)
 
 module _ (operations : Operations) (r : ResolvedParts) (values : List ResolvedParts) (differ : Differ (names_of values))
     (are : AreOperations operations) (match : AllMatch r values) (name : List ℕ) (number size : ℕ) (small : size ≤ 100000)
@@ -149,14 +129,14 @@ have_generate_report excludes headers operations words files number size name ho
     bind (comes_to_answer operations.signatures files host all r values are []) (λ x.
     bind (decide ((attribute : ℕ) × IsAskedIn r operations.signatures values x.whole name attribute)) (λ one.
     follows (checked operations r values (all_differ operations.signatures files r all values are.each) ops match name number size
-    (small_enough asks.says number size name host all refl) x one) (λ rest. record {
+    (few_leaves words (a.generate number size name host all) asks number size name host all refl) x one) (λ rest. record {
       status = rest.status;
       bytes = rest.bytes;
       such = tt;
       is = inr (record {
         asked = a.generate number size name host all;
         asks = asks;
-        report = generate_report (reports excludes headers operations.signatures files host all r values are
-            (GenerateChecks operations number size name) rest.status rest.bytes rest.is);
+        report = reports excludes headers operations.signatures files host all r values are
+            (GenerateChecks operations number size name) rest.status rest.bytes rest.is;
       });
     })))

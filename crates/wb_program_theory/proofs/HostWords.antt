@@ -2,15 +2,16 @@
 use Rattle.std.proofs.Common.{◌≡◌, ◌≢◌, [], ℕ, List, Some, inl, inr, subst, sym}
 use Rattle.wb_operations.specs.Operations.{Operations}
 use Rattle.wb_world.specs.Shelf.{Files}
-use Rattle.wb_program_inputs.proofs.Excludes.{ExcludesExtensions, ExcludesHeaders}
-use Rattle.wb_program_inputs.specs.declared.status.Status.{Status}
-use Rattle.wb_program_inputs.specs.declared.status.Status.TheVariants.{NotCertified, SpecRefused}
+use Rattle.wb_program.specs.Inner.Below.{ExcludesExtensions, ExcludesHeaders}
+use Rattle.wb_program.specs.declared.status.Status.{Status}
+use Rattle.wb_program.specs.declared.status.Status.TheVariants.{NotCertified, SpecRefused}
 use Rattle.wb_program_words.proofs.OneAsked.{one_asked}
 use Rattle.wb_program_words.specs.Asked.{Asked}
 use Rattle.wb_program_words.specs.Asked as a
 use Rattle.wb_program_words.specs.Words.{Asks}
 use Rattle.wb_program.specs.Laws.{HaveOneStatus, HaveOneText}
-use Rattle.wb_program.specs.Report.{IsReport, IsReportOf, run_report, tree_report}
+use Rattle.wb_program.specs.Commands.{IsReportOf}
+use Rattle.wb_program.specs.Report.{IsReport}
 use Rattle.wb_program_theory.specs.Certified.{HaveNoRefusal, IsRefusalStatus}
 use Rattle.wb_program_theory.specs.ReadingWords.{HaveEqualReports, HaveHostRunOfWords, HaveHostTreeOfWords}
 use Rattle.wb_program_theory.proofs.CertifiedLemmas.{no_refusal}
@@ -58,9 +59,9 @@ module _ (one_status : HaveOneStatus) (one_text : HaveOneText) where
       where
         goes : (end : Status) (ends : List ℕ) → IsReportOf operations (Some files) end ends (a.tree text host [])
             → IsReportOf operations (Some files) end ends (a.tree text host all) × ¬ IsRefusalStatus end
-        goes end ends (tree_report report) =
+        goes end ends report =
             let none = none_refused operations files text host all (holds_plain operations.signatures files text host all reading) in (
-              tree_report (host_tree excludes headers operations.signatures files text host all end ends reading report),
+              host_tree excludes headers operations.signatures files text host all end ends reading report,
               (none.tree text).accepted end ends report,
             )
 
@@ -70,8 +71,8 @@ module _ (one_status : HaveOneStatus) (one_text : HaveOneText) where
       where
         goes : (end : Status) (ends : List ℕ) → IsReportOf operations (Some files) end ends (a.run text name steps host [])
             → IsReportOf operations (Some files) end ends (a.run text name steps host all) × ¬ IsRefusalStatus end
-        goes end ends (run_report report) =
+        goes end ends report =
             let none = none_refused operations files text host all (holds_plain operations.signatures files text host all reading) in (
-              run_report (host_run excludes headers operations files text name steps host all end ends reading of_file report),
+              host_run excludes headers operations files text name steps host all end ends reading of_file report,
               (none.run text name steps).accepted end ends report,
             )

@@ -9,12 +9,11 @@ use Rattle.wb_report.specs.declared.done.Done.TheVariants as done
 use Rattle.wb_report.specs.declared.outcome.Outcome.TheVariants as o
 use Rattle.wb_syntax_resolved.specs.declared.resolved.ResolvedParts.{ResolvedParts}
 use Rattle.wb_world.specs.Shelf.{Files}
-use Rattle.wb_program_inputs.proofs.Excludes.{ExcludesExtensions, ExcludesHeaders}
-use Rattle.wb_program_inputs.specs.SeveralChecks.{AreEach, IsNextText}
-use Rattle.wb_program_inputs.specs.declared.status.Status.TheVariants.{Done}
+use Rattle.wb_program.specs.Inner.Below.{ExcludesExtensions, ExcludesHeaders}
+use Rattle.wb_program.specs.SeveralChecks.{AreEach, IsNextText}
+use Rattle.wb_program.specs.declared.status.Status.TheVariants.{Done}
 use Rattle.wb_program_words.specs.Asked as a
 use Rattle.wb_program.specs.CertifyReport.{ExtensionsReport}
-use Rattle.wb_program.specs.Report.{certify_report, check_report, compose_report}
 use Rattle.wb_program_theory.specs.Certified.{ComposeChecks}
 use Rattle.wb_program_theory.specs.Reported.{HaveCertifyReport, HaveCheckReport, HaveComposeReport, IsDone, IsReported}
 use Rattle.wb_program_theory.proofs.CertifiedLemmas.{reports}
@@ -27,7 +26,7 @@ have_check_report operations words files host r asks is_host = record {
   status = Done;
   bytes = report_of (o.Done (done.Certified r.host []));
   such = refl;
-  is = inr (record { asked = a.check host; asks = asks; report = check_report (inr (inr (r, is_host, (refl, refl)))) });
+  is = inr (record { asked = a.check host; asks = asks; report = inr (inr (r, is_host, (refl, refl))) });
 }
 
 -- certified extensions, after some of these names
@@ -67,7 +66,7 @@ have_certify_report operations words files host all r values asks are =
       is = inr (record {
         asked = a.certify host all;
         asks = asks;
-        report = certify_report (inr (are.few, inr (inr (r, are.is_host, each.is))));
+        report = inr (are.few, inr (inr (r, are.is_host, each.is)));
       });
     }
 
@@ -82,8 +81,8 @@ have_compose_report excludes headers operations words files host all r values as
       is = inr (record {
         asked = a.compose host all;
         asks = asks;
-        report = compose_report (reports excludes headers operations.signatures files host all r values are
+        report = reports excludes headers operations.signatures files host all r values are
             (ComposeChecks operations.signatures) Done line
-            (refl, record { names = names; withdrawn = withdrawn; lines = refl }));
+            (refl, record { names = names; withdrawn = withdrawn; lines = refl });
       });
     })

@@ -14,7 +14,7 @@ use Rattle.wb_grammar_theory.specs.Trees.{IsDerived}
 use Rattle.wb_certify.specs.Kept.{AreCertifiedBoth}
 use Rattle.wb_compose.specs.Joined.{AreCertifiedApart, Extended}
 use Rattle.wb_compose.specs.Written.{name_in}
-use Rattle.wb_compose.proofs.InRange.{grammar_of, in_range}
+use Rattle.wb_determinism_beside.proofs.InRange.{grammar_of, in_range}
 use Rattle.wb_scan_theory.specs.declared.stop_kind.StopKind.{StopKind}
 use Rattle.wb_scan_theory.specs.Languages.{LanguageView}
 use Rattle.wb_scan_theory.specs.Texts.{StopsAt}

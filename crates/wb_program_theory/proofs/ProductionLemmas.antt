@@ -10,7 +10,7 @@ use Rattle.wb_grammar_theory.proofs.ProductionLemmas.{production_within}
 use Rattle.wb_certify.specs.Kept.{AreCertifiedBoth}
 use Rattle.wb_compose.specs.Joined.{Extended}
 use Rattle.wb_compose.specs.Written.{written_in}
-use Rattle.wb_compose.proofs.InRange.{grammar_of}
+use Rattle.wb_determinism_beside.proofs.InRange.{grammar_of}
 use Rattle.wb_scan_theory.specs.Shown.{Shows, values_of}
 use Rattle.wb_compose_theory_lists.specs.Additions.{Rows}
 use Rattle.wb_operations.specs.Operations.{OperationSignature}

@@ -3,27 +3,27 @@ use Rattle.std.proofs.Common.{◌≡◌, ◌≤◌, ◌∙◌, ◌∷◌, [], �
 use Rattle.wb_base.specs.Different.{Differ}
 use Rattle.wb_certify_files.specs.HostContents.{IsHostText}
 use Rattle.wb_operations.specs.Operations.{OperationSignature, Operations}
-use Rattle.wb_reading_compose.specs.Readings.{IsUnionReading}
-use Rattle.wb_reading_compose.specs.declared.answer.TextReading.{TextReading}
-use Rattle.wb_reading_compose.specs.declared.answer.TextReading.TheVariants as reading
-use Rattle.wb_reading_compose.specs.HostReadings.{HasHostReading}
-use Rattle.wb_reading_compose.specs.Roots.{HasSameRoots, IsHostAttribute}
-use Rattle.wb_reading_compose.proofs.AnswerLemmas.{answer_there}
-use Rattle.wb_reading_compose.proofs.AskedLemmas.{same_roots}
-use Rattle.wb_reading_compose.proofs.ValueLemmas.{text_value_there}
+use Rattle.wb_compose_texts.specs.Readings.{IsUnionReading}
+use Rattle.wb_compose_texts.specs.declared.text_reading.TextReading.{TextReading}
+use Rattle.wb_compose_texts.specs.declared.text_reading.TextReading.TheVariants as reading
+use Rattle.wb_compose_texts.specs.HostReadings.{HasHostReading}
+use Rattle.wb_compose_texts.specs.SameRoots.{HasSameRoots, IsHostAttribute}
+use Rattle.wb_compose_texts.proofs.PlainLemmas.{answer_there}
+use Rattle.wb_compose_texts.proofs.AskedLemmas.{same_roots}
+use Rattle.wb_compose_texts.proofs.ValueLemmas.{text_value_there}
 use Rattle.wb_report.specs.Lines.{report_of}
 use Rattle.wb_report.specs.declared.done.Done.TheVariants as done
 use Rattle.wb_report.specs.declared.outcome.Outcome.TheVariants as o
 use Rattle.wb_syntax_resolved.specs.declared.resolved.ResolvedParts.{ResolvedParts}
 use Rattle.wb_world.specs.Shelf.{Files}
-use Rattle.wb_program_inputs.proofs.Excludes.{ExcludesExtensions, ExcludesHeaders}
-use Rattle.wb_program_inputs.proofs.OneCheck.{on_file}
-use Rattle.wb_program_inputs.specs.Files.{KnownFile}
-use Rattle.wb_program_inputs.specs.SeveralChecks.{names_of}
-use Rattle.wb_program_inputs.specs.Texts.{IsText}
-use Rattle.wb_program_inputs.specs.declared.status.Status.{Status}
-use Rattle.wb_program_inputs.specs.declared.status.Status.TheVariants.{Done}
-use Rattle.wb_program_runs.specs.RunReport.{RunChecks}
+use Rattle.wb_program.specs.Inner.Below.{ExcludesExtensions, ExcludesHeaders}
+use Rattle.wb_program.proofs.OneCheck.{on_file}
+use Rattle.wb_program.specs.Files.{KnownFile}
+use Rattle.wb_program.specs.SeveralChecks.{names_of}
+use Rattle.wb_program.specs.Texts.{IsText}
+use Rattle.wb_program.specs.declared.status.Status.{Status}
+use Rattle.wb_program.specs.declared.status.Status.TheVariants.{Done}
+use Rattle.wb_program.specs.RunReport.{RunChecks}
 use Rattle.wb_program.specs.ReadingReport.{ReadingReport, ShownReading, TextReadingReport}
 use Rattle.wb_program_theory.specs.Certified.{AreCertified, ReadingChecks, TreeChecks}
 use Rattle.wb_program_theory.specs.ReadingLaws.{HaveHostRun, HaveHostTree, IsAttributeOf, ReportsHostReading}

@@ -3,21 +3,20 @@ use Rattle.std.proofs.Common.{◌≡◌, ◌<◌, ◌≤◌, ◌⊎◌, ℕ, Lis
 use Rattle.wb_compose_texts.specs.Names.{name_at, terminals_of}
 use Rattle.wb_lemmas.proofs.NotNot.{bind, certain, follows}
 use Rattle.wb_operations.specs.Operations.{OperationSignature, Operations}
-use Rattle.wb_reading_compose.specs.declared.answer.TextReading.TheVariants as reading
-use Rattle.wb_reading_compose.specs.UnionMarkers.{union_markers}
+use Rattle.wb_compose_texts.specs.declared.text_reading.TextReading.TheVariants as reading
+use Rattle.wb_compose_texts.specs.UnionMarkers.{union_markers}
 use Rattle.wb_reading_theory.specs.Markers.{IsMarkerAt}
 use Rattle.wb_report.specs.Lines.{report_of}
 use Rattle.wb_report.specs.declared.done.Done.TheVariants as done
 use Rattle.wb_report.specs.declared.outcome.Outcome.TheVariants as o
 use Rattle.wb_syntax_resolved.specs.declared.resolved.ResolvedParts.{ResolvedParts}
 use Rattle.wb_world.specs.Shelf.{Files}
-use Rattle.wb_program_inputs.proofs.Excludes.{ExcludesExtensions, ExcludesHeaders}
-use Rattle.wb_program_inputs.specs.Files.{FileIs}
-use Rattle.wb_program_inputs.specs.declared.status.Status.TheVariants.{Done, TextTooLong}
+use Rattle.wb_program.specs.Inner.Below.{ExcludesExtensions, ExcludesHeaders}
+use Rattle.wb_program.specs.Files.{FileIs}
+use Rattle.wb_program.specs.declared.status.Status.TheVariants.{Done, TextTooLong}
 use Rattle.wb_program_words.specs.Asked as a
 use Rattle.wb_program_words.specs.Words.{Asks}
 use Rattle.wb_program.specs.ReadingReport.{TextReadingReport}
-use Rattle.wb_program.specs.Report.{reading_report}
 use Rattle.wb_program_theory.specs.Certified.{AreCertified, ReadingChecks}
 use Rattle.wb_program_theory.specs.Existence.{ComesToAnswer}
 use Rattle.wb_program_theory.specs.Reported.{HaveReadingReport, HaveReport, IsAny, IsDone, IsReported}
@@ -74,8 +73,8 @@ have_reading_report excludes headers operations words files text host all r valu
       is = inr (record {
         asked = a.reading text host all;
         asks = asks;
-        report = reading_report (reports excludes headers operations.signatures files host all r values are
-            (ReadingChecks operations.signatures (Some files) text) read.status read.bytes (inr (contents, is_text, read.is)));
+        report = reports excludes headers operations.signatures files host all r values are
+            (ReadingChecks operations.signatures (Some files) text) read.status read.bytes (inr (contents, is_text, read.is));
       });
     }))
 
@@ -91,7 +90,7 @@ reading_reported excludes headers operations words files text host all r values 
   is = inr (record {
     asked = a.reading text host all;
     asks = asks;
-    report = reading_report (reports excludes headers operations.signatures files host all r values are
+    report = (reports excludes headers operations.signatures files host all r values are
         (ReadingChecks operations.signatures (Some files) text) TextTooLong (report_of o.TextTooLong)
         (inl (
           refl,

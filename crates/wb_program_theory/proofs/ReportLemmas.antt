@@ -24,10 +24,10 @@ use Rattle.wb_values.specs.Tree as values
 use Rattle.wb_world.specs.Shelf.{Files}
 use Rattle.wb_program_theory.specs.Laws.{HaveOneOrder, IsAnswerStatus}
 use Rattle.wb_program_theory.proofs.SeveralLemmas.{RefusesNone, several_there}
-use Rattle.wb_program_inputs.specs.Checks.{Check, Report}
-use Rattle.wb_program_inputs.specs.Texts.{IsText, IsTooLongText}
-use Rattle.wb_program_inputs.specs.declared.status.Status.{Status}
-use Rattle.wb_program_inputs.specs.declared.status.Status.TheVariants.{TextTooLong}
+use Rattle.wb_program.specs.Checks.{Check, Report}
+use Rattle.wb_program.specs.Texts.{IsText, IsTooLongText}
+use Rattle.wb_program.specs.declared.status.Status.{Status}
+use Rattle.wb_program.specs.declared.status.Status.TheVariants.{TextTooLong}
 use Rattle.wb_program.specs.TreeReport.{ShownText, TextReport}
 use Rattle.wb_program_theory.proofs.UnionLemmas.{is_language_there, language_there, names, same_texts, union_there}
 

@@ -7,12 +7,11 @@ use Rattle.wb_report.specs.Lines.{report_of}
 use Rattle.wb_report.specs.declared.outcome.Outcome.TheVariants as o
 use Rattle.wb_syntax_resolved.specs.declared.resolved.ResolvedParts.{ResolvedParts}
 use Rattle.wb_world.specs.Shelf.{Files}
-use Rattle.wb_program_inputs.proofs.Excludes.{ExcludesExtensions, ExcludesHeaders}
-use Rattle.wb_program_inputs.specs.Files.{FileIs}
-use Rattle.wb_program_inputs.specs.declared.status.Status.TheVariants.{TextTooLong}
+use Rattle.wb_program.specs.Inner.Below.{ExcludesExtensions, ExcludesHeaders}
+use Rattle.wb_program.specs.Files.{FileIs}
+use Rattle.wb_program.specs.declared.status.Status.TheVariants.{TextTooLong}
 use Rattle.wb_program_words.specs.Asked as a
 use Rattle.wb_program_words.specs.Words.{Asks}
-use Rattle.wb_program.specs.Report.{tree_report}
 use Rattle.wb_program_theory.specs.Certified.{AreCertified, TreeChecks}
 use Rattle.wb_program_theory.specs.Reported.{HaveReport, HaveReports, IsAny, of_certify, of_check, of_compose, of_generate, of_run}
 use Rattle.wb_program_theory.specs.Reported.{of_reading, of_tree}
@@ -36,7 +35,7 @@ module _ (excludes : ExcludesExtensions) (headers : ExcludesHeaders) where
     is = inr (record {
       asked = a.tree text host all;
       asks = asks;
-      report = tree_report (reports excludes headers operations.signatures files host all r values are
+      report = (reports excludes headers operations.signatures files host all r values are
           (TreeChecks operations.signatures (Some files) text) TextTooLong (report_of o.TextTooLong)
           (inl (
             refl,

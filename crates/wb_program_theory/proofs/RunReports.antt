@@ -39,14 +39,13 @@ use Rattle.wb_terms.specs.Printed.{printed_value}
 use Rattle.wb_values.specs.Fits.{FitsTree}
 use Rattle.wb_values.specs.Tree.{Tree}
 use Rattle.wb_world.specs.Shelf.{Files}
-use Rattle.wb_program_inputs.proofs.Excludes.{ExcludesExtensions, ExcludesHeaders}
-use Rattle.wb_program_inputs.specs.Files.{FileIs}
-use Rattle.wb_program_inputs.specs.SeveralChecks.{names_of}
-use Rattle.wb_program_inputs.specs.declared.status.Status.TheVariants as s
-use Rattle.wb_program_runs.specs.RunReport.{RunChecks}
-use Rattle.wb_program_runs.specs.Values.{TextValueReport}
+use Rattle.wb_program.specs.Inner.Below.{ExcludesExtensions, ExcludesHeaders}
+use Rattle.wb_program.specs.Files.{FileIs}
+use Rattle.wb_program.specs.SeveralChecks.{names_of}
+use Rattle.wb_program.specs.declared.status.Status.TheVariants as s
+use Rattle.wb_program.specs.RunReport.{RunChecks}
+use Rattle.wb_program.specs.Values.{TextValueReport}
 use Rattle.wb_program_words.specs.Asked as a
-use Rattle.wb_program.specs.Report.{run_report}
 use Rattle.wb_program_theory.specs.Existence.{ComesToAnswer}
 use Rattle.wb_program_theory.specs.Reported.{HaveRunReport, IsReported}
 use Rattle.wb_program_theory.specs.RunLaws.{IsRunStatus}
@@ -275,7 +274,7 @@ have_run_report excludes headers operations words files file name steps host all
       is = inr (record {
         asked = a.run file name steps host all;
         asks = asks;
-        report = run_report (reports excludes headers operations.signatures files host all r values are
-            (RunChecks operations (Some files) file name steps) rest.status rest.bytes rest.is);
+        report = reports excludes headers operations.signatures files host all r values are
+            (RunChecks operations (Some files) file name steps) rest.status rest.bytes rest.is;
       });
     })))

@@ -19,10 +19,9 @@ use Rattle.wb_syntax_resolved.specs.declared.resolved.ResolvedParts.{ResolvedPar
 use Rattle.wb_terms.specs.Printed.{printed_tree}
 use Rattle.wb_values.specs.Tree.{Tree}
 use Rattle.wb_values.specs.Tree as v
-use Rattle.wb_program_inputs.proofs.Excludes.{ExcludesExtensions, ExcludesHeaders}
-use Rattle.wb_program_inputs.specs.declared.status.Status.TheVariants.{Done, TextStopped, TooLongToPrint}
+use Rattle.wb_program.specs.Inner.Below.{ExcludesExtensions, ExcludesHeaders}
+use Rattle.wb_program.specs.declared.status.Status.TheVariants.{Done, TextStopped, TooLongToPrint}
 use Rattle.wb_program_words.specs.Asked as a
-use Rattle.wb_program.specs.Report.{tree_report}
 use Rattle.wb_program.specs.TreeReport.{TextReport}
 use Rattle.wb_program_theory.specs.Certified.{TreeChecks}
 use Rattle.wb_program_theory.specs.Existence.{ComesToAnswer}
@@ -104,7 +103,7 @@ have_tree_report excludes headers operations words files text host all r values 
       is = inr (record {
         asked = a.tree text host all;
         asks = asks;
-        report = tree_report (reports excludes headers operations.signatures files host all r values are
-            (TreeChecks operations.signatures (Some files) text) answered.status answered.bytes (inr (contents, is_text, answered.is)));
+        report = reports excludes headers operations.signatures files host all r values are
+            (TreeChecks operations.signatures (Some files) text) answered.status answered.bytes (inr (contents, is_text, answered.is));
       });
     })

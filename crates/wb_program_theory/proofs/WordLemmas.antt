@@ -6,8 +6,8 @@ use Rattle.wb_world.specs.Shelf.{Files}
 use Rattle.wb_program_words.proofs.OneAsked.{one_asked}
 use Rattle.wb_program_words.specs.Asked.{Asked}
 use Rattle.wb_program_words.specs.Asked as a
-use Rattle.wb_program_inputs.specs.declared.status.Status.{Status}
-use Rattle.wb_program.specs.Report.{IsReportOf, run_report, tree_report}
+use Rattle.wb_program.specs.declared.status.Status.{Status}
+use Rattle.wb_program.specs.Commands.{IsReportOf}
 use Rattle.wb_program_theory.specs.Laws.{IsAnswerStatus}
 use Rattle.wb_program_theory.specs.RunLaws.{IsRunStatus}
 use Rattle.wb_program_theory.specs.WordLaws.{HaveOneRunOfWords, HaveOneTreeOfWords, HaveSameReports}
@@ -34,16 +34,16 @@ run_there : (operations : Operations) (known : Files) (text name : List ℕ) (st
     (to from : ℕ → ℕ) (status : Status) (bytes : List ℕ) → IsReordering to from files others → IsRunStatus status
     → IsReportOf operations (Some known) status bytes (a.run text name steps host files)
     → IsReportOf operations (Some known) status bytes (a.run text name steps host others)
-run_there operations known text name steps host files others to from status bytes re such (run_report x) =
-    run_report (one_run_order operations known text name steps host files others to from status bytes re such x)
+run_there operations known text name steps host files others to from status bytes re such x =
+    one_run_order operations known text name steps host files others to from status bytes re such x
 
 -- and one of `tree`
 tree_there : (operations : Operations) (known : Files) (text host : List ℕ) (files others : List (List ℕ)) (to from : ℕ → ℕ)
     (status : Status) (bytes : List ℕ) → IsReordering to from files others → IsAnswerStatus status
     → IsReportOf operations (Some known) status bytes (a.tree text host files)
     → IsReportOf operations (Some known) status bytes (a.tree text host others)
-tree_there operations known text host files others to from status bytes re such (tree_report x) =
-    tree_report (one_order operations.signatures known text host files others to from status bytes re such x)
+tree_there operations known text host files others to from status bytes re such x =
+    one_order operations.signatures known text host files others to from status bytes re such x
 
 pub one_run_of_words : HaveOneRunOfWords
 one_run_of_words operations known text name steps host files others to from re =

@@ -5,15 +5,15 @@ use Rattle.wb_certify_files.specs.HostContents.{IsHostText}
 use Rattle.wb_operations.specs.Operations.{OperationSignature, Operations}
 use Rattle.wb_syntax_resolved.specs.declared.resolved.ResolvedParts.{ResolvedParts}
 use Rattle.wb_world.specs.Shelf.{Files}
-use Rattle.wb_program_inputs.specs.Checks.{Check, Ends, Report}
-use Rattle.wb_program_inputs.specs.Files.{KnownFile}
-use Rattle.wb_program_inputs.specs.SeveralChecks.{AreEach, names_of}
-use Rattle.wb_program_inputs.specs.Texts.{IsText, IsTooLongText}
-use Rattle.wb_program_inputs.specs.declared.status.Status.{Status}
-use Rattle.wb_program_inputs.specs.declared.status.Status.TheVariants.{Done, DuplicateExtension, NotCertified, SpecRefused, TextTooLong}
-use Rattle.wb_program_inputs.specs.declared.status.Status.TheVariants.{TooManyExtensions, WrongHost}
-use Rattle.wb_program_runs.specs.GenerateReport.{GenerateChecks, GenerateReport}
-use Rattle.wb_program_runs.specs.RunReport.{RunChecks, RunReport}
+use Rattle.wb_program.specs.Checks.{Check, Ends, Report}
+use Rattle.wb_program.specs.Files.{KnownFile}
+use Rattle.wb_program.specs.SeveralChecks.{AreEach, names_of}
+use Rattle.wb_program.specs.Texts.{IsText, IsTooLongText}
+use Rattle.wb_program.specs.declared.status.Status.{Status}
+use Rattle.wb_program.specs.declared.status.Status.TheVariants.{Done, DuplicateExtension, NotCertified, SpecRefused, TextTooLong}
+use Rattle.wb_program.specs.declared.status.Status.TheVariants.{TooManyExtensions, WrongHost}
+use Rattle.wb_program.specs.GenerateReport.{GenerateChecks, GenerateReport}
+use Rattle.wb_program.specs.RunReport.{RunChecks, RunReport}
 use Rattle.wb_program.specs.ComposeReport.{ComposeReport, ComposedLines}
 use Rattle.wb_program.specs.ReadingReport.{ReadingReport, TextReadingReport}
 use Rattle.wb_program.specs.TreeReport.{TextReport, TreeReport}

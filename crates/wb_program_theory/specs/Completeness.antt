@@ -23,9 +23,9 @@ use Rattle.wb_values.specs.Tree.{Tree, Value}
 use Rattle.wb_world.specs.Shelf.{Files}
 use Rattle.wb_program_words.specs.Asked as a
 use Rattle.wb_program_words.specs.Words.{Asks}
-use Rattle.wb_program_inputs.specs.Texts.{IsText}
-use Rattle.wb_program_inputs.specs.declared.status.Status.{Status}
-use Rattle.wb_program_inputs.specs.declared.status.Status.TheVariants.{Done, NotCertified, SpecRefused, WriteFault}
+use Rattle.wb_program.specs.Texts.{IsText}
+use Rattle.wb_program.specs.declared.status.Status.{Status}
+use Rattle.wb_program.specs.declared.status.Status.TheVariants.{Done, NotCertified, SpecRefused, WriteFault}
 use Rattle.wb_program.specs.Report.{IsReport}
 use Rattle.wb_program.specs.Written.{WritesNothing, Wrote, WrotePrefix}
 use Rattle.wb_program_theory.specs.Certified.{AreCertified}

@@ -2,16 +2,16 @@
 use Rattle.std.specs.Prelude.{◌≡◌, [], ℕ, List, Some}
 use Rattle.wb_certify_files.specs.HostContents.{IsHostText}
 use Rattle.wb_operations.specs.Operations.{OperationSignature, Operations}
-use Rattle.wb_reading_compose.specs.Roots.{IsHostAttribute}
+use Rattle.wb_compose_texts.specs.SameRoots.{IsHostAttribute}
 use Rattle.wb_report.specs.Lines.{report_of}
 use Rattle.wb_report.specs.declared.done.Done.TheVariants as done
 use Rattle.wb_report.specs.declared.outcome.Outcome.TheVariants as o
 use Rattle.wb_syntax_resolved.specs.declared.resolved.ResolvedParts.{ResolvedParts}
 use Rattle.wb_world.specs.Shelf.{Files}
-use Rattle.wb_program_inputs.specs.Files.{KnownFile}
-use Rattle.wb_program_inputs.specs.declared.status.Status.{Status}
-use Rattle.wb_program_inputs.specs.declared.status.Status.TheVariants.{Done}
-use Rattle.wb_program_runs.specs.RunReport.{RunReport}
+use Rattle.wb_program.specs.Files.{KnownFile}
+use Rattle.wb_program.specs.declared.status.Status.{Status}
+use Rattle.wb_program.specs.declared.status.Status.TheVariants.{Done}
+use Rattle.wb_program.specs.RunReport.{RunReport}
 use Rattle.wb_program.specs.ReadingReport.{ReadingReport}
 use Rattle.wb_program.specs.TreeReport.{TreeReport}
 

@@ -8,11 +8,11 @@ use Rattle.wb_world.specs.Shelf.{Files}
 use Rattle.wb_program_words.specs.Asked.{Asked}
 use Rattle.wb_program_words.specs.Asked as a
 use Rattle.wb_program_words.specs.Words.{Asks}
-use Rattle.wb_program_inputs.specs.Checks.{Report}
-use Rattle.wb_program_inputs.specs.Files.{KnownFile}
-use Rattle.wb_program_inputs.specs.Texts.{IsText}
-use Rattle.wb_program_inputs.specs.declared.status.Status.{Status}
-use Rattle.wb_program_inputs.specs.declared.status.Status.TheVariants.{Done}
+use Rattle.wb_program.specs.Checks.{Report}
+use Rattle.wb_program.specs.Files.{KnownFile}
+use Rattle.wb_program.specs.Texts.{IsText}
+use Rattle.wb_program.specs.declared.status.Status.{Status}
+use Rattle.wb_program.specs.declared.status.Status.TheVariants.{Done}
 use Rattle.wb_program.specs.Report.{IsReport}
 use Rattle.wb_program_theory.specs.Certified.{AreCertified}
 use Rattle.wb_program_theory.specs.Laws.{IsAnswerStatus}

@@ -3,11 +3,11 @@ use Rattle.std.specs.Prelude.{ℕ, List, Some}
 use Rattle.wb_operations.specs.Operations.{Operations}
 use Rattle.wb_compose_theory_order.specs.Orders.{IsReordering}
 use Rattle.wb_world.specs.Shelf.{Files}
-use Rattle.wb_program_inputs.specs.declared.status.Status.{Status}
-use Rattle.wb_program_inputs.specs.declared.status.Status.TheVariants.{Done, MoreSteps, OperationFault, TextStopped, TextTooLong}
-use Rattle.wb_program_inputs.specs.declared.status.Status.TheVariants.{TooLongToPrint}
-use Rattle.wb_program_inputs.specs.declared.status.Status.TheVariants.{UnknownAttribute}
-use Rattle.wb_program_runs.specs.RunReport.{RunReport}
+use Rattle.wb_program.specs.declared.status.Status.{Status}
+use Rattle.wb_program.specs.declared.status.Status.TheVariants.{Done, MoreSteps, OperationFault, TextStopped, TextTooLong}
+use Rattle.wb_program.specs.declared.status.Status.TheVariants.{TooLongToPrint}
+use Rattle.wb_program.specs.declared.status.Status.TheVariants.{UnknownAttribute}
+use Rattle.wb_program.specs.RunReport.{RunReport}
 
 -- the status is that of what comes of a text and an attribute: a value, a stop, a fault, more steps, or a value that is too long to print;
 -- or no such attribute may be asked, or the text is too long

@@ -1,140 +1,110 @@
--- What words ask, by their verb and how they split.
-use Rattle.std.proofs.Common.{◌≡◌, ◌≢◌, inl, inr, ℕ, List, [], ◌∷◌, Contains, Option, Some, None, IfSome, IfNone, sym, ap, subst, ◌∙◌}
+-- What words ask, by their verb, and what a verb says, by how the words after it split.
+use Rattle.std.proofs.Common.{◌≡◌, ◌≢◌, ◌≤◌, ◌-◌, ℕ, List, [], ◌∷◌, Option, Some, None, IfSome, IfNone, String, Global, string_bytes, length}
+use Rattle.std.proofs.Common.{take, drop, get_or, map, sym, ap, subst, ◌∙◌, arith}
 use Rattle.std.specs.Borrow.{Bor}
-use lib.Chars.{codes}
-use Rattle.wb_lemmas.proofs.Elements.{all_weaker}
-use Rattle.wb_lemmas.proofs.Members.{contains_cases, contains_first, contains_later, nothing_in}
-use Rattle.wb_program_words.specs.Asked.{Asked}
-use Rattle.wb_program_words.specs.Commands.{asked_by}
-use Rattle.wb_program_words.specs.Words.{Asks, AreOptions, Given, Says, Splits, Verb, verb_text, says_value, says_show, says_check}
-use Rattle.wb_program_words.specs.Words.{says_certify}
-use Rattle.wb_program_words.specs.Words.{says_compose, says_tree, says_run, says_generate, says_reading}
-use Rattle.wb_program_words.specs.declared.command.Command.{Command}
+use Rattle.wb_lemmas.proofs.Parts.{take_to_end}
+use Rattle.wb_program_words.specs.Asked.{Asked, texts}
+use Rattle.wb_program_words.specs.Options.{AreOptions, Given}
+use Rattle.wb_program_words.specs.OptionValues.{OptionValue}
+use Rattle.wb_program_words.specs.Rows.{HaveValues, IsCount, asked_of, name_of, row_of}
+use Rattle.wb_program_words.specs.Words.{Asks, Says}
+use Rattle.wb_program_words.specs.declared.rows.OptionName.{OptionName}
+use Rattle.wb_program_words.specs.declared.rows.Verb.{Verb}
 use Rattle.wb_program_words.specs.Inner.Parts.{IsSplit, HasNoSplit}
-use Rattle.wb_program_words.specs.Inner.Sayings.{IsSaid, NeverSaid}
-use Rattle.wb_program_words.specs.Inner.Slots.{all_names}
-use Rattle.wb_program_words.proofs.OneAsked.{one_split, verb_text-injective}
-use Rattle.wb_program_words.proofs.SplitLemmas.{no_known_options}
+use Rattle.wb_program_words.specs.Inner.Values.{HaveNoValues}
+use Rattle.wb_program_words.proofs.OneAsked.{one_split}
+use Rattle.wb_program_words.proofs.RowLemmas.{one_verb}
 
 -- the type of a slot
 abbrev Slot : Type 0
 Slot = Option (Bor (List ℕ))
 
--- options of some names are known ones
-weaker_names : (names : List (List ℕ)) (options : List Given) → ((name : List ℕ) → Contains names name → Contains all_names name)
-    → AreOptions names options → AreOptions all_names options
-weaker_names names options inside allowed = record {
-  known = all_weaker (λ (o : Given). Contains names o.name) (λ (o : Given). Contains all_names o.name) options
-      (λ o has. inside o.name has) allowed.known;
-  once = allowed.once;
-}
+-- a list that isn't empty is its first and the rest
+one_and_more : {X : Type 0} (xs : List X) (a : X) → 1 ≤ length xs → a ≡ get_or xs 0 a → xs ≡ a ∷ take (length xs - 1) (drop 1 xs)
+one_and_more [] a l p = absurd (omega arith)
+one_and_more (w ∷ xs) a l p =
+    let later : take (length (w ∷ xs) - 1) (drop 1 (w ∷ xs)) ≡ xs = take_to_end 1 (w ∷ xs) in
+    cc
 
-has_text : Contains all_names (codes "text")
-has_text = contains_first (codes "text") (codes "attr" ∷ codes "steps" ∷ codes "number" ∷ codes "size" ∷ [])
-
-has_attribute : Contains all_names (codes "attr")
-has_attribute = contains_later (codes "text") (codes "attr") (codes "attr" ∷ codes "steps" ∷ codes "number" ∷ codes "size" ∷ [])
-    (contains_first (codes "attr") (codes "steps" ∷ codes "number" ∷ codes "size" ∷ []))
-
-has_steps : Contains all_names (codes "steps")
-has_steps = contains_later (codes "text") (codes "steps") (codes "attr" ∷ codes "steps" ∷ codes "number" ∷ codes "size" ∷ [])
-    (contains_later (codes "attr") (codes "steps") (codes "steps" ∷ codes "number" ∷ codes "size" ∷ [])
-    (contains_first (codes "steps") (codes "number" ∷ codes "size" ∷ [])))
-
-has_number : Contains all_names (codes "number")
-has_number = contains_later (codes "text") (codes "number") (codes "attr" ∷ codes "steps" ∷ codes "number" ∷ codes "size" ∷ [])
-    (contains_later (codes "attr") (codes "number") (codes "steps" ∷ codes "number" ∷ codes "size" ∷ [])
-    (contains_later (codes "steps") (codes "number") (codes "number" ∷ codes "size" ∷ [])
-    (contains_first (codes "number") (codes "size" ∷ []))))
-
-has_size : Contains all_names (codes "size")
-has_size = contains_later (codes "text") (codes "size") (codes "attr" ∷ codes "steps" ∷ codes "number" ∷ codes "size" ∷ [])
-    (contains_later (codes "attr") (codes "size") (codes "steps" ∷ codes "number" ∷ codes "size" ∷ [])
-    (contains_later (codes "steps") (codes "size") (codes "number" ∷ codes "size" ∷ [])
-    (contains_later (codes "number") (codes "size") (codes "size" ∷ []) (contains_first (codes "size") []))))
-
--- one of a list, where its first and the others are
-inside : (x : List ℕ) (xs : List (List ℕ)) → Contains all_names x → ((name : List ℕ) → Contains xs name → Contains all_names name)
-    → (name : List ℕ) → Contains (x ∷ xs) name → Contains all_names name
-inside x xs first others name has = elim (contains_cases x name xs has) [
-  | inl same ↦ subst (Contains all_names) same first
-  | inr later ↦ others name later
-]
-
-outside : (name : List ℕ) → Contains [] name → Contains all_names name
-outside name has = absurd (nothing_in name has)
-
--- a verb says something of known options alone
-says_known : (verb : Verb) (options : List Given) (words : List (List ℕ)) (asked : Asked) → Says verb options words asked
-    → AreOptions all_names options
-says_known verb options words asked says_value = no_known_options
-says_known verb options words asked says_show = no_known_options
-says_known verb options words asked says_check = no_known_options
-says_known verb options words asked says_certify = no_known_options
-says_known verb options words asked says_compose = no_known_options
-says_known verb options words asked (says_tree allowed has) =
-    weaker_names (codes "text" ∷ []) options (inside (codes "text") [] has_text outside) allowed
-says_known verb options words asked (says_run allowed has named limit) =
-    weaker_names (codes "text" ∷ codes "attr" ∷ codes "steps" ∷ []) options
-    (inside (codes "text") (codes "attr" ∷ codes "steps" ∷ []) has_text
-    (inside (codes "attr") (codes "steps" ∷ []) has_attribute (inside (codes "steps") [] has_steps outside))) allowed
-says_known verb options words asked (says_generate allowed first second named) =
-    weaker_names (codes "number" ∷ codes "size" ∷ codes "attr" ∷ []) options
-    (inside (codes "number") (codes "size" ∷ codes "attr" ∷ []) has_number
-    (inside (codes "size") (codes "attr" ∷ []) has_size (inside (codes "attr") [] has_attribute outside))) allowed
-says_known verb options words asked (says_reading allowed has) =
-    weaker_names (codes "text" ∷ []) options (inside (codes "text") [] has_text outside) allowed
+-- and so are their texts
+pub more_texts : (words : List (String Global)) (first : String Global) (text : List ℕ) → 1 ≤ length words → first ≡ get_or words 0 first
+    → text ≡ string_bytes first → texts words ≡ text ∷ texts (take (length words - 1) (drop 1 words))
+more_texts words first text long at is =
+    ap texts (one_and_more words first long at)
+    ∙ ap (λ (s : List ℕ). s ∷ texts (take (length words - 1) (drop 1 words))) (sym is)
 
 -- no words ask nothing
 pub nothing_asks : (words : List (List ℕ)) (asked : Asked) → words ≡ [] → ¬ Asks words asked
 nothing_asks words asked none asks =
-    let line : verb_text asks.verb ∷ asks.rest ≡ [] = sym asks.line ∙ none in
+    let line : (row_of asks.verb).verb ∷ asks.rest ≡ [] = sym asks.line ∙ none in
     cc line
 
 module _ (words : List (List ℕ)) (first : List ℕ) (rest : List (List ℕ)) (is : words ≡ first ∷ rest) where
   -- the rest after the verb
-  one_rest : (asked : Asked) (asks : Asks words asked) → (first ≡ verb_text asks.verb) × (rest ≡ asks.rest)
+  one_rest : (asked : Asked) (asks : Asks words asked) → (first ≡ (row_of asks.verb).verb) × (rest ≡ asks.rest)
   one_rest asked asks =
-      let lines : first ∷ rest ≡ verb_text asks.verb ∷ asks.rest = sym is ∙ asks.line in
+      let lines : first ∷ rest ≡ (row_of asks.verb).verb ∷ asks.rest = sym is ∙ asks.line in
       (cc lines, cc lines)
 
-  -- words with no known options ask nothing
-  pub unsplit_asks : HasNoSplit rest → (asked : Asked) → ¬ Asks words asked
-  unsplit_asks never asked asks =
-      let (text, same) = one_rest asked asks in
-      never asks.options asks.positional (subst (λ (ws : List (List ℕ)). Splits ws asks.options asks.positional) (sym same) asks.splits)
-      (says_known asks.verb asks.options asks.positional asked asks.says)
-
   -- words of no verb ask nothing
-  pub no_verb_asks : ((verb : Verb) → first ≢ verb_text verb) → (asked : Asked) → ¬ Asks words asked
+  pub no_verb_asks : ((verb : Verb) → first ≢ (row_of verb).verb) → (asked : Asked) → ¬ Asks words asked
   no_verb_asks other asked asks = other asks.verb (one_rest asked asks).0
 
-  module _ (slots : List Slot) (later : List (List ℕ)) (splits : IsSplit rest later slots) (verb : Verb) (begins : first ≡ verb_text verb)
-    where
-      -- words ask what their verb says
-      pub asks_by : (command : Command) → IsSaid verb slots later command → Asks words (asked_by command)
-      asks_by command said = record {
-        verb = verb;
-        options = splits.options;
-        rest = rest;
-        positional = later;
-        line = is ∙ ap (λ (t : List ℕ). t ∷ rest) begins;
-        splits = splits.splits;
-        says = said splits.options splits.values;
-      }
+  module _ (verb : Verb) (begins : first ≡ (row_of verb).verb) where
+    -- words ask what their verb says
+    pub asks_by : (asked : Asked) → Says verb rest asked → Asks words asked
+    asks_by asked says = record {
+      verb = verb;
+      rest = rest;
+      line = is ∙ ap (λ (t : List ℕ). t ∷ rest) begins;
+      says = says;
+    }
 
-      -- and nothing where it says nothing
-      pub never_asks : NeverSaid verb slots later → (asked : Asked) → ¬ Asks words asked
-      never_asks never asked asks =
-          let (text, same) = one_rest asked asks in
-          let verbs : asks.verb ≡ verb = verb_text-injective asks.verb verb (sym text ∙ begins) in
-          let one = one_split rest asks.options splits.options asks.positional later
-          (subst (λ (ws : List (List ℕ)). Splits ws asks.options asks.positional) (sym same) asks.splits) splits.splits in
-          let says : Says verb splits.options later asked =
-          subst (λ (v : Verb). Says v splits.options later asked) verbs
-          (subst (λ (os : List Given). Says asks.verb os later asked) one.0
-          (subst (λ (ws : List (List ℕ)). Says asks.verb asks.options ws asked) one.1 asks.says)) in
-          never splits.options asked splits.values says
+    -- and nothing where it says nothing
+    pub never_asks : ((asked : Asked) → ¬ Says verb rest asked) → (asked : Asked) → ¬ Asks words asked
+    never_asks never asked asks =
+        let (text, same) = one_rest asked asks in
+        let verbs : asks.verb ≡ verb = one_verb asks.verb verb (sym text ∙ begins) in
+        never asked
+        (subst (λ (v : Verb). Says v rest asked) verbs
+        (subst (λ (ws : List (List ℕ)). Says asks.verb ws asked) (sym same) asks.says))
+
+module _ (verb : Verb) (names : List OptionName) (is_row : names ≡ (row_of verb).options) (rest : List (List ℕ)) where
+  -- words that don't split into options of the row say nothing
+  pub unsplit_says : HasNoSplit (map name_of names) rest → (asked : Asked) → ¬ Says verb rest asked
+  unsplit_says never asked says =
+      subst (λ (ns : List OptionName). HasNoSplit (map name_of ns) rest) is_row never says.options says.positional says.splits says.known
+
+  module _ (slots : List Slot) (later : List (List ℕ)) (split : IsSplit (map name_of names) rest later slots) where
+    -- what the verb says is of this split
+    one : (asked : Asked) (says : Says verb rest asked) → (says.options ≡ split.options) × (says.positional ≡ later)
+    one asked says = one_split rest says.options split.options says.positional later says.splits split.splits
+
+    -- where the options of the row have no values, the verb says nothing
+    pub valueless_says : HaveNoValues names slots → (asked : Asked) → ¬ Says verb rest asked
+    valueless_says none asked says =
+        none split.options says.values split.values
+        (subst (λ (os : List Given). HaveValues os names says.values) (one asked says).0
+        (subst (λ (ns : List OptionName). HaveValues says.options ns says.values) (sym is_row) says.given))
+
+    -- nor where there are fewer or more words
+    pub miscounted_says : ¬ IsCount (row_of verb).words (length later) → (asked : Asked) → ¬ Says verb rest asked
+    miscounted_says other asked says =
+        other (subst (λ (ws : List (List ℕ)). IsCount (row_of verb).words (length ws)) (one asked says).1 says.count)
+
+    -- else it says what it asks with them
+    pub says_by : (values : List OptionValue) → HaveValues split.options names values → IsCount (row_of verb).words (length later)
+        → (asked : Asked) → asked ≡ asked_of verb values later → Says verb rest asked
+    says_by values have count asked same = record {
+      options = split.options;
+      positional = later;
+      values = values;
+      splits = split.splits;
+      known = subst (λ (ns : List OptionName). AreOptions (map name_of ns) split.options) is_row split.values.known;
+      given = subst (λ (ns : List OptionName). HaveValues split.options ns values) is_row have;
+      count = count;
+      is = same;
+    }
 
 -- what holds of an answer, from what holds of it
 pub on_some : {X : Type 0} (o : Option X) (P Q : X → Type 0) → ((x : X) → P x → Q x) → IfSome o P → IfSome o Q

@@ -1,7 +1,8 @@
-pub mod OneAsked
 mod AskLemmas
+pub mod FewLeaves
+pub mod OneAsked
 mod PartLemmas
+mod RowLemmas
 mod SlotLemmas
-mod SaidLemmas
-mod SayingLemmas
 mod SplitLemmas
+mod ValueLemmas

@@ -1,52 +1,24 @@
--- Words ask one thing at most: they split in one way, and a verb with its options and words says one thing.
-use Rattle.std.proofs.Common.{◌≡◌, ◌≢◌, inl, inr, ℕ, ◌+◌, ◌*◌, ◌-◌, ◌^◌, List, [], ◌∷◌, ◌++◌, All, Some, map, slice_get, refl, ap, sym, ◌∙◌}
+-- Words ask one thing at most: they split in one way, and the options of a row have one value each.
+use Rattle.std.proofs.Common.{◌≡◌, ◌≢◌, inl, inr, ℕ, suc, ◌<◌, List, [], ◌∷◌, ◌++◌, All, Some, Contains, length, slice_get, refl, ap, sym, ◌∙◌}
 use Rattle.std.proofs.Common.{subst}
-use Rattle.std.specs.Prelude.{◌==◌, if◌then◌else◌}
 use Rattle.std.proofs.lemmas.List.Elements.{All-head, All-tail}
-use Rattle.std.proofs.lemmas.Option.{slice_get-map, same_Some}
+use Rattle.std.proofs.lemmas.Option.{slice_get-map, slice_get_within, same_Some}
 use Rattle.std.specs.Option.{option_map}
 use Rattle.std.specs.Str.Parse.{digits_value}
-use lib.Chars.{codes}
 use Rattle.wb_lemmas.proofs.Members.{contains_at}
+use Rattle.wb_lemmas.proofs.Places.{at_within}
 use Rattle.wb_base.specs.Different.{Differ}
 use Rattle.wb_program_words.specs.Asked.{Asked}
 use Rattle.wb_program_words.specs.Laws.{AskOneThing}
-use Rattle.wb_program_words.specs.Words.{IsPositional, Given, Splits, HasOption, HasNumber, HasSteps, Verb, verb_text, Says, Value, Show}
-use Rattle.wb_program_words.specs.Words.{Check}
-use Rattle.wb_program_words.specs.Words.{Certify, Compose, Tree, Run, Generate, Reading, no_option, apart, joined}
-use Rattle.wb_program_words.specs.Words.{says_value, says_show, says_check}
-use Rattle.wb_program_words.specs.Words.{says_certify, says_compose, says_tree, says_run, says_generate, says_reading}
-
--- what no verbs have in common, from their first and third byte
-key : List ℕ → ℕ
-key [] = 0
-key (x ∷ []) = 0
-key (x ∷ y ∷ []) = 0
-key (x ∷ y ∷ z ∷ rest) = 2 * x + z
-
--- the verb of a key
-verb_of : ℕ → Verb
-verb_of k =
-    if k == 344 then Value else if k == 341 then Show else if k == 299 then Check else if k == 312 then Certify else if k == 307 then
-    Compose
-    else if k == 333 then Tree else if k == 338 then Run else if k == 325 then Reading else Generate
-
--- the verb of a verb's text is itself
-verb_back : (v : Verb) → verb_of (key (verb_text v)) ≡ v
-unfolding verb_of key
-verb_back Value = refl
-verb_back Show = refl
-verb_back Check = refl
-verb_back Certify = refl
-verb_back Compose = refl
-verb_back Tree = refl
-verb_back Run = refl
-verb_back Generate = refl
-verb_back Reading = refl
-
--- a text is of one verb
-pub verb_text-injective : (u v : Verb) → verb_text u ≡ verb_text v → u ≡ v
-verb_text-injective u v same = sym (verb_back u) ∙ (ap (λ text. verb_of (key text)) same ∙ verb_back v)
+use Rattle.wb_program_words.specs.Options.{Given, HasNumber, HasOption, IsPositional, Splits, names_of, no_option, apart, joined}
+use Rattle.wb_program_words.specs.OptionValues.{HasValue, OptionValue, a_number, a_word}
+use Rattle.wb_program_words.specs.Rows.{HaveValues, asked_of, form_of, name_of, row_of}
+use Rattle.wb_program_words.specs.Words.{Says}
+use Rattle.wb_program_words.specs.declared.rows.Form.{Form}
+use Rattle.wb_program_words.specs.declared.rows.Form.TheVariants as f
+use Rattle.wb_program_words.specs.declared.rows.OptionName.{OptionName}
+use Rattle.wb_program_words.specs.declared.rows.Verb.{Verb}
+use Rattle.wb_program_words.proofs.RowLemmas.{one_verb}
 
 -- a positional word begins with no dash
 pub no_dash : (word rest : List ℕ) → IsPositional word → word ≡ 45 ∷ rest → ⊥
@@ -117,18 +89,18 @@ one_split words xs ys u v (joined {words = later} {o = o} {options = os} name is
     let others : os ≡ ps = one.0 in
     (cc, one.1)
 
-module _ (options : List Given) (once : Differ (map (λ o. o.name) options)) where
-  -- the names of the options
-  abbrev names : List (List ℕ)
-  names = map (λ (o : Given). o.name) options
-
+module _ (options : List Given) (once : Differ (names_of options)) where
   -- an option is among the names
-  named_at : (name value : List ℕ) (has : HasOption options name value) → slice_get names has.place ≡ Some name
+  named_at : (name value : List ℕ) (has : HasOption options name value) → slice_get (names_of options) has.place ≡ Some name
   named_at name value has = slice_get-map (λ (o : Given). o.name) options has.place ∙ ap (option_map (λ (o : Given). o.name)) has.given
 
+  -- so it isn't one that isn't given
+  pub not_lacked : (name value : List ℕ) → HasOption options name value → ¬ Contains (names_of options) name → ⊥
+  not_lacked name value has none = none (contains_at (names_of options) name has.place (named_at name value has))
+
   -- an option has one value
-  pub one_value : (name v w : List ℕ) → HasOption options name v → HasOption options name w → v ≡ w
-  one_value name v w first second =
+  pub one_text : (name v w : List ℕ) → HasOption options name v → HasOption options name w → v ≡ w
+  one_text name v w first second =
       let same : first.place ≡ second.place = once name first.place second.place (named_at name v first) (named_at name w second) in
       let at : slice_get options second.place ≡ Some (record { name = name; value = v }) = subst
       (λ k. slice_get options k ≡ Some (record { name = name; value = v })) same first.given in
@@ -138,54 +110,64 @@ module _ (options : List Given) (once : Differ (map (λ o. o.name) options)) whe
   -- an option is one number
   one_number : (name : List ℕ) (least most m n : ℕ) → HasNumber options name least most m → HasNumber options name least most n → m ≡ n
   one_number name least most m n first second = first.is
-      ∙ (ap (digits_value 10) (one_value name first.value second.value first.given second.given) ∙ sym second.is)
+      ∙ (ap (digits_value 10) (one_text name first.value second.value first.given second.given) ∙ sym second.is)
 
-  -- there is one limit of steps
-  one_limit : (m n : ℕ) → HasSteps options m → HasSteps options n → m ≡ n
-  one_limit m n (inl a) (inl b) = one_number (codes "steps") 1 10000000 m n a b
-  one_limit m n (inl a) (inr b) = absurd (b.0 (contains_at names (codes "steps") a.given.place (named_at (codes "steps") a.value a.given)))
-  one_limit m n (inr a) (inl b) = absurd (a.0 (contains_at names (codes "steps") b.given.place (named_at (codes "steps") b.value b.given)))
-  one_limit m n (inr a) (inr b) = a.1 ∙ sym b.1
+  -- an option has one value of its form
+  one_value : (form : Form) (name : List ℕ) (v w : OptionValue) → HasValue form options name v → HasValue form options name w → v ≡ w
+  one_value f.Word name (a_word v) (a_word w) first second = ap a_word (one_text name v w first second)
+  one_value f.Word name (a_word v) (a_number n) first second = absurd second
+  one_value f.Word name (a_number m) w first second = absurd first
+  one_value (f.Number least most) name (a_word v) w first second = absurd first
+  one_value (f.Number least most) name (a_number m) (a_word w) first second = absurd second
+  one_value (f.Number least most) name (a_number m) (a_number n) first second = ap a_number (one_number name least most m n first second)
+  one_value (f.NumberOr least most otherwise) name (a_word v) w first second = absurd first
+  one_value (f.NumberOr least most otherwise) name (a_number m) (a_word w) first second = absurd second
+  one_value (f.NumberOr least most otherwise) name (a_number m) (a_number n) (inl a) (inl b) =
+      ap a_number (one_number name least most m n a b)
+  one_value (f.NumberOr least most otherwise) name (a_number m) (a_number n) (inl a) (inr b) =
+      absurd (not_lacked name a.value a.given b.0)
+  one_value (f.NumberOr least most otherwise) name (a_number m) (a_number n) (inr a) (inl b) =
+      absurd (not_lacked name b.value b.given a.0)
+  one_value (f.NumberOr least most otherwise) name (a_number m) (a_number n) (inr a) (inr b) = ap a_number (a.1 ∙ sym b.1)
 
--- a verb with its options and words says one thing
-one_said : (verb : Verb) (options : List Given) (words : List (List ℕ)) (x y : Asked) → Says verb options words x →
-    Says verb options words y → x ≡ y
-one_said Value options words x y says_value says_value = refl
-one_said Show options words x y says_show says_show = refl
-one_said Check options words x y says_check says_check = refl
-one_said Certify options words x y says_certify says_certify = refl
-one_said Compose options words x y says_compose says_compose = refl
-one_said Tree options words x y (says_tree {text = text} are has) (says_tree {text = other} are' has') =
-    let same : text ≡ other = one_value options are.once (codes "text") text other has has' in
-    cc
-one_said Run options words x y (says_run {text = text} {attribute = attribute} {steps = steps} are has named limit)
-    (says_run {text = text'} {attribute = attribute'} {steps = steps'} are' has' named' limit') =
-    let same : text ≡ text' = one_value options are.once (codes "text") text text' has has' in
-    let names_same : attribute ≡ attribute' = one_value options are.once (codes "attr") attribute attribute' named named' in
-    let limits : steps ≡ steps' = one_limit options are.once steps steps' limit limit' in
-    cc
-one_said Generate options words x y (says_generate {attribute = attribute} {number = number} {size = size} are first second named)
-    (says_generate {attribute = attribute'} {number = number'} {size = size'} are' first' second' named') =
-    let numbers : number ≡ number' = one_number options are.once (codes "number") 0 (2 ^ 64 - 1) number number' first first' in
-    let sizes : size ≡ size' = one_number options are.once (codes "size") 0 100000 size size' second second' in
-    let names_same : attribute ≡ attribute' = one_value options are.once (codes "attr") attribute attribute' named named' in
-    cc
-one_said Reading options words x y (says_reading {text = text} are has) (says_reading {text = other} are' has') =
-    let same : text ≡ other = one_value options are.once (codes "text") text other has has' in
-    cc
+  -- so the names of a row have one list of values
+  pub one_list : (names : List OptionName) (vs ws : List OptionValue) → HaveValues options names vs → HaveValues options names ws → vs ≡ ws
+  one_list names vs ws first second =
+      same_lists vs ws (first.many ∙ sym second.many) (λ k v w at there.
+      let small : k < length vs = slice_get_within vs k v at in
+      let (name, is) = at_within names k (subst (λ (n : ℕ). k < n) first.many small) in
+      one_value (form_of name) (name_of name) v w (first.each k name v is at) (second.each k name w is there))
+    where
+      -- lists that are one at each place are one
+      same_lists : {X : Type 0} (xs ys : List X) → length xs ≡ length ys
+          → ((k : ℕ) (x y : X) → slice_get xs k ≡ Some x → slice_get ys k ≡ Some y → x ≡ y) → xs ≡ ys
+      same_lists [] [] long same = refl
+      same_lists [] (y ∷ ys) long same = absurd (cc long)
+      same_lists (x ∷ xs) [] long same = absurd (cc long)
+      same_lists (x ∷ xs) (y ∷ ys) long same =
+          let first : x ≡ y = same 0 x y refl refl in
+          let rest : xs ≡ ys = same_lists xs ys (cc long) (λ k a b at there. same (suc k) a b at there) in
+          cc (first, rest)
+
+-- a verb with the words after it says one thing
+pub one_said : (verb : Verb) (rest : List (List ℕ)) (x y : Asked) → Says verb rest x → Says verb rest y → x ≡ y
+one_said verb rest x y first second =
+    let split = one_split rest first.options second.options first.positional second.positional first.splits second.splits in
+    let given : HaveValues second.options (row_of verb).options first.values =
+    subst (λ (os : List Given). HaveValues os (row_of verb).options first.values) split.0 first.given in
+    let values : first.values ≡ second.values =
+    one_list second.options second.known.once (row_of verb).options first.values second.values given second.given in
+    first.is
+    ∙ (ap (λ (ws : List (List ℕ)). asked_of verb first.values ws) split.1
+    ∙ (ap (λ (vs : List OptionValue). asked_of verb vs second.positional) values ∙ sym second.is))
 
 -- words ask one thing at most
 pub one_asked : AskOneThing
 one_asked words asked other first second =
-    let lines : verb_text first.verb ∷ first.rest ≡ verb_text second.verb ∷ second.rest = sym first.line ∙ second.line in
-    let text : verb_text first.verb ≡ verb_text second.verb = cc in
-    let rest : first.rest ≡ second.rest = cc in
-    let verb : first.verb ≡ second.verb = verb_text-injective first.verb second.verb text in
-    let split : (first.options ≡ second.options) × (first.positional ≡ second.positional) =
-    one_split second.rest first.options second.options first.positional second.positional
-    (subst (λ words. Splits words first.options first.positional) rest first.splits) second.splits in
-    let said : Says second.verb second.options second.positional asked =
-    subst (λ (v : Verb). Says v second.options second.positional asked) verb
-    (subst (λ (os : List Given). Says first.verb os second.positional asked) split.0
-    (subst (λ (ws : List (List ℕ)). Says first.verb first.options ws asked) split.1 first.says)) in
-    one_said second.verb second.options second.positional asked other said second.says
+    let lines : (row_of first.verb).verb ∷ first.rest ≡ (row_of second.verb).verb ∷ second.rest = sym first.line ∙ second.line in
+    let text : (row_of first.verb).verb ≡ (row_of second.verb).verb = cc lines in
+    let rest : first.rest ≡ second.rest = cc lines in
+    let verb : first.verb ≡ second.verb = one_verb first.verb second.verb text in
+    let said : Says second.verb second.rest asked =
+    subst (λ (v : Verb). Says v second.rest asked) verb (subst (λ (ws : List (List ℕ)). Says first.verb ws asked) rest first.says) in
+    one_said second.verb second.rest asked other said second.says

@@ -15,7 +15,8 @@ use Rattle.std.proofs.lemmas.Str.Pattern.{IsSplitOnceResult, split_once_first}
 use lib.Chars.{codes}
 use Rattle.wb_lemmas.proofs.Parts.{take_to_end}
 use Rattle.wb_lemmas.proofs.Places.{read_at}
-use Rattle.wb_program_words.specs.Words.{texts, Given, IsOptionName, IsPositional, Splits, no_option, apart, joined}
+use Rattle.wb_program_words.specs.Options.{Given, IsOptionName, IsPositional, Splits, no_option, apart, joined}
+use Rattle.wb_program_words.specs.Asked.{texts}
 use Rattle.wb_program_words.specs.Inner.Parts.{IsOptionBefore, NeverSplits}
 use Rattle.wb_program_words.proofs.OneAsked.{no_dash, no_cut, one_cut, one_given}
 

@@ -1,7 +1,7 @@
 -- Slots of options, one option after another.
-use Rattle.std.proofs.Common.{◌≡◌, ◌≢◌, ◌+◌, ◌⊎◌, inl, inr, ℕ, zero, suc, List, [], ◌∷◌, ◌++◌, All, Contains, Option, Some, None, length}
+use Rattle.std.proofs.Common.{◌≡◌, ◌≢◌, ◌⊎◌, inl, inr, ℕ, zero, suc, List, [], ◌∷◌, ◌++◌, All, Contains, Option, Some, None, length}
 use Rattle.std.proofs.Common.{slice_get, slice_set, refl, sym, ap, subst, ◌∙◌, arith}
-use Rattle.std.specs.Prelude.{◌==◌, if◌then◌else◌, option_map}
+use Rattle.std.specs.Prelude.{option_map}
 use Rattle.std.proofs.lemmas.List.{map-append}
 use Rattle.std.proofs.lemmas.List.Elements.{All-nil, All-head, All-push}
 use Rattle.std.proofs.lemmas.Option.{slice_get_within, slice_get-map, same_Some}
@@ -10,48 +10,12 @@ use Rattle.wb_lemmas.proofs.Members.{contains_at, contains_push, nothing_in}
 use Rattle.wb_lemmas.proofs.Places.{append_keeps, append_seam, at_push, nothing_at, push_keeps, push_last}
 use Rattle.wb_base.specs.Different.{Differ}
 use Rattle.std.specs.Borrow.{Bor}
-use lib.Chars.{codes}
-use Rattle.wb_program_words.specs.Words.{Given, HasOption, AreOptions}
-use Rattle.wb_program_words.specs.Inner.Slots.{AreSlots, IsSlot, all_names, names_of}
+use Rattle.wb_program_words.specs.Options.{Given, HasOption, AreOptions, names_of}
+use Rattle.wb_program_words.specs.Inner.Slots.{AreSlots, IsSlot}
 use Rattle.wb_program_words.proofs.PartLemmas.{given}
 
--- what no names of options have in common, from their first and third byte
-key : List ℕ → ℕ
-key [] = 0
-key (x ∷ []) = 0
-key (x ∷ y ∷ []) = 0
-key (x ∷ y ∷ z ∷ rest) = x + z
-
--- the slot of a key
-slot_by : ℕ → ℕ
-slot_by k = if k == 236 then 0 else if k == 213 then 1 else if k == 216 then 2 else if k == 219 then 3 else 4
-
--- the slot of a name is its place
-slot_back : (k : ℕ) (name : List ℕ) → slice_get all_names k ≡ Some name → slot_by (key name) ≡ k
-unfolding slot_by key
-slot_back zero name is =
-    let same : codes "text" ≡ name = cc is in
-    subst (λ (n : List ℕ). slot_by (key n) ≡ 0) same refl
-slot_back (suc zero) name is =
-    let same : codes "attr" ≡ name = cc is in
-    subst (λ (n : List ℕ). slot_by (key n) ≡ 1) same refl
-slot_back (suc (suc zero)) name is =
-    let same : codes "steps" ≡ name = cc is in
-    subst (λ (n : List ℕ). slot_by (key n) ≡ 2) same refl
-slot_back (suc (suc (suc zero))) name is =
-    let same : codes "number" ≡ name = cc is in
-    subst (λ (n : List ℕ). slot_by (key n) ≡ 3) same refl
-slot_back (suc (suc (suc (suc zero)))) name is =
-    let same : codes "size" ≡ name = cc is in
-    subst (λ (n : List ℕ). slot_by (key n) ≡ 4) same refl
-slot_back (suc (suc (suc (suc (suc k))))) name is = absurd (cc is)
-
--- no two names of options are one
-pub one_slot : (i j : ℕ) (name : List ℕ) → slice_get all_names i ≡ Some name → slice_get all_names j ≡ Some name → i ≡ j
-one_slot i j name first second = sym (slot_back i name first) ∙ slot_back j name second
-
 -- an element of a list in which one is replaced is that, or is elsewhere and was there
-set_cases : {X : Type 0} (xs : List X) (k j : ℕ) (new x : X) → slice_get (slice_set xs k new) j ≡ Some x
+pub set_cases : {X : Type 0} (xs : List X) (k j : ℕ) (new x : X) → slice_get (slice_set xs k new) j ≡ Some x
     → ((j ≡ k) × (new ≡ x)) ⊎ ((j ≢ k) × (slice_get xs j ≡ Some x))
 set_cases [] k j new x at = absurd (nothing_at x j at)
 set_cases (y ∷ ys) zero zero new x at = inl (refl, same_Some new x at)
@@ -100,32 +64,33 @@ module _ (options : List Given) (name value : List ℕ) where
   keeps other None differs is = not_there other differs is
   keeps other (Some v) differs is = still other v.now is
 
+module _ (names : List (List ℕ)) (options : List Given) (name value : List ℕ) where
   -- one more option has its slot
-  pub slots_with : (slots : List (Option (Bor (List ℕ)))) (k : ℕ) (given_value : Bor (List ℕ)) → AreSlots options slots
-      → slice_get all_names k ≡ Some name → slice_get slots k ≡ Some None → given_value.now ≡ value
-      → AreSlots longer (slice_set slots k (Some given_value))
-  slots_with slots k given_value are at free is = record {
+  pub slots_with : Differ names → (slots : List (Option (Bor (List ℕ)))) (k : ℕ) (given_value : Bor (List ℕ)) → AreSlots names options slots
+      → slice_get names k ≡ Some name → slice_get slots k ≡ Some None → given_value.now ≡ value
+      → AreSlots names (longer options name value) (slice_set slots k (Some given_value))
+  slots_with different slots k given_value are at free is = record {
     known = record {
-      known = All-push (λ (o : Given). Contains all_names o.name) options (given name value) are.known.known (contains_at all_names name k at);
-      once = subst Differ (sym longer_names) (different_push (names_of options) name are.known.once (are.each k name None at free));
+      known = All-push (λ (o : Given). Contains names o.name) options (given name value) are.known.known (contains_at names name k at);
+      once = subst Differ (sym (longer_names options name value)) (different_push (names_of options) name are.known.once (are.each k name None at free));
     };
     each = λ j other slot there stands. elim (set_cases slots k j (Some given_value) slot stands) [
       | inl (same, new) ↦
-          let names : other ≡ name = same_Some other name (sym there ∙ (ap (slice_get all_names) same ∙ at)) in
-          subst (λ (z : Option (Bor (List ℕ))). IsSlot longer other z) new
+          let alike : other ≡ name = same_Some other name (sym there ∙ (ap (slice_get names) same ∙ at)) in
+          subst (λ (z : Option (Bor (List ℕ))). IsSlot (longer options name value) other z) new
           (record {
             place = length options;
             given = push_last options (given name value)
-                ∙ ap Some (ap (λ (n : List ℕ). given n value) (sym names) ∙ ap (given other) (sym is));
+                ∙ ap Some (ap (λ (n : List ℕ). given n value) (sym alike) ∙ ap (given other) (sym is));
           })
       | inr (differs, old) ↦
-          keeps other slot (λ (same : other ≡ name). differs (one_slot j k name (there ∙ ap Some same) at)) (are.each j other slot there old)
+          keeps options name value other slot (λ (same : other ≡ name). differs (different name j k (there ∙ ap Some same) at)) (are.each j other slot there old)
     ];
   }
 
   -- an option that was there isn't allowed again
-  pub given_twice : (slots : List (Option (Bor (List ℕ)))) (k : ℕ) (w : Bor (List ℕ)) (more : List Given) → AreSlots options slots
-      → slice_get all_names k ≡ Some name → slice_get slots k ≡ Some (Some w) → ¬ AreOptions all_names (options ++ given name value ∷ more)
+  pub given_twice : (slots : List (Option (Bor (List ℕ)))) (k : ℕ) (w : Bor (List ℕ)) (more : List Given) → AreSlots names options slots
+      → slice_get names k ≡ Some name → slice_get slots k ≡ Some (Some w) → ¬ AreOptions names (options ++ given name value ∷ more)
   given_twice slots k w more are at taken allowed =
       let has : HasOption options name w.now = are.each k name (Some w) at taken in
       let all = options ++ given name value ∷ more in
@@ -140,16 +105,16 @@ module _ (options : List Given) (name value : List ℕ) where
       omega (arith, same, within)
 
   -- and neither is one of no known name
-  pub unknown_name : (more : List Given) → ¬ Contains all_names name → ¬ AreOptions all_names (options ++ given name value ∷ more)
+  pub unknown_name : (more : List Given) → ¬ Contains names name → ¬ AreOptions names (options ++ given name value ∷ more)
   unknown_name more unknown allowed =
-      unknown (All-head (λ (o : Given). Contains all_names o.name) (given name value) more
-      (all_right (λ (o : Given). Contains all_names o.name) options (given name value ∷ more) allowed.known))
+      unknown (All-head (λ (o : Given). Contains names o.name) (given name value) more
+      (all_right (λ (o : Given). Contains names o.name) options (given name value ∷ more) allowed.known))
 
 -- no options have empty slots
-pub no_slots : (slots : List (Option (Bor (List ℕ)))) → All (λ (slot : Option (Bor (List ℕ))). slot ≡ None) slots → AreSlots [] slots
-no_slots slots empty = record {
+pub no_slots : (names : List (List ℕ)) (slots : List (Option (Bor (List ℕ)))) → All (λ (slot : Option (Bor (List ℕ))). slot ≡ None) slots → AreSlots names [] slots
+no_slots names slots empty = record {
   known = record {
-    known = All-nil (λ (o : Given). Contains all_names o.name);
+    known = All-nil (λ (o : Given). Contains names o.name);
     once = λ name i j at there. absurd (none_some at);
   };
   each = λ k name slot at stands.

@@ -1,14 +1,14 @@
 -- What words split into, one option after another.
 use Rattle.std.proofs.Common.{◌≡◌, ◌<◌, ◌++◌, IfNone, ℕ, List, [], ◌∷◌, All, Contains, Option, Some, None, true, false, length, get_or}
-use Rattle.std.proofs.Common.{slice_get, slice_set, refl, sym, ap, subst, ◌∙◌, append_assoc, arith}
+use Rattle.std.proofs.Common.{slice_get, slice_set, refl, sym, ap, subst, ◌∙◌, append_assoc}
 use Rattle.std.proofs.lemmas.List.{append-nil}
 use Rattle.std.proofs.lemmas.List.Elements.{All-nil, All-cons}
 use Rattle.std.specs.Borrow.{Bor}
 use Rattle.std.specs.Option.{is_some}
 use Rattle.wb_lemmas.proofs.Places.{at_default}
-use Rattle.wb_program_words.specs.Words.{Given, Splits, AreOptions, IsPositional, no_option}
+use Rattle.wb_base.specs.Different.{Differ}
+use Rattle.wb_program_words.specs.Options.{Given, Splits, AreOptions, IsPositional, no_option}
 use Rattle.wb_program_words.specs.Inner.Parts.{IsBegun, IsOptionBefore, IsSplit, HasNoSplit, NeverSplits}
-use Rattle.wb_program_words.specs.Inner.Slots.{all_names}
 use Rattle.wb_program_words.proofs.PartLemmas.{given, option_splits, option_back}
 use Rattle.wb_program_words.proofs.SlotLemmas.{no_slots, slots_with, given_twice, unknown_name}
 
@@ -17,12 +17,11 @@ abbrev Slot : Type 0
 Slot = Option (Bor (List ℕ))
 
 -- at the beginning there is no option
-pub begun : (words : List (List ℕ)) → IsBegun words words (None ∷ None ∷ None ∷ None ∷ None ∷ [])
-begun words = record {
+pub begun : (names words : List (List ℕ)) → IsBegun names words words (None ∷ None ∷ None ∷ [])
+begun names words = record {
   options = [];
-  values = no_slots (None ∷ None ∷ None ∷ None ∷ None ∷ []) (All-cons E None (None ∷ None ∷ None ∷ None ∷ []) refl
-      (All-cons E None (None ∷ None ∷ None ∷ []) refl (All-cons E None (None ∷ None ∷ []) refl
-      (All-cons E None (None ∷ []) refl (All-cons E None [] refl (All-nil E))))));
+  values = no_slots names (None ∷ None ∷ None ∷ []) (All-cons E None (None ∷ None ∷ []) refl
+      (All-cons E None (None ∷ []) refl (All-cons E None [] refl (All-nil E))));
   onto = λ more positional splits. splits;
   back = λ all positional splits. (all, refl, splits);
 }
@@ -30,9 +29,9 @@ begun words = record {
     E : Slot → Type 0
     E slot = slot ≡ None
 
-module _ (words later : List (List ℕ)) (slots : List Slot) (is : IsBegun words later slots) where
+module _ (names words later : List (List ℕ)) (slots : List Slot) (is : IsBegun names words later slots) where
   -- what is left is positional
-  pub begun_splits : All IsPositional later → IsSplit words later slots
+  pub begun_splits : All IsPositional later → IsSplit names words later slots
   begun_splits all = record {
     options = is.options;
     values = is.values;
@@ -40,7 +39,7 @@ module _ (words later : List (List ℕ)) (slots : List Slot) (is : IsBegun words
   }
 
   -- what is left splits in no way
-  pub unbegun : NeverSplits later → HasNoSplit words
+  pub unbegun : NeverSplits later → HasNoSplit names words
   unbegun never options positional splits known = never (is.back options positional splits).0 positional (is.back options positional splits).2
 
   module _ (rest : List (List ℕ)) (name value : List ℕ) (before : IsOptionBefore later rest name value) where
@@ -53,11 +52,11 @@ module _ (words later : List (List ℕ)) (slots : List Slot) (is : IsBegun words
         (more, same ∙ ap (λ (z : List Given). is.options ++ z) first, after)
 
     -- and it has a slot, which was empty
-    pub begun_longer : (k : ℕ) (taken : Bor (List ℕ)) → slice_get all_names k ≡ Some name → slice_get slots k ≡ Some None → taken.now ≡ value
-        → IsBegun words rest (slice_set slots k (Some taken))
-    begun_longer k taken at free same = record {
+    pub begun_longer : Differ names → (k : ℕ) (taken : Bor (List ℕ)) → slice_get names k ≡ Some name → slice_get slots k ≡ Some None
+        → taken.now ≡ value → IsBegun names words rest (slice_set slots k (Some taken))
+    begun_longer different k taken at free same = record {
       options = is.options ++ given name value ∷ [];
-      values = slots_with is.options name value slots k taken is.values at free same;
+      values = slots_with names is.options name value different slots k taken is.values at free same;
       onto = λ more positional splits.
           subst (λ (os : List Given). Splits words os positional) (sym (append_assoc is.options (given name value ∷ []) more))
           (is.onto (given name value ∷ more) positional (option_splits later rest name value before more positional splits));
@@ -67,16 +66,16 @@ module _ (words later : List (List ℕ)) (slots : List Slot) (is : IsBegun words
     }
 
     -- no known options are those with a name that isn't known
-    pub none_known : ¬ Contains all_names name → HasNoSplit words
+    pub none_known : ¬ Contains names name → HasNoSplit names words
     none_known unknown all positional splits known =
         let (more, same, after) = goes_on all positional splits in
-        unknown_name is.options name value more unknown (subst (AreOptions all_names) same known)
+        unknown_name names is.options name value more unknown (subst (AreOptions names) same known)
 
     -- and none those with a name that was there
-    pub none_new : (k : ℕ) (w : Bor (List ℕ)) → slice_get all_names k ≡ Some name → slice_get slots k ≡ Some (Some w) → HasNoSplit words
+    pub none_new : (k : ℕ) (w : Bor (List ℕ)) → slice_get names k ≡ Some name → slice_get slots k ≡ Some (Some w) → HasNoSplit names words
     none_new k w at taken all positional splits known =
         let (more, same, after) = goes_on all positional splits in
-        given_twice is.options name value slots k w more is.values at taken (subst (AreOptions all_names) same known)
+        given_twice names is.options name value slots k w more is.values at taken (subst (AreOptions names) same known)
 
 -- what holds where there is nothing
 pub on_none : {X : Type 0} (o : Option X) (P : Type 0) → P → IfNone o P
@@ -97,12 +96,3 @@ free_slot slots k within is = by (get_or slots k None) refl is where
   by : (slot : Slot) → get_or slots k None ≡ slot → is_some slot ≡ false → slice_get slots k ≡ Some None
   by None same none = at_default slots k None within ∙ ap Some same
   by (Some w) same none = absurd (let never : true ≡ false = none in cc)
-
--- what a slot has, by its place
-pub slot_at : (slots : List Slot) (k : ℕ) (slot : Slot) → k < 5 → length slots ≡ 5 → get_or slots k None ≡ slot
-    → slice_get slots k ≡ Some slot
-slot_at slots k slot small five is = at_default slots k None (omega (arith, small, five)) ∙ ap Some is
-
--- no options are known ones
-pub no_known_options : AreOptions all_names []
-no_known_options = (no_slots [] (All-nil (λ (slot : Slot). slot ≡ None))).known

@@ -1,5 +1,8 @@
 -- What a user asks of the program: a command with what it needs. Files and names are texts of bytes.
-use Rattle.std.specs.Prelude.{ℕ, List}
+use Rattle.std.specs.Prelude.{ℕ, List, map, String, string_bytes}
+use Rattle.std.specs.declared.alloc.Global.{Global}
+use Rattle.wb_program_words.specs.declared.command.Command.{Command}
+use Rattle.wb_program_words.specs.declared.command.Command.TheVariants.{Value, Show, Check, Certify, Compose, Tree, Run, Generate, Reading}
 
 -- what is asked, one variant a command
 pub data Asked : Type 0 where
@@ -21,3 +24,19 @@ pub data Asked : Type 0 where
   generate : (number size : ℕ) (attribute host : List ℕ) (extensions : List (List ℕ)) → Asked
   -- say whether a text reads as in its host alone, or which marker is the first in it
   reading : (text host : List ℕ) (extensions : List (List ℕ)) → Asked
+
+-- the texts of words
+abbrev pub texts : List (String Global) → List (List ℕ)
+texts words = map string_bytes words
+
+-- what the command asks
+abbrev pub asked_by : Command → Asked
+asked_by (Value host term attribute) = value host.now term.now attribute.now
+asked_by (Show file) = show file.now
+asked_by (Check host) = check host.now
+asked_by (Certify host extensions) = certify host.now (texts extensions.now)
+asked_by (Compose host extensions) = compose host.now (texts extensions.now)
+asked_by (Tree text host extensions) = tree text.now host.now (texts extensions.now)
+asked_by (Run text attribute steps host extensions) = run text.now attribute.now steps host.now (texts extensions.now)
+asked_by (Generate number size attribute host extensions) = generate number size attribute.now host.now (texts extensions.now)
+asked_by (Reading text host extensions) = reading text.now host.now (texts extensions.now)

@@ -4,5 +4,5 @@ pub mod Slots
 pub mod Parts
 -- Numbers in decimal digits.
 pub mod Numbers
--- What a verb says with options and positional words.
-pub mod Sayings
+-- The values of options as the code has them.
+pub mod Values

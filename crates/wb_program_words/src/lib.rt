@@ -7,6 +7,8 @@ mod command;
 pub mod laws;
 mod numbers;
 mod options;
+mod rows;
+mod values;
 mod words;
 
 pub use command::Command;

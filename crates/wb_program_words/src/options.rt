@@ -1,28 +1,21 @@
 //! Which options are before the positional words, and with which values?
 //!
-//! Each option has a slot by its name; an option that is given twice or isn't known leaves no answer.
+//! Each option of a row has a slot by its place there; an option that is given twice or isn't of the row leaves no answer.
 
-ghost use Rattle.std.specs.Prelude.{◌≡◌, ◌≤◌, ◌<◌, ◌++◌, ◌↔◌, IsTrue, IfSome, IfNone, Some, Contains, All, drop, length, string_bytes, slice_get};
+ghost use Rattle.std.specs.Prelude.{◌≡◌, ◌≤◌, ◌<◌, ◌++◌, ◌↔◌, IsTrue, IfSome, IfNone, Some, Contains, All, drop, length, map, string_bytes, slice_get};
 ghost use lib.Chars.{codes};
-ghost use Rattle.wb_program_words.specs.Words.{IsOptionName, IsPositional, texts};
+ghost use Rattle.wb_base.specs.Different.{Differ};
+ghost use Rattle.wb_program_words.specs.Options.{IsOptionName, IsPositional};
+ghost use Rattle.wb_program_words.specs.Rows.{name_of};
+ghost use Rattle.wb_program_words.specs.Asked.{texts};
 ghost use Rattle.wb_program_words.specs.Inner.Parts.{EndsWithin, HasNoSplit, IsPart, IsSplit};
-ghost use Rattle.wb_program_words.specs.Inner.Slots.{all_names};
 
-// The slots of options.
-pub(crate) const TEXT: usize = 0;
-
-pub(crate) const ATTRIBUTE: usize = 1;
-
-pub(crate) const STEPS: usize = 2;
-
-pub(crate) const NUMBER: usize = 3;
-
-pub(crate) const SIZE: usize = 4;
+use crate::rows::{MOST_OPTIONS, OptionName, name_of};
 
 // The values of options, each in its slot.
 #[derive(Clone, Copy)]
 pub(crate) struct Options<'a> {
-    pub(crate) slots: [Option<&'a str>; 5],
+    pub(crate) slots: [Option<&'a str>; MOST_OPTIONS],
     // From this place on the words are positional.
     pub(crate) rest: usize,
 }
@@ -42,19 +35,21 @@ pub(crate) enum Part<'a> {
     Neither,
 }
 
-// The options with their values, and the place from which on the words are positional.
-pub(crate) fn options_of(words: &[String]) -> Option<Options<'_>>
-    ensures some { IfSome result (λ options. IsSplit (texts words.now) (drop options.rest (texts words.now)) options.slots × (options.rest ≤ length words.now)) }
-    ensures none { IfNone result (HasNoSplit (texts words.now)) }
+// The options of these names with their values, and the place from which on the words are positional.
+pub(crate) fn options_of<'a>(words: &'a [String], names: &[OptionName]) -> Option<Options<'a>>
+    requires few { length names.now ≤ 3 }
+    requires apart { Differ (map name_of names.now) }
+    ensures some { IfSome result (λ options. IsSplit (map name_of names.now) (texts words.now) (drop options.rest (texts words.now)) options.slots × (options.rest ≤ length words.now)) }
+    ensures none { IfNone result (HasNoSplit (map name_of names.now) (texts words.now)) }
 {
-    let mut slots = [None; 5];
+    let mut slots = [None; MOST_OPTIONS];
     let mut rest = 0;
     'parts: loop {
         match part_at(words, rest) {
             Part::Positional => return Some(Options { slots, rest }),
             Part::Neither => return None,
             Part::Option { name, value, next } => {
-                let slot = slot_of(name)?;
+                let slot = slot_of(names, name)?;
                 if slots[slot].is_some() {
                     return None;
                 }
@@ -132,19 +127,17 @@ fn cut(option: &str) -> Option<(&str, &str)>
     option.split_once('=')
 }
 
-// The slot of an option.
-fn slot_of(name: &str) -> Option<usize>
-    ensures some { IfSome result (λ slot. (slot < 5) × (slice_get all_names slot ≡ Some name.now)) }
-    ensures none { IfNone result (¬ Contains all_names name.now) }
+// The place of the option of this name.
+fn slot_of(names: &[OptionName], name: &str) -> Option<usize>
+    ensures some { IfSome result (λ slot. (slot < length names.now) × (slice_get (map name_of names.now) slot ≡ Some name.now)) }
+    ensures none { IfNone result (¬ Contains (map name_of names.now) name.now) }
 {
-    match name {
-        "text" => Some(TEXT),
-        "attr" => Some(ATTRIBUTE),
-        "steps" => Some(STEPS),
-        "number" => Some(NUMBER),
-        "size" => Some(SIZE),
-        _ => None,
+    'names: for slot in 0..names.len() {
+        if name_of(names[slot]) == name {
+            return Some(slot);
+        }
     }
+    None
 }
 
 // Whether each word can be a file.

@@ -4,7 +4,7 @@
 
 use crate::runs::{Row, each_ends_so};
 use crate::specifications::{KW0, MINI, TINY};
-use wb_program_inputs::Status;
+use wb_program::Status;
 
 const ADJ: &str = "format 1; host adj; \
     terminal A /a/; terminal X /x/; terminal P /p/; terminal Q /q/; terminal Y /y/; \

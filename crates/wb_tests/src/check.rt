@@ -6,7 +6,7 @@ use crate::long_runs::{LongRow, each_long_ends_so};
 use crate::runs::{Row, each_ends_so, expect, one_ends_so, status_of};
 use crate::specifications::{AMB, KW, KW0, LIST, MINI, PTR};
 use std::alloc::{AllocError, Global};
-use wb_program_inputs::Status;
+use wb_program::Status;
 use wb_world::MemorySink;
 
 static CERTIFIED: [Row; 4] = [

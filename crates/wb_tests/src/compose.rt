@@ -4,7 +4,7 @@
 
 use crate::runs::{Row, each_ends_so};
 use crate::specifications::{A, B, DUP, LIST, MINI, MINUS, TINY};
-use wb_program_inputs::Status;
+use wb_program::Status;
 
 static COMPOSED: [Row; 12] = [
     (

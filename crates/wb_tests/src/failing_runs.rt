@@ -5,7 +5,7 @@ ghost use Rattle.std.specs.Prelude.{◌≤◌};
 use crate::runs::{Row, add_files, expect, expect_none, status_on};
 use std::alloc::{AllocError, Global};
 use std::process::Abort;
-use wb_program_inputs::Status;
+use wb_program::Status;
 use wb_world::{MemoryShelf, MemorySink};
 
 /// Which read and which write of a run fail, counted from 1 and 0 for none, and the greatest number of bytes that a write takes.

@@ -3,7 +3,7 @@
 use crate::runs::{Row, each_ends_so, ends_so, expect_none, status_of};
 use crate::specifications::{A, B, LIST, MINI, TINY};
 use std::alloc::{AllocError, Global};
-use wb_program_inputs::Status;
+use wb_program::Status;
 use wb_world::MemorySink;
 
 const USAGE: &str =

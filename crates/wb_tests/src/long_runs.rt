@@ -6,7 +6,7 @@ use crate::runs::{ends_so, expect_none};
 use crate::specifications::DUP;
 use std::alloc::{AllocError, Global};
 use std::process::Abort;
-use wb_program_inputs::Status;
+use wb_program::Status;
 
 /// A text and the number of its repetitions.
 pub type Piece = (&'static str, usize);

@@ -2,7 +2,7 @@
 
 use crate::long_runs::{LongRow, Piece, each_long_ends_so};
 use crate::specifications::{MINI, TINY};
-use wb_program_inputs::Status;
+use wb_program::Status;
 
 // A statement that prints a number in many parentheses.
 const DEEP: &[Piece] = &[

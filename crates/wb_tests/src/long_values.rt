@@ -3,7 +3,7 @@
 use crate::long_runs::{LongRow, Piece, each_long_ends_so};
 use crate::runs::{Row, each_ends_so};
 use crate::specifications::{CALC0, DBL, LOOP, TWINS};
-use wb_program_inputs::Status;
+use wb_program::Status;
 
 // The greatest length of a file.
 const LIMIT: usize = 1_048_576;

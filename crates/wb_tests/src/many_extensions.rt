@@ -9,8 +9,7 @@ use crate::specifications::TINY;
 use std::alloc::{AllocError, Global};
 use std::process::Abort;
 use wb_operations::standard_table;
-use wb_program::workbench;
-use wb_program_inputs::Status;
+use wb_program::{Status, workbench};
 use wb_world::{Got, MemorySink, Shelf};
 
 // A host, a text, and an extension of the host for each other name.

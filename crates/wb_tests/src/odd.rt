@@ -11,7 +11,7 @@ use crate::specifications::TINY;
 use std::alloc::{AllocError, Global};
 use wb_base::Kind;
 use wb_operations::{Meaning, OperationRefusal, OperationTable, standard_to_int};
-use wb_program_inputs::Status;
+use wb_program::Status;
 use wb_values::Value;
 
 // What the two operations mean.

@@ -4,7 +4,7 @@
 //! extension is in `certify`.
 
 use crate::runs::{Row, each_ends_so};
-use wb_program_inputs::Status;
+use wb_program::Status;
 
 // Whether an amount keeps to a limit, with places for relations, factors and units.
 const LIMITS: &str = r#"format 1; host limits;

@@ -6,7 +6,7 @@ use crate::failing_runs::{each_read_may_fail, each_write_may_fail};
 use crate::long_runs::{LongRow, each_long_ends_so};
 use crate::runs::{Row, each_ends_so};
 use crate::specifications::{A, B, DUP, KW, KW0, LIST, MINI, POWER, REPEAT, TINY};
-use wb_program_inputs::Status;
+use wb_program::Status;
 
 static ROWS: [Row; 14] = [
     (

@@ -8,7 +8,7 @@ ghost use Rattle.std.specs.Prelude.{◌<◌};
 use crate::runs::{ends_so, expect_none, status_of};
 use crate::specifications::{DUP, MINUS, TINY};
 use std::alloc::{AllocError, Global};
-use wb_program_inputs::Status;
+use wb_program::Status;
 use wb_world::MemorySink;
 
 // Numbers that look random, the same for the same start.

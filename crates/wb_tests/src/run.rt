@@ -5,7 +5,7 @@
 use crate::failing_runs::{each_read_may_fail, each_write_may_fail};
 use crate::runs::{Row, each_ends_so};
 use crate::specifications::{A, B, COUNT, CTX2, DUP, LOOP, MINI, MINUS, POWER, REPEAT, SWAP, TINY};
-use wb_program_inputs::Status;
+use wb_program::Status;
 
 // Statements with squares and repetitions.
 const STATEMENTS: &str = "let x = 2 + 3;\nprint square(x) * 2;\ntwice { print x; }\n";

@@ -8,8 +8,7 @@ ghost use Rattle.wb_operations.specs.Kept.{IsKept};
 use std::alloc::{AllocError, Global};
 use std::process::Abort;
 use wb_operations::{Meaning, OperationRefusal, OperationTable, standard_table};
-use wb_program::workbench;
-use wb_program_inputs::Status;
+use wb_program::{Status, workbench};
 use wb_values::Value;
 use wb_world::{MemoryShelf, MemorySink};
 

@@ -8,7 +8,7 @@ use crate::prefixes::MINI_PREFIXES;
 use crate::runs::{Row, each_ends_so, ends_so, expect_none, status_of};
 use crate::specifications::{ALL, MINI};
 use std::alloc::{AllocError, Global};
-use wb_program_inputs::Status;
+use wb_program::Status;
 use wb_world::MemorySink;
 
 const SHOW: &str = "workbench show h";

@@ -9,7 +9,7 @@ use crate::specifications::{CALC0, DIVS};
 use std::alloc::{AllocError, Global};
 use wb_base::Kind;
 use wb_operations::{Meaning, OperationTable, standard_sub};
-use wb_program_inputs::Status;
+use wb_program::Status;
 use wb_values::Value;
 
 // The first number less the second.

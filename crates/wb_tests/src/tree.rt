@@ -5,7 +5,7 @@
 use crate::long_runs::{LongRow, each_long_ends_so};
 use crate::runs::{Row, each_ends_so};
 use crate::specifications::{KW, KW0, LIST, PTR};
-use wb_program_inputs::Status;
+use wb_program::Status;
 
 static ROWS: [Row; 11] = [
     (

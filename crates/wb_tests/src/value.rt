@@ -5,7 +5,7 @@
 use crate::failing_runs::{each_read_may_fail, each_write_may_fail};
 use crate::runs::{Row, each_ends_so, each_line_ends_so, one_ends_so};
 use crate::specifications::{CALC, CALC0, CYC, DBL, DIVS, MINI, TWINS};
-use wb_program_inputs::Status;
+use wb_program::Status;
 
 const THREE: &str = "add(lit(1), lit(2))\n";
 

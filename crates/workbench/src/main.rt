@@ -7,8 +7,7 @@ use std::process::ExitCode;
 use std::rt::Env;
 use std::{env, io};
 use wb_operations::standard_table;
-use wb_program::workbench;
-use wb_program_inputs::Status;
+use wb_program::{Status, workbench};
 use wb_world::{FileShelf, OutputSink};
 
 fn main(rt: HostRuntime) -> ExitCode {

@@ -1,18 +1,11 @@
--- What the words of a command keep, and what their answer is.
-use Rattle.std.specs.Prelude.{◌≡◌, ◌≢◌, ◌≤◌, List, ℕ, Option}
+-- What the answer to words is.
+use Rattle.std.specs.Prelude.{◌≡◌, ◌≢◌, List, ℕ, Option}
 use Rattle.wb_world.specs.Shelf.{Files}
 use Rattle.wb_operations.specs.Operations.{Operations}
-use Rattle.wb_program_words.specs.Asked.{Asked}
-use Rattle.wb_program_words.specs.Asked as a
-use Rattle.wb_program_inputs.specs.declared.answer.Answer.{Answer}
-use Rattle.wb_program_inputs.specs.declared.status.Status.TheVariants.{Usage, WriteFault}
+use Rattle.wb_program.specs.declared.answer.Answer.{Answer}
+use Rattle.wb_program.specs.declared.status.Status.TheVariants.{Usage, WriteFault}
 use Rattle.wb_program.specs.Report.{InCommandSet, IsReport}
 use Rattle.wb_program.specs.Written.{WritesNothing}
-
--- a text that is to be made is to have few leaves
-abbrev pub HasFewLeaves : Asked → Type 0
-HasFewLeaves (a.generate number size attribute host extensions) = size ≤ 100000
-HasFewLeaves other = Unit {0}
 
 -- the answer to words is their report, and no status that ends a run otherwise
 pub record Replies (operations : Operations) (words : List (List ℕ)) (known : Option Files) (answer : Answer) : Type 0 where

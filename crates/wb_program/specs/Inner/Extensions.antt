@@ -4,13 +4,13 @@ use Rattle.wb_certify_files.specs.HostContents.{IsHostText}
 use Rattle.wb_operations.specs.Operations.{OperationSignature}
 use Rattle.wb_syntax_resolved.specs.declared.resolved.ResolvedParts.{ResolvedParts}
 use Rattle.wb_world.specs.Shelf.{Files}
-use Rattle.wb_program_inputs.specs.Reads.{certified_host, certified_extension, StopsAt}
-use Rattle.wb_program_inputs.specs.Checks.{Report}
-use Rattle.wb_program_inputs.specs.Files.{KnownFile}
-use Rattle.wb_program_inputs.specs.Stopped.{Outside, Stopped}
-use Rattle.wb_program_inputs.specs.declared.answer.Answer.{Answer}
-use Rattle.wb_program_inputs.specs.declared.reading.ReadFailure.{ReadFailure}
-use Rattle.wb_program_inputs.specs.declared.status.Status.{Status}
+use Rattle.wb_program.specs.Stops.{certified_host, certified_extension, StopsAt}
+use Rattle.wb_program.specs.Checks.{Report}
+use Rattle.wb_program.specs.Files.{KnownFile}
+use Rattle.wb_program.specs.Inner.Stopped.{Outside, Stopped}
+use Rattle.wb_program.specs.declared.answer.Answer.{Answer}
+use Rattle.wb_program.specs.declared.files.ReadFailure.{ReadFailure}
+use Rattle.wb_program.specs.declared.status.Status.{Status}
 use Rattle.wb_program.specs.CertifyReport.{ExtensionsReport, IsExtensionNamed}
 
 -- the report of a run that ends at an extension, whatever comes after it

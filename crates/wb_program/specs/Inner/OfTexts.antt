@@ -2,7 +2,7 @@
 use Rattle.std.specs.Prelude.{ℕ, List}
 use Rattle.wb_operations.specs.Operations.{OperationSignature}
 use Rattle.wb_syntax_resolved.specs.declared.resolved.ResolvedParts.{ResolvedParts}
-use Rattle.wb_program_inputs.specs.Checks.{Report}
+use Rattle.wb_program.specs.Checks.{Report}
 use Rattle.wb_program.specs.ReadingReport.{TextReadingReport}
 use Rattle.wb_program.specs.TreeReport.{TextReport}
 use Rattle.wb_program.specs.declared.texts.OfText.{OfText}

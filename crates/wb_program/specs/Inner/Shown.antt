@@ -8,11 +8,11 @@ use Rattle.wb_report.specs.declared.outcome.Outcome.TheVariants as o
 use Rattle.wb_report.specs.declared.refusal.Refusal.{Refusal}
 use Rattle.wb_certify_shown.specs.Shows.{written_reason, of_spec}
 use Rattle.wb_syntax.specs.Canonical.{IsCanonical}
-use Rattle.wb_program_inputs.specs.Checks.{Ends, Check}
-use Rattle.wb_program_inputs.specs.Contents.{ReadIs}
-use Rattle.wb_program_inputs.specs.declared.reading.Contents.{Contents}
-use Rattle.wb_program_inputs.specs.declared.status.Status.{Status}
-use Rattle.wb_program_inputs.specs.declared.status.Status.TheVariants.{Done, SpecRefused}
+use Rattle.wb_program.specs.Checks.{Ends, Check}
+use Rattle.wb_program.specs.Inner.Contents.{ReadIs}
+use Rattle.wb_program.specs.declared.files.Contents.{Contents}
+use Rattle.wb_program.specs.declared.status.Status.{Status}
+use Rattle.wb_program.specs.declared.status.Status.TheVariants.{Done, SpecRefused}
 
 -- the line of a file shows this refusal
 pub record ShowsRefusal (refusal : SpecRefusal) (file bytes : List ℕ) : Type 0 where

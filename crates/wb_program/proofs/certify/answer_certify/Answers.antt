@@ -2,15 +2,15 @@
 use Rattle.std.proofs.Common.{rules, ◌≤◌, sym, [], Option, inr, length, map, subst, arith}
 use Rattle.wb_certify_files.specs.HostContents.{IsHostText, IsHostRefusal}
 use Rattle.wb_world.specs.Shelf.{Files}
-use Rattle.wb_program_words.specs.Words.{texts}
-use Rattle.wb_program_inputs.specs.Reads.{certified_extension}
-use Rattle.wb_program_inputs.specs.Files.{KnownFile}
-use Rattle.wb_program_inputs.specs.HostChecks.{IsHostFile, RefusesHost}
-use Rattle.wb_program_inputs.specs.Stopped.{outside}
-use Rattle.wb_program_inputs.proofs.CauseLemmas.{err_of, goes_on_here, some_certified}
-use Rattle.wb_program_inputs.proofs.WordLemmas.{few_texts}
+use Rattle.wb_program_words.specs.Asked.{texts}
+use Rattle.wb_program.specs.Stops.{certified_extension}
+use Rattle.wb_program.specs.Files.{KnownFile}
+use Rattle.wb_program.specs.HostChecks.{IsHostFile, RefusesHost}
+use Rattle.wb_program.specs.Inner.Stopped.{outside}
+use Rattle.wb_program.proofs.StopLemmas.{err_of, goes_on_here, some_certified}
+use Rattle.wb_program.proofs.WordLemmas.{few_texts}
 use Rattle.wb_program.specs.CertifyReport.{ExtensionsReport}
-use Rattle.wb_program_inputs.proofs.MakesLemmas.{answered, exhausted, handed, made_since}
+use Rattle.wb_program.proofs.MakesLemmas.{answered, exhausted, handed, made_since}
 use Rattle.wb_program.proofs.ExtensionLemmas.{certify_certified, certify_refused, certify_too_many, certify_stops_first, stops_at_since}
 use Rattle.wb_program.proofs.certify.answer_certify.Goals as goal
 

@@ -2,13 +2,13 @@
 use Rattle.std.proofs.Common.{◌≡◌, ◌<◌, ◌+◌, ◌++◌, sym, ℕ, List, [], ◌∷◌, Option, length, drop, subst, arith}
 use Rattle.std.proofs.lemmas.Grind.{common_steps}
 use Rattle.wb_world.specs.Shelf.{Files}
-use Rattle.wb_program_words.specs.Words.{texts}
-use Rattle.wb_program_inputs.specs.Stopped.{outside}
-use Rattle.wb_program_inputs.proofs.CauseLemmas.{goes_on_twice, stops_since}
-use Rattle.wb_program_inputs.proofs.WordLemmas.{texts_from, texts_past}
+use Rattle.wb_program_words.specs.Asked.{texts}
+use Rattle.wb_program.specs.Inner.Stopped.{outside}
+use Rattle.wb_program.proofs.StopLemmas.{goes_on_twice, stops_since}
+use Rattle.wb_program.proofs.WordLemmas.{texts_from, texts_past}
 use Rattle.wb_program.specs.CertifyReport.{IsExtensionNamed}
 use Rattle.wb_program.specs.Inner.Extensions.{EndsAtExtension, IsFound, LeadsTo}
-use Rattle.wb_program_inputs.proofs.MakesLemmas.{answered, exhausted, handed}
+use Rattle.wb_program.proofs.MakesLemmas.{answered, exhausted, handed}
 use Rattle.wb_program.proofs.ExtensionLemmas.{leads_last, leads_on, leads_refused, stops_on, stops_here}
 use Rattle.wb_program.proofs.certify.answer_extensions.Goals as goal
 

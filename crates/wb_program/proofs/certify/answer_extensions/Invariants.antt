@@ -1,7 +1,7 @@
 -- A report of the extensions that are left is one of all, and so is a run that stops at one of them.
 use Rattle.std.proofs.Common.{◌≤◌, ◌-◌, length}
-use Rattle.wb_program_words.specs.Words.{texts}
-use Rattle.wb_program_inputs.specs.Stopped.{outside, GoesOn}
+use Rattle.wb_program_words.specs.Asked.{texts}
+use Rattle.wb_program.specs.Inner.Stopped.{outside, GoesOn}
 use Rattle.wb_program.specs.Inner.Extensions.{LeadsTo, StopsFrom}
 use Rattle.wb_program.proofs.certify.answer_extensions.Given as goal
 

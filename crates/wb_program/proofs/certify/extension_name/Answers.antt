@@ -1,7 +1,7 @@
 -- The copied name is the extension's.
 use Rattle.std.proofs.Common.{◌≡◌, ℕ, List, sym, subst}
 use Rattle.wb_certify.specs.Extensions.{IsOneExtension}
-use Rattle.wb_program_inputs.proofs.CauseLemmas.{on_ok}
+use Rattle.wb_program.proofs.StopLemmas.{on_ok}
 use Rattle.wb_program.proofs.certify.extension_name.Goals as goal
 
 pub returns : goal.returns

@@ -1,10 +1,10 @@
 -- What was read is a certified extension of this name, and so the file is; or the run ends with its refusal.
 use Rattle.std.proofs.Common.{◌≡◌, Ok, Err, subst, List, ℕ}
 use Rattle.wb_certify_files.specs.ExtensionContents.{IsExtensionText, IsExtensionRefusal}
-use Rattle.wb_program_inputs.specs.ExtensionChecks.{RefusedExtension}
-use Rattle.wb_program_inputs.specs.Files.{KnownFile}
-use Rattle.wb_program_inputs.proofs.HostLemmas.{read_is}
-use Rattle.wb_program_inputs.proofs.MakesLemmas.{answered, exhausted, handed}
+use Rattle.wb_program.specs.ExtensionChecks.{RefusedExtension}
+use Rattle.wb_program.specs.Files.{KnownFile}
+use Rattle.wb_program.proofs.FileLemmas.{read_is}
+use Rattle.wb_program.proofs.MakesLemmas.{answered, exhausted, handed}
 use Rattle.wb_program.proofs.ExtensionLemmas.{is_named, refused_ends}
 use Rattle.wb_program.proofs.certify.name_of.Goals as goal
 

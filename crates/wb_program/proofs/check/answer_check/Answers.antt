@@ -1,10 +1,10 @@
 -- A certified host has its report.
 use Rattle.std.proofs.Common.{rules, []}
 use Rattle.wb_certify_files.specs.HostContents.{IsHostRefusal}
-use Rattle.wb_program_inputs.specs.HostChecks.{IsHostFile, RefusesHost}
-use Rattle.wb_program_inputs.specs.Reads.{certified_host}
-use Rattle.wb_program_inputs.proofs.CauseLemmas.{err_of}
-use Rattle.wb_program_inputs.proofs.MakesLemmas.{answered, handed_first, exhausted}
+use Rattle.wb_program.specs.HostChecks.{IsHostFile, RefusesHost}
+use Rattle.wb_program.specs.Stops.{certified_host}
+use Rattle.wb_program.proofs.StopLemmas.{err_of}
+use Rattle.wb_program.proofs.MakesLemmas.{answered, handed_first, exhausted}
 use Rattle.wb_program.proofs.HostLemmas.{check_done, check_refused}
 use Rattle.wb_program.proofs.check.answer_check.Goals as goal
 

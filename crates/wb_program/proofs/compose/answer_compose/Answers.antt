@@ -4,14 +4,14 @@ use Rattle.wb_certify.specs.Kept.{ExtensionView}
 use Rattle.wb_operations.specs.Operations.{OperationSignature}
 use Rattle.wb_syntax_resolved.specs.declared.resolved.ResolvedParts.{ResolvedParts}
 use Rattle.wb_compose_texts.specs.Unions.{all_resolved}
-use Rattle.wb_program_words.specs.Words.{texts}
-use Rattle.wb_program_inputs.specs.Checks.{Report, Ends}
-use Rattle.wb_program_inputs.specs.Composable.{AreRead, RefusesAny}
-use Rattle.wb_program_inputs.specs.declared.status.Status.TheVariants.{Done}
-use Rattle.wb_program_inputs.proofs.ComposeLemmas.{several_ended, several_read}
-use Rattle.wb_program_inputs.proofs.CauseLemmas.{err_of, ok_of}
+use Rattle.wb_program_words.specs.Asked.{texts}
+use Rattle.wb_program.specs.Checks.{Report, Ends}
+use Rattle.wb_program.specs.Inner.Composable.{AreRead, RefusesAny}
+use Rattle.wb_program.specs.declared.status.Status.TheVariants.{Done}
+use Rattle.wb_program.proofs.ComposeLemmas.{several_ended, several_read}
+use Rattle.wb_program.proofs.StopLemmas.{err_of, ok_of}
 use Rattle.wb_program.specs.ComposeReport.{ComposedLines}
-use Rattle.wb_program_inputs.proofs.MakesLemmas.{answered, handed, exhausted}
+use Rattle.wb_program.proofs.MakesLemmas.{answered, handed, exhausted}
 use Rattle.wb_program.proofs.compose.answer_compose.Goals as goal
 
 pub returns-in_ok-answer-in-Ok : goal.returns-in_ok-answer-in-Ok

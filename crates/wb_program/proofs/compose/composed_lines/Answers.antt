@@ -6,9 +6,9 @@ use Rattle.wb_report.specs.Lines.{report_of}
 use Rattle.wb_report.specs.declared.done.Done.TheVariants as done
 use Rattle.wb_report.specs.declared.outcome.Outcome.TheVariants as o
 use Rattle.wb_compose_texts.specs.Unions.{all_resolved}
-use Rattle.wb_program_inputs.specs.Checks.{Ends}
-use Rattle.wb_program_inputs.specs.declared.status.Status.TheVariants.{Done}
-use Rattle.wb_program_inputs.proofs.CauseLemmas.{on_both_ok}
+use Rattle.wb_program.specs.Checks.{Ends}
+use Rattle.wb_program.specs.declared.status.Status.TheVariants.{Done}
+use Rattle.wb_program.proofs.StopLemmas.{on_both_ok}
 use Rattle.wb_program.specs.ComposeReport.{ComposedLines}
 use Rattle.wb_program.proofs.compose.composed_lines.Goals as goal
 

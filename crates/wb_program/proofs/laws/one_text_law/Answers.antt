@@ -2,13 +2,4 @@ use Rattle.wb_program.proofs.OneReport.{one_text}
 use Rattle.wb_program.proofs.laws.one_text_law.Goals as goal
 
 pub returns : goal.returns
-returns c = one_text (record {
-  extensions = c.one_extension_answer_law.ensures;
-  headers = c.header_law.ensures;
-  withdrawn = c.withdrawn_law.ensures;
-  texts = c.one_answer_law.ensures;
-  readings = c.one_reading_law.ensures;
-  attributes = c.one_root_law.ensures;
-  values = c.one_value_law.ensures;
-  made = c.one_text_law.ensures;
-})
+returns c = one_text c.laws_below.ensures

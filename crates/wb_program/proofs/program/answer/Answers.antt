@@ -1,16 +1,17 @@
 -- What a command is answered is the report of the words that ask for it.
 use Rattle.std.proofs.Common.{rules, ◌≡◌}
 use Rattle.wb_operations.specs.Operations.{Operations}
-use Rattle.wb_program_words.specs.Commands.{asked_by}
-use Rattle.wb_program_words.specs.Words.{texts, Asks}
-use Rattle.wb_program_inputs.specs.Stopped.{outside, Stopped}
-use Rattle.wb_program_inputs.specs.declared.reading.ReadFailure.TheVariants.{NoMemory}
-use Rattle.wb_program_inputs.proofs.CauseLemmas.{goes_on_here, on_err}
-use Rattle.wb_program.specs.Reads.{ReadsTo}
+use Rattle.wb_program_words.specs.Asked.{asked_by, texts}
+use Rattle.wb_program_words.specs.Words.{Asks}
+use Rattle.wb_program_words.proofs.FewLeaves.{few_leaves}
+use Rattle.wb_program.specs.Inner.Stopped.{outside, Stopped}
+use Rattle.wb_program.specs.declared.files.ReadFailure.TheVariants.{NoMemory}
+use Rattle.wb_program.proofs.StopLemmas.{goes_on_here, on_err}
+use Rattle.wb_program.specs.Commands.{ReadsTo}
 use Rattle.wb_program.specs.Report.{InCommandSet}
-use Rattle.wb_program_inputs.proofs.MakesLemmas.{answered, exhausted}
+use Rattle.wb_program.proofs.MakesLemmas.{answered, exhausted}
 use Rattle.wb_program.proofs.Answering.{made_so}
-use Rattle.wb_program.proofs.AnswerLemmas.{few_leaves, replies, replies_usage}
+use Rattle.wb_program.proofs.AnswerLemmas.{replies, replies_usage}
 use Rattle.wb_program.proofs.CauseLemmas.{comes_to, stopped_asked}
 use Rattle.wb_program.proofs.program.answer.Goals as goal
 

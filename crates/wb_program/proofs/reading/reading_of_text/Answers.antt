@@ -1,6 +1,6 @@
 -- The reading of a text is shown.
 use Rattle.wb_compose_texts.specs.Unions.{all_resolved}
-use Rattle.wb_program_inputs.proofs.CauseLemmas.{on_ok}
+use Rattle.wb_program.proofs.StopLemmas.{on_ok}
 use Rattle.wb_program.specs.ReadingReport.{ShownReading, TextReadingReport}
 use Rattle.wb_program.proofs.reading.reading_of_text.Goals as goal
 

@@ -1,11 +1,11 @@
 -- What was read is refused for the reason that the reader gives.
 use Rattle.std.proofs.Common.{ℕ, List, inl, sym, subst}
 use Rattle.wb_reader.specs.Refusals.{HasCause}
-use Rattle.wb_program_inputs.specs.Checks.{Ends}
-use Rattle.wb_program_inputs.specs.Contents.{ReadIs}
-use Rattle.wb_program_inputs.specs.declared.reading.Contents.{Contents}
-use Rattle.wb_program_inputs.specs.declared.status.Status.TheVariants.{SpecRefused}
-use Rattle.wb_program_inputs.proofs.CauseLemmas.{on_ok}
+use Rattle.wb_program.specs.Checks.{Ends}
+use Rattle.wb_program.specs.Inner.Contents.{ReadIs}
+use Rattle.wb_program.specs.declared.files.Contents.{Contents}
+use Rattle.wb_program.specs.declared.status.Status.TheVariants.{SpecRefused}
+use Rattle.wb_program.proofs.StopLemmas.{on_ok}
 use Rattle.wb_program.specs.Inner.Shown.{ContentsShow, ShowsRefusal}
 use Rattle.wb_program.proofs.ShowLemmas.{refuses_read}
 use Rattle.wb_program.proofs.show.answer_contents.Goals as goal

@@ -1,5 +1,5 @@
 -- The report of what was read is that of the file.
-use Rattle.wb_program_inputs.proofs.MakesLemmas.{answered, handed, exhausted}
+use Rattle.wb_program.proofs.MakesLemmas.{answered, handed, exhausted}
 use Rattle.wb_program.proofs.ShowLemmas.{show_checks}
 use Rattle.wb_program.proofs.show.answer_show.Goals as goal
 

@@ -4,9 +4,9 @@ use Rattle.wb_report.specs.Lines.{report_of}
 use Rattle.wb_report.specs.declared.outcome.Outcome.TheVariants as o
 use Rattle.wb_report.specs.declared.refusal.Refusal.TheVariants as r
 use Rattle.wb_certify_shown.specs.Shows.{written_reason, of_spec}
-use Rattle.wb_program_inputs.specs.Checks.{Ends}
-use Rattle.wb_program_inputs.specs.declared.status.Status.TheVariants.{SpecRefused}
-use Rattle.wb_program_inputs.proofs.CauseLemmas.{on_both_ok}
+use Rattle.wb_program.specs.Checks.{Ends}
+use Rattle.wb_program.specs.declared.status.Status.TheVariants.{SpecRefused}
+use Rattle.wb_program.proofs.StopLemmas.{on_both_ok}
 use Rattle.wb_program.specs.Inner.Shown.{ShowsRefusal}
 use Rattle.wb_program.proofs.show.refused.Goals as goal
 

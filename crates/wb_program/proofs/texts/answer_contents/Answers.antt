@@ -1,8 +1,8 @@
 -- What was read is a text, and its answer is shown.
 use Rattle.std.proofs.Common.{ℕ, List, IfOk, sym, subst}
 use Rattle.wb_compose_texts.specs.Unions.{all_resolved}
-use Rattle.wb_program_inputs.specs.Texts.{ReadText}
-use Rattle.wb_program_inputs.specs.declared.reading.Contents.{Contents}
+use Rattle.wb_program.specs.Inner.Contents.{ReadText}
+use Rattle.wb_program.specs.declared.files.Contents.{Contents}
 use Rattle.wb_program.specs.Inner.OfTexts.{OfTextReport}
 use Rattle.wb_program.proofs.texts.answer_contents.Goals as goal
 

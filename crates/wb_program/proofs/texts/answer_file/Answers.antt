@@ -1,9 +1,9 @@
 -- The report of what was read is that of the file.
 use Rattle.std.proofs.Common.{ℕ, List}
 use Rattle.wb_compose_texts.specs.Unions.{all_resolved}
-use Rattle.wb_program_inputs.proofs.HostLemmas.{text_checks}
+use Rattle.wb_program.proofs.FileLemmas.{text_checks}
 use Rattle.wb_program.specs.Inner.OfTexts.{OfTextReport}
-use Rattle.wb_program_inputs.proofs.MakesLemmas.{answered, handed, exhausted}
+use Rattle.wb_program.proofs.MakesLemmas.{answered, handed, exhausted}
 use Rattle.wb_program.proofs.texts.answer_file.Goals as goal
 
 pub returns : goal.returns

@@ -4,17 +4,17 @@ use Rattle.wb_certify.specs.Kept.{ExtensionView}
 use Rattle.wb_operations.specs.Operations.{OperationSignature}
 use Rattle.wb_syntax_resolved.specs.declared.resolved.ResolvedParts.{ResolvedParts}
 use Rattle.wb_compose_texts.specs.Unions.{all_resolved}
-use Rattle.wb_program_words.specs.Words.{texts}
+use Rattle.wb_program_words.specs.Asked.{texts}
 use Rattle.wb_world.specs.Shelf.{Files}
-use Rattle.wb_program_inputs.specs.Checks.{Check, Report}
-use Rattle.wb_program_inputs.specs.Composable.{AreRead, RefusesAny}
-use Rattle.wb_program_inputs.specs.Stopped.{outside}
-use Rattle.wb_program_inputs.specs.Texts.{IsText, IsTooLongText}
-use Rattle.wb_program_inputs.specs.declared.status.Status.TheVariants.{TextTooLong}
-use Rattle.wb_program_inputs.proofs.CauseLemmas.{err_of, ok_of}
-use Rattle.wb_program_inputs.proofs.ComposeLemmas.{composed_ended, several_ended, several_read}
+use Rattle.wb_program.specs.Checks.{Check, Report}
+use Rattle.wb_program.specs.Inner.Composable.{AreRead, RefusesAny}
+use Rattle.wb_program.specs.Inner.Stopped.{outside}
+use Rattle.wb_program.specs.Texts.{IsText, IsTooLongText}
+use Rattle.wb_program.specs.declared.status.Status.TheVariants.{TextTooLong}
+use Rattle.wb_program.proofs.StopLemmas.{err_of, ok_of}
+use Rattle.wb_program.proofs.ComposeLemmas.{composed_ended, several_ended, several_read}
 use Rattle.wb_program.specs.Inner.OfTexts.{OfTextReport}
-use Rattle.wb_program_inputs.proofs.MakesLemmas.{answered, handed, made_since}
+use Rattle.wb_program.proofs.MakesLemmas.{answered, handed, made_since}
 use Rattle.wb_program.proofs.texts.answer_of_text.Goals as goal
 
 pub returns-in-Ok : goal.returns-in-Ok

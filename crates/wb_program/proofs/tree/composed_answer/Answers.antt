@@ -1,6 +1,6 @@
 -- The answer of a text is shown.
 use Rattle.wb_compose_texts.specs.Unions.{all_resolved}
-use Rattle.wb_program_inputs.proofs.CauseLemmas.{on_ok}
+use Rattle.wb_program.proofs.StopLemmas.{on_ok}
 use Rattle.wb_program.specs.TreeReport.{ShownText, TextReport}
 use Rattle.wb_program.proofs.tree.composed_answer.Goals as goal
 

@@ -2,9 +2,9 @@
 use Rattle.std.proofs.Common.{ℕ, List, IfOk, sym, subst}
 use Rattle.wb_operations.specs.Operations.{Operations}
 use Rattle.wb_eval_root.specs.Answers.{IsRootAnswer}
-use Rattle.wb_program_inputs.specs.Texts.{ReadText}
-use Rattle.wb_program_inputs.specs.declared.reading.Contents.{Contents}
-use Rattle.wb_program_inputs.proofs.CauseLemmas.{on_ok}
+use Rattle.wb_program.specs.Inner.Contents.{ReadText}
+use Rattle.wb_program.specs.declared.files.Contents.{Contents}
+use Rattle.wb_program.proofs.StopLemmas.{on_ok}
 use Rattle.wb_program.specs.ValueReport.{RootReport, TermReport}
 use Rattle.wb_program.proofs.value.answer_contents.Goals as goal
 

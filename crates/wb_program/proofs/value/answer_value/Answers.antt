@@ -5,14 +5,14 @@ use Rattle.wb_flow_theory.specs.WellDefined.{IsWellDefinedProduction}
 use Rattle.wb_operations.specs.Operations.{Operations}
 use Rattle.wb_syntax_resolved.specs.declared.resolved.ResolvedParts.{ResolvedParts}
 use Rattle.wb_world.specs.Shelf.{Files}
-use Rattle.wb_program_inputs.specs.Checks.{Check, Report}
-use Rattle.wb_program_inputs.specs.Texts.{IsText, IsTooLongText}
-use Rattle.wb_program_inputs.specs.HostChecks.{IsWellDefinedFile, RefusesHost}
-use Rattle.wb_program_inputs.specs.Reads.{well_defined_host, written_term}
-use Rattle.wb_program_inputs.specs.declared.status.Status.TheVariants.{TextTooLong}
-use Rattle.wb_program_inputs.proofs.CauseLemmas.{err_of, some_well_defined}
+use Rattle.wb_program.specs.Checks.{Check, Report}
+use Rattle.wb_program.specs.Texts.{IsText, IsTooLongText}
+use Rattle.wb_program.specs.HostChecks.{IsWellDefinedFile, RefusesHost}
+use Rattle.wb_program.specs.Stops.{well_defined_host, written_term}
+use Rattle.wb_program.specs.declared.status.Status.TheVariants.{TextTooLong}
+use Rattle.wb_program.proofs.StopLemmas.{err_of, some_well_defined}
 use Rattle.wb_program.specs.ValueReport.{TermReport}
-use Rattle.wb_program_inputs.proofs.MakesLemmas.{answered, handed_first, made_since}
+use Rattle.wb_program.proofs.MakesLemmas.{answered, handed_first, made_since}
 use Rattle.wb_program.proofs.HostLemmas.{value_well_defined, value_refused}
 use Rattle.wb_certify_files.specs.WellDefined.{IsWellDefinedTextRefusal}
 use Rattle.wb_program.proofs.value.answer_value.Goals as goal

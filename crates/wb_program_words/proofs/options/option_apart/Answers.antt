@@ -1,6 +1,7 @@
 use Rattle.std.proofs.Common.{rules, ◌≡◌, ◌<◌, ◌≤◌, ◌+◌, ◌∷◌, length, string_bytes, drop, inl, arith}
 use Rattle.std.proofs.lemmas.List.{length-map}
-use Rattle.wb_program_words.specs.Words.{IsPositional, texts}
+use Rattle.wb_program_words.specs.Options.{IsPositional}
+use Rattle.wb_program_words.specs.Asked.{texts}
 use Rattle.wb_program_words.proofs.PartLemmas.{last_place, two_words, no_value_at_all, no_value_apart}
 use Rattle.wb_program_words.proofs.options.option_apart.Goals as goal
 

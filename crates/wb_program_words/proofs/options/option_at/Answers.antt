@@ -1,6 +1,7 @@
 use Rattle.std.proofs.Common.{rules, ◌≡◌, ◌+◌, ◌++◌, ◌∷◌, ℕ, List, Some, drop, inr, ap, ◌∙◌, arith}
 use lib.Chars.{codes}
-use Rattle.wb_program_words.specs.Words.{IsOptionName, IsPositional, texts}
+use Rattle.wb_program_words.specs.Options.{IsOptionName, IsPositional}
+use Rattle.wb_program_words.specs.Asked.{texts}
 use Rattle.wb_program_words.proofs.PartLemmas.{from_place, no_value_joined}
 use Rattle.wb_program_words.proofs.options.option_at.Goals as goal
 

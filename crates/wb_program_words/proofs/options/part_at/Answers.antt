@@ -1,6 +1,7 @@
 use Rattle.std.proofs.Common.{rules, ◌≡◌, ◌≢◌, ◌-◌, ◌+◌, ◌∷◌, ℕ, List, All, Some, length, take, drop, slice_get, string_bytes, sym, ap, ◌∙◌}
 use Rattle.std.proofs.Common.{arith}
-use Rattle.wb_program_words.specs.Words.{IsPositional, texts}
+use Rattle.wb_program_words.specs.Options.{IsPositional}
+use Rattle.wb_program_words.specs.Asked.{texts}
 use Rattle.wb_program_words.proofs.PartLemmas.{from_place, no_option_first, positional_rest, rest_positional, text_at}
 use Rattle.wb_program_words.proofs.options.part_at.Goals as goal
 

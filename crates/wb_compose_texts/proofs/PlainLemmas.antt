@@ -1,0 +1,80 @@
+-- A text without markers has the answer that it has in the language of the host alone.
+use Rattle.std.proofs.Common.{◌≡◌, ◌∙◌, [], ℕ, Bool, List, map, sym}
+use Rattle.wb_base.specs.Different.{Differ}
+use Rattle.wb_operations.specs.Operations.{OperationSignature}
+use Rattle.wb_report.specs.declared.shown.ShownStop.{ShownStop}
+use Rattle.wb_scan_theory.specs.Languages.{LanguageView}
+use Rattle.wb_syntax_resolved.specs.declared.resolved.ResolvedParts.{ResolvedParts}
+use Rattle.wb_compose_theory_language.specs.Languages.{IsUnitedLanguage}
+use Rattle.wb_compose_theory_lists.specs.Hosts.{rows_of}
+use Rattle.wb_compose_theory_lists.specs.United.{united_attribution}
+use Rattle.wb_determinism_host.specs.Lexicons.{lexicon_of}
+use Rattle.wb_compose.specs.Written.{name_in}
+use Rattle.wb_compose_texts.specs.Answers.{HasPrintedTree, IsAnswerIn, IsUnitedTextAnswer, StopsShown}
+use Rattle.wb_compose_texts.specs.declared.text_answer.TextAnswer.{TextAnswer}
+use Rattle.wb_compose_texts.specs.declared.text_answer.TextAnswer.TheVariants as a
+use Rattle.wb_compose_texts.specs.Names.{terminals_of}
+use Rattle.wb_compose_texts.specs.Roots.{attributes_in}
+use Rattle.wb_compose_texts.specs.Signatures.{signatures_of}
+use Rattle.wb_compose_texts.specs.Unions.{IsLanguageOf, Union}
+use Rattle.wb_reading_theory.specs.Extends.{Extends}
+use Rattle.wb_reading_theory.specs.Laws.{ReadsAlike, further_kind}
+use Rattle.wb_reading_theory.specs.Markers.{IsPlain}
+use Rattle.wb_reading_theory.proofs.StopLemmas.{reads_alike}
+use Rattle.wb_compose_texts.specs.HostReadings.{HasHostReading}
+use Rattle.wb_compose_texts.specs.UnionMarkers.{AreUnionMarkers, union_markers}
+use Rattle.wb_compose_texts.proofs.ExtendsLemmas.{alone_with, language_in}
+use Rattle.wb_compose_texts.proofs.ShownLemmas.{printed_same, stop_same}
+use Rattle.wb_compose_texts.proofs.UnionLemmas.{grammar_is, numbers, union_extends}
+
+module _ (host : ResolvedParts) (operations : List OperationSignature) (extensions : List ResolvedParts)
+    (differ : Differ (map name_in extensions)) (none : Union host operations []) (all : Union host operations extensions)
+    (l u : LanguageView) (l_is : IsLanguageOf host operations [] none l) (u_is : IsLanguageOf host operations extensions all u)
+    (markers : List Bool) (are : AreUnionMarkers host extensions markers) (text : List ℕ) (plain : IsPlain u markers text) where
+  of_host : IsUnitedLanguage all.grammar host.extensible (lexicon_of host all.grammar) [] l
+  of_host = language_in host operations [] (alone_with host operations extensions all) none l l_is.of_union
+
+  pub both_extend : Extends l u (united_attribution (rows_of host all.grammar) []) (attributes_in host operations extensions all)
+      (numbers host operations extensions differ all) markers
+  both_extend = union_extends host operations extensions differ all l u of_host u_is.of_union markers are
+
+  pub reads : ReadsAlike l u text
+  reads = reads_alike l_is.language u_is.language both_extend.language text plain
+
+  printed_there : (printed : List ℕ) → HasPrintedTree (terminals_of host []) (signatures_of host []) l text printed →
+      HasPrintedTree (terminals_of host extensions) (signatures_of host extensions) u text printed
+  printed_there printed has = record {
+    root = has.root;
+    parses = (reads.trees has.root).0 has.parses;
+    value = has.value;
+    shows = has.shows;
+    is = has.is ∙ sym (printed_same host operations extensions all l.grammar u.grammar
+        (grammar_is host operations extensions differ all l u of_host u_is.of_union markers are) u_is.of_union.grammar has.root
+        has.parses.is_tree has.value has.shows);
+  }
+
+  pub stop_there : (place : ℕ) (shown : ShownStop) → StopsShown (terminals_of host []) (signatures_of host []) l text place shown →
+      StopsShown (terminals_of host extensions) (signatures_of host extensions) u text place shown
+  stop_there place shown has = record {
+    kind = further_kind l.grammar u.grammar has.kind;
+    stops = (reads.stops place has.kind).0 has.stops;
+    is = has.is ∙ sym (stop_same host operations extensions all l.grammar u.grammar
+        (grammar_is host operations extensions differ all l u of_host u_is.of_union markers are) u_is.of_union.grammar has.kind);
+  }
+
+  answer_in : (answer : TextAnswer) → IsAnswerIn (terminals_of host []) (signatures_of host []) l text answer →
+      IsAnswerIn (terminals_of host extensions) (signatures_of host extensions) u text answer
+  answer_in (a.Tree printed) (has, short) = (printed_there printed has, short)
+  answer_in (a.Stopped place shown) has = stop_there place shown has
+  answer_in a.TooLong has = record { printed = has.printed; has = printed_there has.printed has.has; long = has.long }
+
+pub answer_there : (host : ResolvedParts) (operations : List OperationSignature) (extensions : List ResolvedParts) →
+    Differ (map name_in extensions) → (text : List ℕ) → HasHostReading host operations extensions text → (answer : TextAnswer) →
+    IsUnitedTextAnswer host operations [] text answer → IsUnitedTextAnswer host operations extensions text answer
+answer_there host operations extensions differ text reading answer here = record {
+  whole = reading.whole;
+  language = reading.language;
+  is_language = reading.is_language;
+  is = answer_in host operations extensions differ here.whole reading.whole here.language reading.language here.is_language
+      reading.is_language (union_markers host extensions) (λ t. (λ has. has, λ has. has)) text reading.plain answer here.is;
+}

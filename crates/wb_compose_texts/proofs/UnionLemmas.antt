@@ -1,0 +1,138 @@
+-- The language and the attributes of a host with extensions extend those of the host alone.
+use Rattle.std.proofs.Common.{◌≡◌, ◌<◌, ◌+◌, ◌∙◌, [], ℕ, Bool, List, All, length, map, sym, ap, subst, arith}
+use Rattle.std.proofs.lemmas.List.Elements.{All-map, All-nil}
+use Rattle.std.proofs.lemmas.Simd.{map-map}
+use Rattle.wb_base.specs.Different.{Differ}
+use Rattle.wb_base.specs.Grammar.{GrammarView}
+use Rattle.wb_lemmas.proofs.Elements.{all_weaker}
+use Rattle.wb_operations.specs.Operations.{OperationSignature}
+use Rattle.wb_scan_theory.specs.Languages.{LanguageView}
+use Rattle.wb_syntax_resolved.specs.Attribution.{IsAttribution}
+use Rattle.wb_syntax_resolved.specs.declared.attribution.AttributionParts.{AttributionParts}
+use Rattle.wb_syntax_resolved.specs.declared.resolved.ResolvedParts.{ResolvedParts}
+use Rattle.wb_compose_theory_attributes.specs.Numbers.{NumberMap}
+use Rattle.wb_compose_theory_grammar.specs.UnitedWorlds.{united}
+use Rattle.wb_compose_theory_language.specs.Languages.{IsUnitedLanguage}
+use Rattle.wb_compose_theory_lists.specs.Additions.{Addition, IsAddition, Rows, nothing}
+use Rattle.wb_compose_theory_lists.specs.Hosts.{IsOfRows, rows_of}
+use Rattle.wb_compose_theory_lists.specs.Joined.{Block, place_after}
+use Rattle.wb_compose_theory_lists.specs.Laws.{AreAdded}
+use Rattle.wb_compose_theory_lists.specs.Numbers.{block_of}
+use Rattle.wb_compose_theory_lists.specs.United.{host_numbers, united_attribution}
+use Rattle.wb_compose_theory_lists.proofs.LawLemmas.{is_of_rows}
+use Rattle.wb_compose_theory_lists.proofs.PlacedLemmas.{after_below}
+use Rattle.wb_determinism_host.specs.Lexicons.{lexicon_of}
+use Rattle.wb_certify.specs.Kept.{AreCertifiedBoth}
+use Rattle.wb_compose.specs.Attributes.{addition_of, additions_of, attributes_of}
+use Rattle.wb_compose.specs.Joined.{AreCertifiedApart, Extended}
+use Rattle.wb_compose.specs.Written.{name_in, written_in}
+use Rattle.wb_compose.proofs.AdditionLemmas.{is_addition_of}
+use Rattle.wb_determinism_beside.proofs.RowLemmas.{length-take_within}
+use Rattle.wb_determinism_beside.proofs.InRange.{grammar_of, in_range}
+use Rattle.wb_compose.proofs.LawLemmas.{is_attribution}
+use Rattle.wb_compose.proofs.WrittenApart.{all_apart, all_certified}
+use Rattle.wb_compose_texts.specs.Roots.{attributes_in}
+use Rattle.wb_compose_texts.specs.Unions.{Union}
+use Rattle.wb_compose_texts.proofs.NameLemmas.{resolved_in}
+use Rattle.wb_reading_theory.specs.Attributions.{ExtendsAttribution}
+use Rattle.wb_reading_theory.specs.Extends.{Extends}
+use Rattle.wb_reading_theory.specs.Languages.{ExtendsLanguage}
+use Rattle.wb_reading_theory.proofs.UnionAttributeLemmas.{concrete, extends}
+use Rattle.wb_reading_theory.proofs.UnionLanguageLemmas.{extends_language, host_alone}
+use Rattle.wb_compose_texts.specs.UnionMarkers.{AreUnionMarkers}
+use Rattle.wb_compose_texts.proofs.MarkingLemmas.{are_marking}
+
+module _ (host : ResolvedParts) (operations : List OperationSignature) (extensions : List ResolvedParts)
+    (differ : Differ (map name_in extensions)) (all : Union host operations extensions) where
+  abbrev g : GrammarView
+  g = all.grammar
+
+  abbrev xs : List Extended
+  xs = all.extended
+
+  abbrev rows : Rows
+  rows = rows_of host g
+
+  abbrev added : List Addition
+  added = additions_of host g xs
+
+  -- the host's numbers in the union
+  abbrev pub numbers : NumberMap
+  numbers = host_numbers rows added
+
+  -- the extensions' names differ
+  names_differ : Differ (map (λ (e : Extended). name_in e.resolved) xs)
+  names_differ = subst Differ (ap (map name_in) (sym all.extensions_are) ∙ map-map name_in (λ (e : Extended). e.resolved) xs) differ
+
+  pub are_attribution : IsAttribution (attributes_in host operations extensions all)
+  are_attribution = (is_attribution host g operations xs all.certified names_differ).attributes
+
+  of_rows : IsOfRows host g
+  of_rows = is_of_rows host g (record {
+    resolved = all.certified.host_resolved;
+    alone = all.certified.host_certified.alone;
+    grammar = all.certified.host_start;
+  })
+
+  -- the host's own attributes are those of no extensions
+  pub host_is : host.attributes ≡ united_attribution rows []
+  host_is = of_rows.are
+
+  pub host_attribution : IsAttribution (united_attribution rows [])
+  host_attribution = subst IsAttribution of_rows.are all.certified.host_resolved.attributes
+
+  abbrev Both : Extended → Type 0
+  Both e = AreCertifiedBoth host e.resolved g e.grammar operations
+
+  are_added : AreAdded rows added
+  are_added = record {
+    host_roles = of_rows.roles;
+    host_once = of_rows.once;
+    each = All-map IsAddition (addition_of host g) xs (all_weaker Both (λ e. IsAddition (addition_of host g e)) xs
+        (λ e both. is_addition_of host g operations e both) all.certified.each);
+    differ = subst Differ (sym (map-map (λ (x : Addition). x.name) (addition_of host g) xs)) names_differ;
+  }
+
+  pub attributes_extend : ExtendsAttribution (united_attribution rows []) (attributes_in host operations extensions all) numbers
+  attributes_extend = extends rows added are_added are_attribution
+
+  -- productions of the grammar keep their numbers
+  pub concrete_stay : (p : ℕ) → p < length g.productions → numbers.production p ≡ p
+  concrete_stay p less =
+      let few = (grammar_of host g all.certified.host_resolved all.certified.host_start).productions_len in
+      let len = length-take_within (length g.productions) host.attributes.productions few in
+      concrete rows added p (omega (arith, less, len))
+
+  -- and the start keeps its
+  pub start_stays : numbers.nonterminal g.start ≡ g.start
+  start_stays =
+      let lead : Block = block_of rows added (λ (y : Addition). length y.rows.nonterminals) 0 nothing in
+      let follow : Block = block_of rows added (λ (y : Addition). length y.rows.abstract_nonterminals) 0 nothing in
+      let below = (in_range host g all.certified.host_resolved all.certified.host_start).start_below in
+      let few = (grammar_of host g all.certified.host_resolved all.certified.host_start).nonterminals_len in
+      let count = length-take_within g.nonterminals host.attributes.nonterminals few in
+      let less : g.start < length rows.nonterminals = omega (arith, below, count) in
+      ap (place_after (length rows.nonterminals + lead.total + length rows.abstract_nonterminals) follow)
+      (after_below (length rows.nonterminals) lead g.start less) ∙
+      after_below (length rows.nonterminals + lead.total + length rows.abstract_nonterminals) follow g.start (omega (arith, less))
+
+  module _ (h u : LanguageView) (of_host : IsUnitedLanguage g host.extensible (lexicon_of host g) [] h)
+      (of_union : IsUnitedLanguage g host.extensible (lexicon_of host g) (written_in xs) u) (markers : List Bool)
+      (are : AreUnionMarkers host extensions markers) where
+    language_extends : ExtendsLanguage h u markers
+    language_extends =
+        extends_language g host.extensible (lexicon_of host g) (written_in xs) h u markers
+        (all_certified host g operations xs all.certified) (all_apart host g operations xs all.certified names_differ) of_host of_union
+        (are_marking host g operations all.certified.host_start xs all.certified.each markers
+        (subst (λ z. AreUnionMarkers host z markers) (sym all.extensions_are) are))
+
+    -- the language of no extensions has the host's grammar
+    pub grammar_is : h.grammar ≡ g
+    grammar_is = of_host.grammar ∙ host_alone g host.extensible
+
+    pub union_extends : Extends h u (united_attribution rows []) (attributes_in host operations extensions all) numbers markers
+    union_extends = record {
+      language = language_extends;
+      attributes = attributes_extend;
+      concrete = λ p less. concrete_stay p (subst (λ (k : GrammarView). p < length k.productions) grammar_is less);
+    }

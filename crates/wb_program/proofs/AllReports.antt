@@ -1,0 +1,25 @@
+-- The report of what is asked has the laws of a report, whatever is asked.
+use Rattle.wb_operations.specs.Operations.{Operations}
+use Rattle.wb_program_words.specs.Asked.{Asked}
+use Rattle.wb_program_words.specs.Asked as a
+use Rattle.wb_program.proofs.CertifyLaws.{certify_laws}
+use Rattle.wb_program.proofs.CheckLaws.{check_laws}
+use Rattle.wb_program.proofs.ComposeLaws.{compose_laws}
+use Rattle.wb_program.proofs.GenerateLaws.{generate_laws}
+use Rattle.wb_program.proofs.ReadingLaws.{reading_laws}
+use Rattle.wb_program.proofs.ReportLaws.{HasLaws}
+use Rattle.wb_program.proofs.RunLaws.{run_laws}
+use Rattle.wb_program.proofs.ShowLaws.{show_laws}
+use Rattle.wb_program.proofs.TreeLaws.{tree_laws}
+use Rattle.wb_program.proofs.ValueLaws.{value_laws}
+
+pub has_laws : (operations : Operations) (asked : Asked) → HasLaws operations asked
+has_laws operations (a.value host term attribute) = value_laws operations host term attribute
+has_laws operations (a.show file) = show_laws operations file
+has_laws operations (a.check host) = check_laws operations host
+has_laws operations (a.certify host extensions) = certify_laws operations host extensions
+has_laws operations (a.compose host extensions) = compose_laws operations host extensions
+has_laws operations (a.tree text host extensions) = tree_laws operations text host extensions
+has_laws operations (a.run text attribute steps host extensions) = run_laws operations text attribute steps host extensions
+has_laws operations (a.generate number size attribute host extensions) = generate_laws operations number size attribute host extensions
+has_laws operations (a.reading text host extensions) = reading_laws operations text host extensions

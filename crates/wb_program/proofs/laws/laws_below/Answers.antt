@@ -1,0 +1,13 @@
+use Rattle.wb_program.proofs.laws.laws_below.Goals as goal
+
+pub returns : goal.returns
+returns c = record {
+  extensions = c.one_extension_answer_law.ensures;
+  headers = c.header_law.ensures;
+  withdrawn = c.withdrawn_law.ensures;
+  texts = c.one_answer_law.ensures;
+  readings = c.one_reading_law.ensures;
+  attributes = c.one_root_law.ensures;
+  values = c.one_value_law.ensures;
+  made = c.one_text_law.ensures;
+}

@@ -1,0 +1,48 @@
+-- What each command reports, and which files it comes to read.
+use Rattle.std.specs.Prelude.{◌≤◌, ℕ, Option, List, [], ◌∷◌, length, map}
+use Rattle.wb_operations.specs.Operations.{Operations, OperationSignature}
+use Rattle.wb_program_words.specs.Asked.{Asked}
+use Rattle.wb_program_words.specs.Asked as a
+use Rattle.wb_world.specs.Shelf.{Files}
+use Rattle.wb_program.specs.CertifyReport.{CertifyReport}
+use Rattle.wb_program.specs.CheckReport.{CheckReport}
+use Rattle.wb_program.specs.ComposeReport.{ComposeReport}
+use Rattle.wb_program.specs.GenerateReport.{GenerateReport}
+use Rattle.wb_program.specs.ReadingReport.{ReadingReport}
+use Rattle.wb_program.specs.RunReport.{RunReport, RunStops}
+use Rattle.wb_program.specs.ShowReport.{ShowReport}
+use Rattle.wb_program.specs.Stops.{certified_extension, certified_host, specification, well_defined_host, written_term}
+use Rattle.wb_program.specs.Stops.{StopsAt, StopsComposed}
+use Rattle.wb_program.specs.TreeReport.{TreeReport}
+use Rattle.wb_program.specs.ValueReport.{ValueReport}
+use Rattle.wb_program.specs.declared.status.Status.{Status}
+
+-- the report of what is asked
+abbrev pub IsReportOf : Operations → Option Files → Status → List ℕ → Asked → Type 0
+IsReportOf operations known status bytes (a.value host term attribute) = ValueReport operations known host term attribute status bytes
+IsReportOf operations known status bytes (a.show file) = ShowReport known file status bytes
+IsReportOf operations known status bytes (a.check host) = CheckReport operations.signatures known host status bytes
+IsReportOf operations known status bytes (a.certify host extensions) = CertifyReport operations.signatures known host extensions status bytes
+IsReportOf operations known status bytes (a.compose host extensions) = ComposeReport operations.signatures known host extensions status bytes
+IsReportOf operations known status bytes (a.tree text host extensions) =
+    TreeReport operations.signatures known text host extensions status bytes
+IsReportOf operations known status bytes (a.run text attribute steps host extensions) =
+    RunReport operations known text attribute steps host extensions status bytes
+IsReportOf operations known status bytes (a.generate number size attribute host extensions) =
+    GenerateReport operations known number size attribute host extensions status bytes
+IsReportOf operations known status bytes (a.reading text host extensions) =
+    ReadingReport operations.signatures known text host extensions status bytes
+
+-- what is asked comes to read a file that meets this
+abbrev pub ReadsTo : List OperationSignature → Option Files → Asked → (List ℕ → Type 0) → Type 0
+ReadsTo operations known (a.value host term attribute) P = StopsAt operations known P (well_defined_host host ∷ written_term term ∷ [])
+ReadsTo operations known (a.show file) P = StopsAt operations known P (specification file ∷ [])
+ReadsTo operations known (a.check host) P = StopsAt operations known P (certified_host host ∷ [])
+ReadsTo operations known (a.certify host extensions) P =
+    (length extensions ≤ 64) × StopsAt operations known P (certified_host host ∷ map (certified_extension host) extensions)
+ReadsTo operations known (a.compose host extensions) P = StopsComposed operations known host extensions P (λ r values. ⊥)
+ReadsTo operations known (a.tree text host extensions) P = StopsComposed operations known host extensions P (λ r values. P text)
+ReadsTo operations known (a.run text attribute steps host extensions) P = RunStops operations known text attribute host extensions P
+ReadsTo operations known (a.generate number size attribute host extensions) P =
+    StopsComposed operations known host extensions P (λ r values. ⊥)
+ReadsTo operations known (a.reading text host extensions) P = StopsComposed operations known host extensions P (λ r values. P text)

@@ -1,0 +1,39 @@
+-- What laws of the crates below say: that contents, texts and numbers have one answer.
+use Rattle.std.specs.Prelude.{ℕ, List}
+use Rattle.wb_base.specs.Different.{Differ}
+use Rattle.wb_certify_files.specs.OneExtensionAnswer.{HaveOneHeader, HaveOneExtensionAnswer}
+use Rattle.wb_compose_texts.specs.Answers.{HasSameAnswer}
+use Rattle.wb_compose_texts.specs.Generated.{HasOneText}
+use Rattle.wb_compose_texts.specs.Readings.{HasOneReading}
+use Rattle.wb_compose_texts.specs.Roots.{HasOneRootAttribute}
+use Rattle.wb_compose_texts.specs.Values.{HasOneTextValue}
+use Rattle.wb_compose_texts.specs.Withdrawn.{HasOneWithdrawn}
+use Rattle.wb_operations.specs.Operations.{Operations, OperationSignature}
+use Rattle.wb_syntax_resolved.specs.declared.resolved.ResolvedParts.{ResolvedParts}
+use Rattle.wb_program.specs.SeveralChecks.{names_of}
+
+-- what the contents of a file say of their answers
+abbrev pub ExcludesExtensions : Type 0
+ExcludesExtensions = (host : ResolvedParts) (operations : List OperationSignature) (contents : List ℕ)
+    → HaveOneExtensionAnswer host operations contents
+
+-- what first lines say of the contents of a file
+abbrev pub ExcludesHeaders : Type 0
+ExcludesHeaders = (host : ResolvedParts) (contents : List ℕ) → HaveOneHeader host contents
+
+-- of extensions, of what is composed, of texts, and of what numbers make
+pub record LawsBelow : Type 0 where
+  pub extensions : ExcludesExtensions
+  pub headers : ExcludesHeaders
+  pub withdrawn : (host : ResolvedParts) (operations : List OperationSignature) (extensions : List ResolvedParts)
+      → HasOneWithdrawn host operations extensions
+  pub texts : (host : ResolvedParts) (operations : List OperationSignature) (extensions : List ResolvedParts)
+      → HasSameAnswer host operations extensions extensions
+  pub readings : (host : ResolvedParts) (operations : List OperationSignature) (extensions : List ResolvedParts)
+      → HasOneReading host operations extensions
+  pub attributes : (host : ResolvedParts) (operations : List OperationSignature) (extensions : List ResolvedParts)
+      → Differ (names_of extensions) → HasOneRootAttribute host operations extensions
+  pub values : (host : ResolvedParts) (operations : Operations) (extensions : List ResolvedParts)
+      → Differ (names_of extensions) → HasOneTextValue host operations extensions
+  pub made : (host : ResolvedParts) (operations : List OperationSignature) (extensions : List ResolvedParts) (number size : ℕ)
+      → HasOneText host operations extensions number size

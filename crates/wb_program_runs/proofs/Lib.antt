@@ -1,3 +1,0 @@
-pub mod OneReport
-pub mod Reported
-mod SourceLemmas

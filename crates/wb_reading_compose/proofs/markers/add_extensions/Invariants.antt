@@ -1,9 +1,0 @@
-use Rattle.std.proofs.Common.{◌≡◌, ◌++◌, map, take}
-use Rattle.wb_compose_theory_order.specs.Names.{all_of}
-use Rattle.wb_compose_texts.specs.Unions.{all_resolved}
-use Rattle.wb_reading_compose.specs.UnionMarkers.{added_markers}
-use Rattle.wb_reading_compose.proofs.markers.add_extensions.Given as goal
-
-abbrev pub invariant-extensions : goal.invariant-extensions
-invariant-extensions l =
-    l.flags.items ≡ l.initial.flags.items ++ all_of (map (added_markers l.host) (all_resolved (take l.extension-index l.extensions)))

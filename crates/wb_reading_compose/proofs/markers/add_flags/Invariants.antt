@@ -1,7 +1,0 @@
-use Rattle.std.proofs.Common.{◌≡◌, ◌++◌, ◌-◌, drop, take}
-use Rattle.wb_reading_compose.specs.UnionMarkers.{grammar_markers}
-use Rattle.wb_reading_compose.proofs.markers.add_flags.Given as goal
-
-abbrev pub invariant-terminals : goal.invariant-terminals
-invariant-terminals l =
-    l.flags.items ≡ l.initial.flags.items ++ take (l.terminal - l.from) (drop l.from (grammar_markers l.resolved))

@@ -1,5 +1,0 @@
--- The reading is shown.
-use Rattle.wb_reading_compose.proofs.reading.pair_reading.Goals as goal
-
-pub returns : goal.returns
-returns c = c.shown.ensures c.args.text.now c.in_ok-found.ensures
