@@ -99,9 +99,6 @@ module _ (a : AttributionParts) (production : Production) where
     same : x ≡ attribute
 
   read_at : (node : Node) (s : w.Step) (x : ℕ) → node_read node ≡ Some (w.synthesized s x) → ReadAt node s x ⊎ (s ≡ w.made w.forward)
-  read_at (n.Int z) s x is = absurd (cc is)
-  read_at (n.Text z) s x is = absurd (cc is)
-  read_at (n.Bool z) s x is = absurd (cc is)
   read_at (n.Label (place.Child k)) s x is = absurd (cc is)
   read_at (n.Label (place.Local k)) s x is = absurd (cc is)
   read_at (n.Read at attribute) s x is =
@@ -109,15 +106,11 @@ module _ (a : AttributionParts) (production : Production) where
       let step : w.step_to at ≡ s = cc in
       let number : attribute ≡ x = cc in
       inl (record { at = at; attribute = attribute; reads = refl; step = sym step; same = sym number })
-  read_at (n.Lexeme at) s x is = absurd (cc is)
-  read_at (n.Top y) s x is = absurd (cc is)
   read_at (n.Forward y) s x is =
       let both = same_Some (w.synthesized (w.made w.forward) y) (w.synthesized s x) is in
       let step : w.made w.forward ≡ s = cc in
       inr (sym step)
-  read_at (n.Build p parts) s x is = absurd (cc is)
-  read_at (n.Call f parts) s x is = absurd (cc is)
-  read_at (n.If c h f) s x is = absurd (cc is)
+  read_at node s x is = absurd (cc is)
 
   -- where the reads of all expressions are defined, what is needed one step down is
   pub defines_below : ((e : Equation) → Contains production.equations e → DefinesReads a production e.nodes)

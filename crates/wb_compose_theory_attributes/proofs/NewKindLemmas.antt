@@ -58,17 +58,8 @@ children_new t (c ∷ cs) =
 
 known_new : (t : NumberMap) (p : ℕ) (operations : List OperationSignature) (node : Node) → IsKnown operations node
     → IsKnown operations (new_node t p node)
-known_new t p operations (n.Int z) known = tt
-known_new t p operations (n.Text s) known = tt
-known_new t p operations (n.Bool b) known = tt
-known_new t p operations (n.Label at) known = tt
-known_new t p operations (n.Read at number) known = tt
-known_new t p operations (n.Lexeme at) known = tt
-known_new t p operations (n.Top number) known = tt
-known_new t p operations (n.Forward number) known = tt
-known_new t p operations (n.Build number children) known = tt
 known_new t p operations (n.Call name arguments) known = known
-known_new t p operations (n.If condition holds fails) known = tt
+known_new t p operations node known = tt
 
 pub all_known_new : (t : NumberMap) (p : ℕ) (operations : List OperationSignature) (nodes : List Node) → All (IsKnown operations) nodes
     → All (IsKnown operations) (map (new_node t p) nodes)
@@ -161,17 +152,9 @@ module _ (s a : AttributionParts) (k : ℕ) (t : NumberMap) (seen : IsSeen s a k
 
     arity_new : (owner : ℕ) (node : Node) → HasArity s operations node → IsNamedNode s row owner node
         → HasArity a operations (new_node t p node)
-    arity_new owner (n.Int z) arity sees = tt
-    arity_new owner (n.Text z) arity sees = tt
-    arity_new owner (n.Bool b) arity sees = tt
-    arity_new owner (n.Label at) arity sees = tt
-    arity_new owner (n.Read at number) arity sees = tt
-    arity_new owner (n.Lexeme at) arity sees = tt
-    arity_new owner (n.Top number) arity sees = tt
-    arity_new owner (n.Forward number) arity sees = tt
     arity_new owner (n.Build number children) arity sees = build_arity number children owner arity sees
     arity_new owner (n.Call name arguments) arity sees = arity
-    arity_new owner (n.If condition holds fails) arity sees = tt
+    arity_new owner node arity sees = tt
 
     pub all_arities_new : (owner : ℕ) (nodes : List Node) → All (HasArity s operations) nodes → All (IsNamedNode s row owner) nodes
         → All (HasArity a operations) (map (new_node t p) nodes)

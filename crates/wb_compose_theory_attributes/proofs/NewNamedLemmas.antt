@@ -69,9 +69,6 @@ module _ (s a : AttributionParts) (k : ℕ) (t : NumberMap) (seen : IsSeen s a k
 
   module _ (p : ℕ) (row there : Production) (same : IsSeenProduction t k p row there) where
     node_new : (owner : ℕ) (node : Node) → IsNamedNode s row owner node → IsNamedNode a there (new_owner k owner) (new_node t p node)
-    node_new owner (n.Int z) good = tt
-    node_new owner (n.Text text) good = tt
-    node_new owner (n.Bool truth) good = tt
     node_new owner (n.Label at) (is, sees) = (new_kind t is, sees_place t k p row there same owner at (child.Value is) sees)
     node_new owner (n.Read at x) (m, sees, occurs) = (
       t.nonterminal m,
@@ -90,7 +87,7 @@ module _ (s a : AttributionParts) (k : ℕ) (t : NumberMap) (seen : IsSeen s a k
     )
     node_new owner (n.Build number children) sees = sees_production s a k t seen owner number sees
     node_new owner (n.Call operation arguments) good = good
-    node_new owner (n.If condition holds fails) good = tt
+    node_new owner node good = tt
 
     pub expression_new : (owner : ℕ) (nodes : List Node) → IsNamedExpression s row owner nodes
         → IsNamedExpression a there (new_owner k owner) (map (new_node t p) nodes)

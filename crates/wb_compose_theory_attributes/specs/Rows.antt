@@ -63,17 +63,13 @@ module _ (t : NumberMap) (p : ℕ) where
   new_place (place.Local x) = place.Local (t.local_in p x)
 
   abbrev pub new_node : Node → Node
-  new_node (n.Int z) = n.Int z
-  new_node (n.Text text) = n.Text text
-  new_node (n.Bool truth) = n.Bool truth
   new_node (n.Label label) = n.Label (new_place label)
   new_node (n.Read label attribute) = n.Read (new_place label) (t.attribute attribute)
   new_node (n.Lexeme label) = n.Lexeme (new_place label)
   new_node (n.Top attribute) = n.Top (t.attribute attribute)
   new_node (n.Forward attribute) = n.Forward (t.attribute attribute)
   new_node (n.Build number children) = n.Build (t.production number) children
-  new_node (n.Call operation arguments) = n.Call operation arguments
-  new_node (n.If condition holds fails) = n.If condition holds fails
+  new_node node = node
 
   abbrev pub new_target : Target → Target
   new_target (target.Top attribute) = target.Top (t.attribute attribute)

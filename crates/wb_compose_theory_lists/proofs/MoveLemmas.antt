@@ -147,9 +147,6 @@ module _ (m : Move) (u : NumberMap) (terminals : ℕ) (moves : MovesBy m u termi
 
     node_is : (node to : Node) → IsRenamedNode (IsMovedPlace m labels others) (IsMovedAttributeNumber m) (IsMovedProductionNumber m) node to
         → to ≡ new_node u p node
-    node_is (n.Int z) to moved = moved
-    node_is (n.Text z) to moved = moved
-    node_is (n.Bool z) to moved = moved
     node_is (n.Label at) to (other, moved, is) = is ∙ ap n.Label (place_is at other moved)
     node_is (n.Read at x) to (other, number, moved, numbered, is) =
         is ∙ (ap (λ z. n.Read z number) (place_is at other moved) ∙ ap (n.Read (new_place u p at)) (moves.attribute x number numbered))
@@ -157,8 +154,7 @@ module _ (m : Move) (u : NumberMap) (terminals : ℕ) (moves : MovesBy m u termi
     node_is (n.Top x) to (number, moved, is) = is ∙ ap n.Top (moves.attribute x number moved)
     node_is (n.Forward x) to (number, moved, is) = is ∙ ap n.Forward (moves.attribute x number moved)
     node_is (n.Build number children) to (other, moved, is) = is ∙ ap (λ z. n.Build z children) (moves.production number other moved)
-    node_is (n.Call operation arguments) to moved = moved
-    node_is (n.If condition holds fails) to moved = moved
+    node_is node to moved = moved
 
     nodes_are : (nodes to : List Node) → AreMovedNodes m labels others nodes to → to ≡ map (new_node u p) nodes
     nodes_are nodes to all =

@@ -86,17 +86,13 @@ module _ (v : NumberMap) (stays : Stays v) (o : ℕ) (fixed : new_owner o o ≡ 
     place_stays (place.Local k) = ap place.Local (stays.local_in p k)
 
     node_stays : (node : Node) → new_node v p node ≡ node
-    node_stays (n.Int z) = refl
-    node_stays (n.Text z) = refl
-    node_stays (n.Bool z) = refl
     node_stays (n.Label at) = ap n.Label (place_stays at)
     node_stays (n.Read at x) = ap (λ z. n.Read z (v.attribute x)) (place_stays at) ∙ ap (n.Read at) (stays.attribute x)
     node_stays (n.Lexeme at) = ap n.Lexeme (place_stays at)
     node_stays (n.Top x) = ap n.Top (stays.attribute x)
     node_stays (n.Forward x) = ap n.Forward (stays.attribute x)
     node_stays (n.Build number children) = ap (λ z. n.Build z children) (stays.production number)
-    node_stays (n.Call operation arguments) = refl
-    node_stays (n.If condition holds fails) = refl
+    node_stays node = refl
 
     target_stays : (x : Target) → new_target v p x ≡ x
     target_stays (target.Top x) = ap target.Top (stays.attribute x)

@@ -112,9 +112,6 @@ module _ (s t r : NumberMap) (twice : IsTwice s t r) where
     place_twice (place.Local y) = ap place.Local (locals y)
 
     node_twice : (node : Node) → new_node t q (new_node s p node) ≡ new_node r m node
-    node_twice (n.Int z) = refl
-    node_twice (n.Text z) = refl
-    node_twice (n.Bool z) = refl
     node_twice (n.Label at) = ap n.Label (place_twice at)
     node_twice (n.Read at x) =
         ap (λ z. n.Read z (t.attribute (s.attribute x))) (place_twice at) ∙ ap (n.Read (new_place r m at)) (twice.attribute x)
@@ -122,8 +119,7 @@ module _ (s t r : NumberMap) (twice : IsTwice s t r) where
     node_twice (n.Top x) = ap n.Top (twice.attribute x)
     node_twice (n.Forward x) = ap n.Forward (twice.attribute x)
     node_twice (n.Build number children) = ap (λ z. n.Build z children) (twice.production number)
-    node_twice (n.Call operation arguments) = refl
-    node_twice (n.If condition holds fails) = refl
+    node_twice node = refl
 
     nodes_twice : (nodes : List Node) → map (new_node t q) (map (new_node s p) nodes) ≡ map (new_node r m) nodes
     nodes_twice nodes = map_twice (new_node s p) (new_node t q) (new_node r m) node_twice nodes

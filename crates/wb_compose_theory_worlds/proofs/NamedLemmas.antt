@@ -269,9 +269,6 @@ module _ (a : AttributionParts) (is : IsAttribution a) (start : ℕ) (first : Is
 
     node_seen : (owner : ℕ) (node : Node) (v : Vertex) → numbers.Sees owner production.owner → IsNamedNode a production owner node
         → node_read node ≡ Some v → IsVertexIn w (part_of (owner_of owner)) p v
-    node_seen owner (n.Int z) v there seen reads = absurd (cc reads)
-    node_seen owner (n.Text z) v there seen reads = absurd (cc reads)
-    node_seen owner (n.Bool z) v there seen reads = absurd (cc reads)
     node_seen owner (n.Label (place.Child k)) v there seen reads = absurd (cc reads)
     node_seen owner (n.Label (place.Local x)) v there (k, seen) reads =
         let (m, same) = local_kind_in x k (slice_get production.locals x) seen.is in
@@ -280,15 +277,12 @@ module _ (a : AttributionParts) (is : IsAttribution a) (start : ℕ) (first : Is
     node_seen owner (n.Read s y) v there (m, below_there, seen) reads =
         subst (IsVertexIn w (part_of (owner_of owner)) p) (same_Some (synthesized (step_to s) y) v reads)
         (m, place_seen owner m s below_there, occurs_seen owner Synthesized y m seen)
-    node_seen owner (n.Lexeme s) v there seen reads = absurd (cc reads)
     node_seen owner (n.Top y) v there seen reads =
         subst (IsVertexIn w (part_of (owner_of owner)) p) (same_Some (top_inherited y) v reads) (left_occurs owner Inherited y seen)
     node_seen owner (n.Forward y) v there (forwards, seen) reads =
         subst (IsVertexIn w (part_of (owner_of owner)) p) (same_Some (synthesized (made forward) y) v reads)
         (w.left p, forward_seen owner there forwards, left_occurs owner Synthesized y seen)
-    node_seen owner (n.Build number children) v there seen reads = absurd (cc reads)
-    node_seen owner (n.Call operation arguments) v there seen reads = absurd (cc reads)
-    node_seen owner (n.If condition holds fails) v there seen reads = absurd (cc reads)
+    node_seen owner node v there seen reads = absurd (cc reads)
 
     -- the rules that are found, and whose they are
     of_local_in : (x : ℕ) (r : Written) (l : Option Local) → slice_get production.locals x ≡ l → local_rule l ≡ Some r

@@ -38,18 +38,9 @@ use Rattle.wb_eval_theory.specs.Walks.{walk_made, rule_at, walk_synthesized, wal
 
 -- no expression reads an inherited attribute one step down
 no_inherited : (part : Node) (b : Step) (i : ℕ) → node_read part ≡ Some (inherited b i) → ⊥
-no_inherited (n.Int z) b i is = cc is
-no_inherited (n.Text z) b i is = cc is
-no_inherited (n.Bool z) b i is = cc is
 no_inherited (n.Label (place.Child c)) b i is = cc is
 no_inherited (n.Label (place.Local c)) b i is = cc is
-no_inherited (n.Read at y) b i is = cc is
-no_inherited (n.Lexeme at) b i is = cc is
-no_inherited (n.Top y) b i is = cc is
-no_inherited (n.Forward y) b i is = cc is
-no_inherited (n.Build number parts) b i is = cc is
-no_inherited (n.Call name parts) b i is = cc is
-no_inherited (n.If c h f) b i is = cc is
+no_inherited node b i is = cc is
 
 module _ (s : Setting) (p : Production) where
   -- what leads to an inherited attribute one step down is a synthesized one there, which needs it

@@ -50,14 +50,7 @@ module _ (a : AttributionParts) (production : Production) where
 
   -- what a node reads is a vertex
   pub node_is : (owner : ℕ) (node : Node) (w : Vertex) → IsNamedNode a production owner node → node_read node ≡ Some w → IsVertex a production w
-  node_is owner (n.Int z) w named is = absurd (cc is)
-  node_is owner (n.Text s) w named is = absurd (cc is)
-  node_is owner (n.Bool b) w named is = absurd (cc is)
   node_is owner (n.Label (place.Child k)) w named is = absurd (cc is)
-  node_is owner (n.Lexeme at) w named is = absurd (cc is)
-  node_is owner (n.Build q parts) w named is = absurd (cc is)
-  node_is owner (n.Call f parts) w named is = absurd (cc is)
-  node_is owner (n.If c h f) w named is = absurd (cc is)
   node_is owner (n.Label (place.Local x)) w (k, there) is =
       subst (IsVertex a production) (same_Some (tree_of (local x)) w is) (local_tree production x (child_kind.Value k) there.is)
   node_is owner (n.Read at x) w (m, there, seen) is =
@@ -68,6 +61,7 @@ module _ (a : AttributionParts) (production : Production) where
   node_is owner (n.Forward x) w (some, seen) is =
       subst (IsVertex a production) (same_Some (synthesized (made forward) x) w is)
       (production.left, (some, refl), occurs_seen a owner Synthesized x production.left seen)
+  node_is owner node w named is = absurd (cc is)
 
   -- what an expression reads is a vertex
   reads_vertex : (owner : ℕ) (nodes : List Node) (w : Vertex) → IsNamedExpression a production owner nodes → Reads nodes w

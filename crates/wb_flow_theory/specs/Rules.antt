@@ -57,17 +57,11 @@ place_read (place.Local x) = Some (tree_of (local x))
 
 -- what a node of an expression reads, if it reads a vertex
 abbrev pub node_read : Node → Option Vertex
-node_read (n.Int z) = None
-node_read (n.Text s) = None
-node_read (n.Bool b) = None
 node_read (n.Label at) = place_read at
 node_read (n.Read at attribute) = Some (synthesized (step_to at) attribute)
-node_read (n.Lexeme at) = None
 node_read (n.Top attribute) = Some (top_inherited attribute)
 node_read (n.Forward attribute) = Some (synthesized (made forward) attribute)
-node_read (n.Build number children) = None
-node_read (n.Call operation arguments) = None
-node_read (n.If condition holds fails) = None
+node_read node = None
 
 -- the expression of these nodes reads the vertex
 abbrev pub Reads : List Node → Vertex → Type 0

@@ -92,9 +92,6 @@ module _ (f : ℕ → ℕ) (r s : ResolvedParts) (distinct : AreDistinct (number
       → IsRenamedNode (IsMovedPlace (move_between f r s) (labels_in p) (labels_in q)) (IsMovedAttributeNumber (move_between f r s))
       (IsMovedProductionNumber (move_between f r s)) node to
       → IsNamedNode r.attributes p owner node → IsNamedNode s.attributes q (f owner) to
-  carried_node owner (n.Int z) to e h = subst (IsNamedNode s.attributes q (f owner)) (sym e) tt
-  carried_node owner (n.Text z) to e h = subst (IsNamedNode s.attributes q (f owner)) (sym e) tt
-  carried_node owner (n.Bool z) to e h = subst (IsNamedNode s.attributes q (f owner)) (sym e) tt
   carried_node owner (n.Label at) to e h =
       let t = carried_place f r s distinct carried p q head differ owner at e.0 (child.Value h.0) h.1 e.1 in
       let v = value_there h.0 t.to_kind t.moved in
@@ -117,7 +114,7 @@ module _ (f : ℕ → ℕ) (r s : ResolvedParts) (distinct : AreDistinct (number
   carried_node owner (n.Build number places) to e h =
       subst (IsNamedNode s.attributes q (f owner)) (sym e.2) (carried_production f r s distinct carried owner number e.0 h e.1)
   carried_node owner (n.Call operation places) to e h = subst (IsNamedNode s.attributes q (f owner)) (sym e) h
-  carried_node owner (n.If c d g) to e h = subst (IsNamedNode s.attributes q (f owner)) (sym e) tt
+  carried_node owner node to e h = subst (IsNamedNode s.attributes q (f owner)) (sym e) tt
 
   -- an expression
   pub carried_expression : (owner : ℕ) (nodes others : List Node) → AreMovedNodes (move_between f r s) (labels_in p) (labels_in q) nodes

@@ -177,9 +177,6 @@ module _ (file : File) (r : ResolvedParts) (known : Known file r) where
         → ((it : Usage) → Contains (node_uses row.name node) it → Contains (uses file.items) it) → All IsName (node_names node)
         → IsRenamedNode (IsPlace (labels_in row) file.owner) (IsNumber n.attributes file.owner) (IsNumber n.productions file.owner) node to
         → IsNamedNode r.attributes row file.owner to
-    own_node (part.Int z) to used names e = subst (IsNamedNode r.attributes row file.owner) (sym e) tt
-    own_node (part.Text z) to used names e = subst (IsNamedNode r.attributes row file.owner) (sym e) tt
-    own_node (part.Bool z) to used names e = subst (IsNamedNode r.attributes row file.owner) (sym e) tt
     own_node (part.Label l) to used names e =
         let x = known.hold.meant.labels row.name l wanted.Value (used (u.Label row.name l wanted.Value) (one_of_one (u.Label row.name l
         wanted.Value))) in
@@ -217,7 +214,7 @@ module _ (file : File) (r : ResolvedParts) (known : Known file r) where
         subst (IsNamedNode r.attributes row file.owner) (sym e.2) (sees_production file r known.ground name e.0 e.1)
     own_node (part.Call operation places) to used names e =
         subst (IsNamedNode r.attributes row file.owner) (sym e) (All-head IsName operation [] names)
-    own_node (part.If c h f) to used names e = subst (IsNamedNode r.attributes row file.owner) (sym e) tt
+    own_node node to used names e = subst (IsNamedNode r.attributes row file.owner) (sym e) tt
 
     -- an expression
     pub own_expression : (q : written.Equation) → Contains (equations_on row.name file.items) q → (nodes : List by_number.Node)

@@ -31,17 +31,12 @@ IsPlaceIn labels (place.Child k) = Unit {0}
 IsPlaceIn labels (place.Local k) = k < length labels.locals
 
 abbrev pub IsNodeIn : Move → Labels → Node → Type 0
-IsNodeIn m labels (part.Int z) = Unit {0}
-IsNodeIn m labels (part.Text z) = Unit {0}
-IsNodeIn m labels (part.Bool z) = Unit {0}
 IsNodeIn m labels (part.Label p) = IsPlaceIn labels p
 IsNodeIn m labels (part.Read p a) = IsPlaceIn labels p × (a < length m.from.attributes)
 IsNodeIn m labels (part.Lexeme p) = IsPlaceIn labels p
 IsNodeIn m labels (part.Top a) = a < length m.from.attributes
 IsNodeIn m labels (part.Forward a) = a < length m.from.attributes
-IsNodeIn m labels (part.Build p places) = Unit {0}
-IsNodeIn m labels (part.Call o places) = Unit {0}
-IsNodeIn m labels (part.If c h f) = Unit {0}
+IsNodeIn m labels node = Unit {0}
 
 abbrev pub IsTargetIn : Move → Labels → Target → Type 0
 IsTargetIn m labels (target.Top a) = a < length m.from.attributes
@@ -99,9 +94,6 @@ module _ (t : Moves) (m : Move) (are : AreMoves t m) (stays : Stays m) where
     Moved node to = IsRenamedNode (IsMovedPlace m labels others) (IsMovedAttributeNumber m) (IsMovedProductionNumber m) node to
 
     moved_node : (node to : Node) → IsNodeIn m labels node → IsNodeNow t node to → Moved node to
-    moved_node (part.Int z) to within e = e
-    moved_node (part.Text z) to within e = e
-    moved_node (part.Bool z) to within e = e
     moved_node (part.Label p) to within e = (e.0, same_place p e.0 within e.1, e.2)
     moved_node (part.Read p a) to within e =
         (e.0, e.1, same_place p e.0 within.0 e.2, same_attribute a e.1 within.1 e.3, e.4)
@@ -109,8 +101,7 @@ module _ (t : Moves) (m : Move) (are : AreMoves t m) (stays : Stays m) where
     moved_node (part.Top a) to within e = (e.0, same_attribute a e.0 within e.1, e.2)
     moved_node (part.Forward a) to within e = (e.0, same_attribute a e.0 within e.1, e.2)
     moved_node (part.Build p places) to within e = (e.0, are.productions p e.0 e.1, e.2)
-    moved_node (part.Call o places) to within e = e
-    moved_node (part.If c h f) to within e = e
+    moved_node node to within e = e
 
     moved_nodes : (nodes to : List Node) → All (IsNodeIn m labels) nodes → AllZip (IsNodeNow t) nodes to → AllZip Moved nodes to
     moved_nodes [] [] within all = tt

@@ -51,18 +51,13 @@ module _ (file : File) (n : Numbering) where
 
   pub node_in : (production : Production) (owner : ℕ) (node : Node) → IsNamedNode file.base.attributes production owner node
       → IsNodeIn (move_of file n) (labels_in production) node
-  node_in production owner (part.Int z) is = tt
-  node_in production owner (part.Text z) is = tt
-  node_in production owner (part.Bool z) is = tt
   node_in production owner (part.Label p) is = place_in production owner p (child.Value is.0) is.1
   node_in production owner (part.Read p k) is =
       (place_in production owner p (child.Value (kind.Tree is.0)) is.1, attribute_in owner Synthesized k is.2.attribute)
   node_in production owner (part.Lexeme p) is = place_in production owner p (child.Terminal is.0) is.1
   node_in production owner (part.Top k) is = attribute_in owner Inherited k is.attribute
   node_in production owner (part.Forward k) is = attribute_in owner Synthesized k is.1.attribute
-  node_in production owner (part.Build p places) is = tt
-  node_in production owner (part.Call o places) is = tt
-  node_in production owner (part.If c h f) is = tt
+  node_in production owner node is = tt
 
   pub target_in : (production : Production) (owner : ℕ) (to : Target) → IsNamedTarget file.base.attributes production owner to
       → IsTargetIn (move_of file n) (labels_in production) to
@@ -78,16 +73,7 @@ module _ (file : File) (n : Numbering) where
         → NodeIsWithin t node
     node_within production owner (part.Build p places) is =
         subst (λ (z : ℕ). p < z) (sym productions) (slice_get_within file.base.attributes.productions p is.production is.is)
-    node_within production owner (part.Int z) is = tt
-    node_within production owner (part.Text z) is = tt
-    node_within production owner (part.Bool z) is = tt
-    node_within production owner (part.Label p) is = tt
-    node_within production owner (part.Read p k) is = tt
-    node_within production owner (part.Lexeme p) is = tt
-    node_within production owner (part.Top k) is = tt
-    node_within production owner (part.Forward k) is = tt
-    node_within production owner (part.Call o places) is = tt
-    node_within production owner (part.If c h f) is = tt
+    node_within production owner node is = tt
 
     pub nonterminal_within : (owner k : ℕ) → SeesNonterminal file.base.attributes owner k → k < length t.nonterminals.items
     nonterminal_within owner k is =

@@ -33,17 +33,13 @@ module _ (s : Scope) (n : Numbering) (scope : IsScope s n) (labels : ProductionL
     -- a node
     found_node : (node : by_name.Node) (to : by_number.Node) → IsFoundNode s labels node to
         → IsRenamedNode (IsPlace of s.owner) (IsNumber n.attributes s.owner) (IsNumber n.productions s.owner) node to
-    found_node (part.Int z) to e = e
-    found_node (part.Text z) to e = e
-    found_node (part.Bool z) to e = e
     found_node (part.Label l) to e = (e.0, is_place labels of s.owner are l e.0 e.1, e.2)
     found_node (part.Read l a) to e = (e.0, e.1, is_place labels of s.owner are l e.0 e.2, attribute a e.1 e.3, e.4)
     found_node (part.Lexeme l) to e = (e.0, is_place labels of s.owner are l e.0 e.1, e.2)
     found_node (part.Top a) to e = (e.0, attribute a e.0 e.1, e.2)
     found_node (part.Forward a) to e = (e.0, attribute a e.0 e.1, e.2)
     found_node (part.Build p places) to e = (e.0, production p e.0 e.1, e.2)
-    found_node (part.Call o places) to e = e
-    found_node (part.If c h f) to e = e
+    found_node node to e = e
 
     pub found_nodes : (nodes : List by_name.Node) (others : List by_number.Node) → AllZip (IsFoundNode s labels) nodes others
         → AreWrittenNodes n s.owner of nodes others

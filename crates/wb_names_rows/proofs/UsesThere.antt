@@ -105,9 +105,6 @@ module _ (s : Scope) (declared : List Declaration) (used : List Usage) (has : Ha
     label_there name wanted uses = let is = meant.labels production name wanted uses in known name is.is is.there
 
     pub node_there : (node : Node) → ((it : Usage) → Contains (node_uses production node) it → Contains used it) → NodeIsThere s labels node
-    node_there (part.Int z) inside = tt
-    node_there (part.Text z) inside = tt
-    node_there (part.Bool z) inside = tt
     node_there (part.Label name) inside =
         label_there name l.Value (inside (u.Label production name l.Value) (contains_first (u.Label production name l.Value) []))
     node_there (part.Read name a) inside =
@@ -125,8 +122,7 @@ module _ (s : Scope) (declared : List Declaration) (used : List Usage) (has : Ha
         (inside (u.Name a w.Synthesized) (contains_first (u.Name a w.Synthesized) (u.Attribute production a site.Forward ∷ [])))
     node_there (part.Build name places) inside =
         production_there name (inside (u.Name name w.Production) (contains_first (u.Name name w.Production) []))
-    node_there (part.Call o places) inside = tt
-    node_there (part.If c h f) inside = tt
+    node_there node inside = tt
 
     pub target_there : (to : Target) → ((it : Usage) → Contains (target_uses production to) it → Contains used it)
         → TargetIsThere s labels to

@@ -25,17 +25,13 @@ IsAt names name number = slice_get names number ≡ Some name
 module _ (s : Scope) (labels : ProductionLabels) where
   -- each name in the node is there
   abbrev pub NodeIsThere : by_name.Node → Type 0
-  NodeIsThere (n.Int z) = Unit {0}
-  NodeIsThere (n.Text text) = Unit {0}
-  NodeIsThere (n.Bool truth) = Unit {0}
   NodeIsThere (n.Label label) = Contains labels.names label
   NodeIsThere (n.Read label attribute) = Contains labels.names label × Contains s.attributes attribute
   NodeIsThere (n.Lexeme label) = Contains labels.names label
   NodeIsThere (n.Top attribute) = Contains s.attributes attribute
   NodeIsThere (n.Forward attribute) = Contains s.attributes attribute
   NodeIsThere (n.Build production children) = Contains s.productions production
-  NodeIsThere (n.Call operation arguments) = Unit {0}
-  NodeIsThere (n.If condition holds fails) = Unit {0}
+  NodeIsThere node = Unit {0}
 
   -- the node is found as this one
   abbrev pub IsFoundNode : by_name.Node → by_number.Node → Type 0

@@ -216,17 +216,13 @@ module _ (ds : List Declaration) (us : List Usage) where
 
     node_grounded : (node : Node) → ((usage : Usage) → Contains (node_uses p node) usage → Contains us usage) → (usage : Usage)
         → Contains (node_uses p node) usage → IsGrounded usage
-    node_grounded (n.Int z) use_of = each_none IsGrounded
-    node_grounded (n.Text s) use_of = each_none IsGrounded
-    node_grounded (n.Bool b) use_of = each_none IsGrounded
     node_grounded (n.Label l) use_of = each_cons IsGrounded (u.Label p l wanted.Value) [] known (each_none IsGrounded)
     node_grounded (n.Read l a) use_of = name_read a l a w.Synthesized (second_used (u.Name a w.Synthesized) l a use_of)
     node_grounded (n.Lexeme l) use_of = each_cons IsGrounded (u.Label p l wanted.Lexeme) [] known (each_none IsGrounded)
     node_grounded (n.Top a) use_of = name_attribute a a w.Inherited site.Top tt
     node_grounded (n.Forward a) use_of = name_attribute a a w.Synthesized site.Forward tt
     node_grounded (n.Build name children) use_of = each_cons IsGrounded (u.Name name w.Production) [] tt (each_none IsGrounded)
-    node_grounded (n.Call name arguments) use_of = each_none IsGrounded
-    node_grounded (n.If a b c) use_of = each_none IsGrounded
+    node_grounded node use_of = each_none IsGrounded
 
     equation_grounded : (e : Equation) → ((usage : Usage) → Contains (equation_uses p e) usage → Contains us usage) → (usage : Usage)
         → Contains (equation_uses p e) usage → IsGrounded usage

@@ -22,9 +22,6 @@ use Rattle.wb_syntax.specs.SpecText.{SpecView}
 
 -- the names in a node
 abbrev pub node_names : Node → List (List ℕ)
-node_names (n.Int value) = []
-node_names (n.Text text) = []
-node_names (n.Bool truth) = []
 node_names (n.Label label) = label ∷ []
 node_names (n.Read label attribute) = label ∷ attribute ∷ []
 node_names (n.Lexeme label) = label ∷ []
@@ -32,7 +29,7 @@ node_names (n.Top attribute) = attribute ∷ []
 node_names (n.Forward attribute) = attribute ∷ []
 node_names (n.Build production children) = production ∷ []
 node_names (n.Call operation arguments) = operation ∷ []
-node_names (n.If condition holds fails) = []
+node_names node = []
 
 -- the names in what an equation is for
 abbrev pub target_names : Target → List (List ℕ)

@@ -26,11 +26,8 @@ use Rattle.wb_syntax_resolved.specs.Owners.{Sees, IsOwner}
 use Rattle.wb_syntax_resolved.specs.declared.attribution.AttributionParts.{AttributionParts}
 use Rattle.wb_syntax_resolved.specs.Visible.{SeesNonterminal, SeesProduction, SeesAttribute, SeesOccurrence, SeesKind, SeesPlace}
 
--- what a node names is seen by whoever writes it on the production, and is of the kind that is read
+-- what a node names is seen by whoever writes it on the production, and is of the kind that is read; a node of another form names nothing
 abbrev pub IsNamedNode : AttributionParts → Production → ℕ → Node → Type 0
-IsNamedNode a production owner (n.Int z) = Unit {0}
-IsNamedNode a production owner (n.Text text) = Unit {0}
-IsNamedNode a production owner (n.Bool truth) = Unit {0}
 IsNamedNode a production owner (n.Label label) = (is : Kind) × SeesPlace production owner label (child.Value is)
 IsNamedNode a production owner (n.Read label attribute) =
     (nonterminal : ℕ) × SeesPlace production owner label (child.Value (kind.Tree nonterminal))
@@ -41,7 +38,7 @@ IsNamedNode a production owner (n.Forward attribute) =
     IsSome production.forward × SeesOccurrence a owner Synthesized attribute production.left
 IsNamedNode a production owner (n.Build number children) = SeesProduction a owner number
 IsNamedNode a production owner (n.Call operation arguments) = IsName operation
-IsNamedNode a production owner (n.If condition holds fails) = Unit {0}
+IsNamedNode a production owner node = Unit {0}
 
 -- the nodes are one whole expression, and what each names is seen
 pub record IsNamedExpression (a : AttributionParts) (production : Production) (owner : ℕ) (nodes : List Node) : Type 0 where

@@ -49,17 +49,8 @@ each_taken P ys xs i same all ended x listed = all_contained P xs x (subst (All 
 -- a node that calls nothing calls nothing unknown
 pub calls_nothing : (operations : List OperationSignature) (node : Node)
     → ((name : List ℕ) (arguments : List ℕ) → node ≡ n.Call name arguments → ⊥) → IsKnown operations node
-calls_nothing operations (n.Int z) other = tt
-calls_nothing operations (n.Text s) other = tt
-calls_nothing operations (n.Bool b) other = tt
-calls_nothing operations (n.Label l) other = tt
-calls_nothing operations (n.Read l attribute) other = tt
-calls_nothing operations (n.Lexeme l) other = tt
-calls_nothing operations (n.Top attribute) other = tt
-calls_nothing operations (n.Forward attribute) other = tt
-calls_nothing operations (n.Build number children) other = tt
 calls_nothing operations (n.Call name arguments) other = absurd (other name arguments refl)
-calls_nothing operations (n.If condition holds fails) other = tt
+calls_nothing operations node other = tt
 
 module _ (a : AttributionParts) (operations : List OperationSignature) (production : Production) (nodes : List Node)
     (kinds : List (Option Kind))
@@ -120,17 +111,9 @@ forward_passes rule a operations production f nodes there same passes g here =
 pub other_arity : (a : AttributionParts) (operations : List OperationSignature) (node : Node)
     → ((number : ℕ) (children : List ℕ) → node ≡ n.Build number children → ⊥)
     → ((name : List ℕ) (arguments : List ℕ) → node ≡ n.Call name arguments → ⊥) → HasArity a operations node
-other_arity a operations (n.Int z) build call = tt
-other_arity a operations (n.Text s) build call = tt
-other_arity a operations (n.Bool b) build call = tt
-other_arity a operations (n.Label l) build call = tt
-other_arity a operations (n.Read l attribute) build call = tt
-other_arity a operations (n.Lexeme l) build call = tt
-other_arity a operations (n.Top attribute) build call = tt
-other_arity a operations (n.Forward attribute) build call = tt
 other_arity a operations (n.Build number children) build call = absurd (build number children refl)
 other_arity a operations (n.Call name arguments) build call = absurd (call name arguments refl)
-other_arity a operations (n.If condition holds fails) build call = tt
+other_arity a operations node build call = tt
 
 -- an expression that fails the first rule calls what isn't there
 pub known_refused : (a : AttributionParts) (operations : List OperationSignature) (refusal : TypeRefusal)
