@@ -101,19 +101,13 @@ module _ (a : AttributionParts) where
 
     -- what a node reads
     read_is : (owner : ℕ) (node : Node) → IsNamedNode a production owner node → option_map (vertex_of a) (read_by node) ≡ node_read node
-    read_is owner (n.Int z) named = refl
-    read_is owner (n.Text s) named = refl
-    read_is owner (n.Bool b) named = refl
     read_is owner (n.Label (place.Child k)) named = refl
     read_is owner (n.Label (place.Local x)) named = refl
     read_is owner (n.Read at x) (m, there, seen) = ap Some (place_vertex at Synthesized x (goes_seen a owner Synthesized x seen.attribute))
-    read_is owner (n.Lexeme at) named = refl
     read_is owner (n.Top x) seen = ap Some (top_is a Inherited x (goes_seen a owner Inherited x seen.attribute))
     read_is owner (n.Forward x) (some, seen) =
         ap Some (below_is a p.Forward (w.made w.forward) Synthesized x refl (goes_seen a owner Synthesized x seen.attribute))
-    read_is owner (n.Build q parts) named = refl
-    read_is owner (n.Call f parts) named = refl
-    read_is owner (n.If c h f) named = refl
+    read_is owner node named = refl
 
 not_top_step : (s : w.Step) → position_of s ≢ p.Top
 not_top_step (w.child k) e = cc

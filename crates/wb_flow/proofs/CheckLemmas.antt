@@ -1,17 +1,21 @@
 -- What the tests find is what the rules say.
-use Rattle.std.proofs.Common.{◌≡◌, ◌-◌, ℕ, zero, suc, List, Option, None, Some, length, refl, sym, subst, slice_get, arith}
-use Rattle.wb_lemmas.proofs.Places.{at_within, at_earlier}
+use Rattle.std.proofs.Common.{◌≡◌, ◌≤◌, ◌-◌, ◌+◌, inl, inr, ℕ, zero, suc, true, false, List, Option, None, Some, length, refl, sym, subst}
+use Rattle.std.proofs.Common.{arith, is_some, slice_get, true≢false}
+use Rattle.std.proofs.lemmas.Option.{slice_get_within}
+use Rattle.wb_lemmas.proofs.Places.{at_once, at_within, at_earlier}
 use Rattle.wb_flow_theory.specs.Vertices as w
 use Rattle.wb_flow_theory.specs.Flow.{one, more, Reaches}
-use Rattle.wb_flow_theory.specs.Modular.{IsProduction, HoldForwardNeeds}
+use Rattle.wb_flow_theory.specs.Modular.{IsProduction, EachProduction, HoldForwardNeeds}
+use Rattle.wb_flow_theory.specs.WellDefined.{IsAcyclic}
 use Rattle.wb_flow.specs.declared.refusal.AttributeRefusal.{AttributeRefusal}
 use Rattle.wb_flow.specs.declared.refusal.AttributeRefusal.TheVariants as r
 use Rattle.wb_flow.specs.declared.vertex.Vertex.{Vertex}
-use Rattle.wb_flow.specs.Inner.Sources.{RefusesForward, RefusesAnyReads, RefusesAnyCycle, KeepsAll}
+use Rattle.wb_flow.specs.Inner.Sources.{RefusesForward, RefusesAnyReads, RefusesAnyCycle, KeepsAll, KnowsCycle, Notes}
 use Rattle.wb_flow.specs.OneAnswer.{FlowsExclude, FlowsHaveOneAnswer}
 use Rattle.wb_flow.specs.Refusals.{KeepToFlowTypes, FlowsOk, ReachesOutside, HasReadOutside, IsFlowCycle}
 use Rattle.wb_flow.specs.Refusals.{IsTrueFlowRefusal}
 use Rattle.wb_flow.specs.Vertices.{vertex_of}
+use Rattle.wb_flow.proofs.AddingLemmas.{below_or}
 use Rattle.wb_syntax_resolved.specs.declared.attribution.AttributionParts.{AttributionParts}
 use Rattle.wb_syntax_resolved.specs.declared.production.Production.{Production}
 
@@ -121,3 +125,45 @@ cycle_refused a hold keep (r.Cycle q vs) (p, production, there, (same, cycle)) =
 }
 cycle_refused a hold keep (r.ForwardReads q x i) (p, production, there, is) = absurd is
 cycle_refused a hold keep (r.NoMemory e) is = tt
+
+-- what is known of cycles after one production more
+pub knows_more : (a : AttributionParts) (number : ℕ) (production : Production) → IsProduction a number production
+    → (old new : Option AttributeRefusal) → KnowsCycle a number old → Notes a number production old new → KnowsCycle a (number + 1) new
+knows_more a number production there (Some known) new knows same = subst (KnowsCycle a (number + 1)) (sym same) knows
+knows_more a number production there None (Some refusal) knows refuses = (number, production, there, refuses)
+knows_more a number production there None None knows acyclic = λ k p lt at. elim (below_or k number lt) [
+  | inl low ↦ knows k p low at
+  | inr last ↦ subst (IsAcyclic a) (sym (at_once a.productions number p production (subst (λ z. IsProduction a z p) last at) there)) acyclic
+]
+
+-- and after all
+pub knows_all : (a : AttributionParts) (count : ℕ) (known : Option AttributeRefusal) → length a.productions ≤ count
+    → KnowsCycle a count known → KnowsCycle a (length a.productions) known
+knows_all a count (Some refusal) ended knows = knows
+knows_all a count None ended knows = λ k p lt at. knows k p (omega (arith, lt, ended)) at
+
+-- where no production has a cycle, the rules hold, if they do but for cycles
+pub flows_ok : (a : AttributionParts) → HoldForwardNeeds a → EachProduction a (KeepsAll a) → KnowsCycle a (length a.productions) None
+    → FlowsOk a
+flows_ok a hold keeps knows = record {
+  forward_needs = hold;
+  flow_types = keep_to_all a keeps;
+  acyclic = λ p production there. knows p production (slice_get_within a.productions p production there) there;
+}
+
+module _ (a : AttributionParts) (number : ℕ) (production : Production) where
+  -- where a cycle is known it stays
+  pub notes_known : (known : Option AttributeRefusal) → is_some known ≡ true → Notes a number production known known
+  notes_known (Some refusal) some = refl
+  notes_known None some = absurd (true≢false (sym some))
+
+  -- where none is known, what is found is
+  pub notes_found : (old new : Option AttributeRefusal) → is_some old ≡ false → Notes a number production None new
+      → Notes a number production old new
+  notes_found (Some refusal) new none notes = absurd (true≢false none)
+  notes_found None new none notes = notes
+
+  -- where a production has none, what is known stays
+  pub notes_none : (known : Option AttributeRefusal) → IsAcyclic a production → Notes a number production known known
+  notes_none (Some refusal) acyclic = refl
+  notes_none None acyclic = acyclic

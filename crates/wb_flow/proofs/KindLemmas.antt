@@ -1,10 +1,9 @@
 -- One edge more of each kind.
-use Rattle.std.proofs.Common.{◌≡◌, ◌≢◌, ◌<◌, ◌≤◌, ◌+◌, ◌∙◌, ◌∷◌, ◌++◌, [], ◌⊎◌, inl, inr, ℕ, List, None, Some, length, refl, sym, ap, subst}
+use Rattle.std.proofs.Common.{◌≡◌, ◌+◌, ◌∙◌, ◌∷◌, ◌++◌, [], ◌⊎◌, inl, inr, ℕ, List, None, Some, length, refl, sym, ap, subst}
 use Rattle.std.proofs.Common.{slice_get}
-use Rattle.std.proofs.Common.{Contains, arith}
+use Rattle.std.proofs.Common.{Contains}
 use Rattle.std.specs.Prelude.{◌↔◌}
 use Rattle.std.proofs.lemmas.Option.{same_Some, slice_get_within}
-use Rattle.wb_lemmas.proofs.Members.{contains_at, place_of}
 use Rattle.wb_lemmas.proofs.Places.{at_once}
 use Rattle.wb_flow_theory.specs.Occurrences.{Goes}
 use Rattle.wb_flow.specs.Rules.{target_of, IsDefined}
@@ -16,7 +15,7 @@ use Rattle.wb_flow.specs.Inner.Adding.{Adds, SomeOf, SomeBelow}
 use Rattle.wb_flow.specs.Inner.Arrows.{IsReadArrow, IsExpressionArrow, IsEquationArrow, IsLocalArrow, IsForwardArrow, IsRuleArrow, read_by}
 use Rattle.wb_flow.specs.Inner.Arrows.{IsNeedArrow, IsTreeArrow, IsCopyArrow}
 use Rattle.wb_flow.specs.Inner.Positions.{vertex_at, tree_at}
-use Rattle.wb_flow.proofs.AddingLemmas.{adds_as, adds_one, adds_none, below_or}
+use Rattle.wb_flow.proofs.AddingLemmas.{adds_as, adds_one, adds_none}
 use Rattle.wb_flow.proofs.ReadLemmas.{one_way}
 use Rattle.wb_syntax_resolved.specs.declared.attributes.Direction.TheVariants.{Synthesized, Inherited}
 use Rattle.wb_syntax_resolved.specs.declared.attribution.AttributionParts.{AttributionParts}
@@ -149,32 +148,6 @@ rules_all production xs ys adds =
       from r (inl equation) = inl (inl equation)
       from r (inr (inl (k, (l, there, reads)))) = inl (inr (k, slice_get_within production.locals k l there, (l, there, reads)))
       from r (inr (inr forward)) = inr forward
-
--- the first equations are for other vertices
-abbrev pub AreForOthers : List Equation → Vertex → ℕ → Type 0
-AreForOthers equations vertex count = (k : ℕ) (e : Equation) → k < count → slice_get equations k ≡ Some e → target_of e.target ≢ vertex
-
-pub for_others_more : (equations : List Equation) (vertex : Vertex) (i : ℕ) (e : Equation) → slice_get equations i ≡ Some e
-    → target_of e.target ≢ vertex → AreForOthers equations vertex i → AreForOthers equations vertex (i + 1)
-for_others_more equations vertex i e there other before k f lt at = elim (below_or k i lt) [
-  | inl low ↦ before k f low at
-  | inr last ↦ (
-      let same : f ≡ e = at_once equations i f e (subst (λ z. slice_get equations z ≡ Some f) last at) there in
-      subst (λ (z : Equation). target_of z.target ≢ vertex) (sym same) other
-      )
-]
-
-pub not_defined : (production : Production) (equations : List Equation) → equations ≡ production.equations → (vertex : Vertex) (i : ℕ)
-    → length equations ≤ i → AreForOthers equations vertex i → ¬ IsDefined production vertex
-not_defined production equations same vertex i ended others (e, listed, is) =
-    let (k, at) = place_of equations e (subst (λ z. Contains z e) (sym same) listed) in
-    let lt = slice_get_within equations k e at in
-    others k e (omega (arith, lt, ended)) at is
-
-pub defined_here : (production : Production) (equations : List Equation) → equations ≡ production.equations → (vertex : Vertex) (i : ℕ)
-    (e : Equation) → slice_get equations i ≡ Some e → target_of e.target ≡ vertex → IsDefined production vertex
-defined_here production equations same vertex i e at is =
-    (e, subst (λ z. Contains z e) same (contains_at equations e i at), is)
 
 -- the targets of all equations are what is defined
 pub defined_all : (production : Production) (equations : List Equation) → equations ≡ production.equations → (set : List Vertex)

@@ -6,6 +6,7 @@ use Rattle.std.specs.List.{AllZip}
 use Rattle.std.proofs.lemmas.Option.{slice_get_within, same_Some}
 use Rattle.std.proofs.lemmas.Bool.{cases_lt}
 use Rattle.std.proofs.lemmas.Slice.Zip.{AllZip-long}
+use Rattle.wb_graph.specs.Components.{AreComponents, ComponentsView}
 use Rattle.wb_graph.specs.declared.order.Order.{Order}
 use Rattle.wb_graph.specs.declared.order.Order.TheVariants as order
 use Rattle.wb_graph.specs.Graphs.{Edge, IsEdge, IsEdgeBelow, Walk}
@@ -17,10 +18,12 @@ use Rattle.wb_lemmas.proofs.Places.{at_once, at_within, at_one, at_push, push_ke
 use Rattle.wb_lemmas.proofs.Zips.{beside}
 use Rattle.wb_flow_theory.specs.Vertices as w
 use Rattle.wb_flow_theory.specs.Flow.{IsVertex, HasFlowEdge, one, more, Reaches}
+use Rattle.wb_flow_theory.specs.WellDefined.{IsAcyclic}
 use Rattle.wb_flow_theory.proofs.EdgeLemmas.{edge_from, edge_to}
 use Rattle.wb_flow.specs.declared.vertex.FlowGraph.{FlowGraph}
 use Rattle.wb_flow.specs.declared.vertex.Vertex.{Vertex}
 use Rattle.wb_flow.specs.Graphs.{IsNeededBy, IsFlowGraph}
+use Rattle.wb_flow.specs.Inner.Sources.{LeaveComponents}
 use Rattle.wb_flow.specs.Refusals.{IsFlowCycle}
 use Rattle.wb_flow.specs.Vertices.{vertex_of}
 use Rattle.wb_flow.proofs.VertexLemmas.{name_of, name_of_vertex, named_vertex}
@@ -182,6 +185,28 @@ module _ (a : AttributionParts) (production : Production) (graph : FlowGraph) (f
                 );
           },
         )
+
+    -- where each edge leads to another component than its own, nothing needs itself
+    module _ (components : ComponentsView) (are : AreComponents (length graph.vertices) graph.edges components)
+        (leave : LeaveComponents graph.edges components.numbers) where
+      component_at : (u : w.Vertex) (i : PlaceOf u) → (n : ℕ) × (slice_get components.numbers i.place ≡ Some n)
+      component_at u i =
+          at_within components.numbers i.place
+          (subst (λ z. i.place < z) (sym are.len) (slice_get_within graph.vertices i.place i.name i.at))
+
+      pub acyclic_apart : IsAcyclic a production
+      acyclic_apart v (one edge) =
+          let i = place_of_vertex v (edge_to a production named is v v edge) in
+          let (n, at) = component_at v i in
+          leave i.place i.place (place_edge v v i i edge) n at at
+      acyclic_apart v (more {w = x} reaches edge) =
+          let i = place_of_vertex v (edge_to a production named is x v edge) in
+          let (k, walk) = reaches_walk v x i reaches in
+          let back = place_edge x v k i edge in
+          let (m, there) = component_at x k in
+          let (n, at) = component_at v i in
+          let same : m ≡ n = (are.exact k.place i.place m n there at).1 (step k.place i.place (stay k.place refl) back, walk) in
+          leave k.place i.place back n (subst (λ z. slice_get components.numbers k.place ≡ Some z) same there) at
 
   -- an edge between places is one between vertices
   edge_needed : (i j : ℕ) (u v : Vertex) → slice_get graph.vertices i ≡ Some u → slice_get graph.vertices j ≡ Some v

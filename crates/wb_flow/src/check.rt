@@ -1,26 +1,25 @@
 //! Do attributes need no more than their flow types say, and does nothing need itself?
 //!
-//! Each rule is tested on all productions before the next, so the first that fails is the answer.
+//! The first rule that fails is the answer, so a cycle is kept until all productions have kept to their flow types.
 
-ghost use Rattle.std.specs.Prelude.{◌≡◌, ℕ, Some, IfOk, IfErr, Contains, slice_get};
-ghost use Rattle.wb_flow_theory.specs.Modular.{EachProduction, HoldForwardNeeds};
-ghost use Rattle.wb_flow_theory.specs.WellDefined.{IsAcyclic};
-ghost use Rattle.wb_flow.specs.Inner.Sources.{KeepsAll, RefusesAnyReads, RefusesAnyCycle, RefusesForward, HoldsForward};
+ghost use Rattle.std.specs.Prelude.{◌≡◌, None, IfOk, IfErr, Contains, length};
+ghost use Rattle.wb_flow_theory.specs.Modular.{EachProduction, HoldForwardNeeds, IsProduction};
+ghost use Rattle.wb_flow.specs.Inner.Sources.{KeepsAll, KnowsCycle, Notes, RefusesAnyReads, RefusesReads, RefusesForward, HoldsForward};
 ghost use Rattle.wb_flow.specs.Occurrences.{IsIndexOf};
 ghost use Rattle.wb_flow.specs.Refusals.{FlowsOk, IsTrueFlowRefusal};
 ghost use Rattle.wb_syntax_resolved.specs.Attribution.{IsAttribution};
 
-use crate::cycles::check_cycle;
-use crate::reads::check_reads;
+use crate::graph::graph_of;
+use crate::tested::{Tested, check_graph};
 use crate::{AttributeRefusal, OccurrenceIndex, Scope};
 use std::alloc::Global;
-use wb_syntax_resolved::{Attribution, Occurrence};
+use wb_syntax_resolved::{Attribution, Occurrence, Production};
 
 /// Whether each flow type has what that of its nonterminal's forward has, each production needs no more inherited attributes of its top
 /// than flow types say, and nothing in a production needs itself.
 ///
-/// Rules are tested in this order, each on all productions. The time is about linear in the attribution and, for each production, in its
-/// flow graph for each 64 inherited attributes of its left side, and in what flow types there have; no clause bounds it.
+/// A refusal is by the first of these that fails. The time is about linear in the attribution and, for each production, in its flow graph
+/// for each 64 inherited attributes of its left side, and in what flow types there have; no clause bounds it.
 pub fn check_flow(alloc: Global, attributes: &Attribution) -> Result<(), AttributeRefusal>
     ensures ok { IfOk result (λ done. FlowsOk attributes.now) }
     ensures refused { IfErr result (IsTrueFlowRefusal attributes.now) }
@@ -44,8 +43,7 @@ fn check_in(alloc: Global, scope: &Scope) -> Result<(), AttributeRefusal>
     ensures refused { IfErr result (IsTrueFlowRefusal scope.now.attributes.now) }
 {
     check_forward_needs(scope)?;
-    check_all_reads(alloc, scope)?;
-    check_all_cycles(alloc, scope)
+    check_productions(alloc, scope)
 }
 
 // Whether flow types have what those of forwards have.
@@ -82,30 +80,68 @@ fn check_occurrence(scope: &Scope, occurrence: &Occurrence) -> Result<(), Attrib
     Ok(())
 }
 
-// Whether all productions keep to their flow types.
-fn check_all_reads(alloc: Global, scope: &Scope) -> Result<(), AttributeRefusal>
+// The same, where flow types have what those of forwards have.
+fn check_productions(alloc: Global, scope: &Scope) -> Result<(), AttributeRefusal>
     requires attribution { IsAttribution scope.now.attributes.now }
     requires index { IsIndexOf scope.now.attributes.now.occurrences scope.now.index.now }
-    ensures ok { IfOk result (λ done. EachProduction scope.now.attributes.now (KeepsAll scope.now.attributes.now)) }
+    requires forward_needs { HoldForwardNeeds scope.now.attributes.now }
+    ensures ok { IfOk result (λ done. FlowsOk scope.now.attributes.now) }
+    ensures refused { IfErr result (IsTrueFlowRefusal scope.now.attributes.now) }
+{
+    let mut cycle = None;
+    match check_each(alloc, scope, &mut cycle) {
+        Ok(()) => match cycle {
+            Some(refusal) => Err(refusal),
+            None => Ok(()),
+        },
+        Err(refusal) => {
+            drop(cycle);
+            Err(refusal)
+        }
+    }
+}
+
+// Whether all productions keep to their flow types; a cycle of the first that has one is kept.
+fn check_each(
+    alloc: Global,
+    scope: &Scope,
+    cycle: &mut Option<AttributeRefusal>,
+) -> Result<(), AttributeRefusal>
+    requires attribution { IsAttribution scope.now.attributes.now }
+    requires index { IsIndexOf scope.now.attributes.now.occurrences scope.now.index.now }
+    requires none { cycle.old ≡ None }
+    ensures ok { IfOk result (λ done. EachProduction scope.now.attributes.now (KeepsAll scope.now.attributes.now) × KnowsCycle scope.now.attributes.now (length scope.now.attributes.now.productions) cycle.new) }
     ensures refused { IfErr result (RefusesAnyReads scope.now.attributes.now) }
 {
     let productions = scope.attributes.productions.as_slice();
     'productions: for number in 0..productions.len() {
-        check_reads(alloc, scope, number, &productions[number])?;
+        check_production(alloc, scope, number, &productions[number], cycle)?;
     }
     Ok(())
 }
 
-// Whether nothing in a production needs itself.
-fn check_all_cycles(alloc: Global, scope: &Scope) -> Result<(), AttributeRefusal>
+// Whether the production of this number keeps to its flow types; a cycle in it is kept, where none is known.
+fn check_production(
+    alloc: Global,
+    scope: &Scope,
+    number: usize,
+    production: &Production,
+    cycle: &mut Option<AttributeRefusal>,
+) -> Result<(), AttributeRefusal>
     requires attribution { IsAttribution scope.now.attributes.now }
     requires index { IsIndexOf scope.now.attributes.now.occurrences scope.now.index.now }
-    ensures ok { IfOk result (λ done. EachProduction scope.now.attributes.now (IsAcyclic scope.now.attributes.now)) }
-    ensures refused { IfErr result (RefusesAnyCycle scope.now.attributes.now) }
+    requires there { IsProduction scope.now.attributes.now number production.now }
+    ensures ok { IfOk result (λ done. KeepsAll scope.now.attributes.now production.now × Notes scope.now.attributes.now number production.now cycle.old cycle.new) }
+    ensures refused { IfErr result (RefusesReads scope.now.attributes.now number production.now) }
 {
-    let productions = scope.attributes.productions.as_slice();
-    'productions: for number in 0..productions.len() {
-        check_cycle(alloc, scope, number, &productions[number])?;
-    }
-    Ok(())
+    let graph = graph_of(alloc, scope, production)?;
+    let tested = Tested {
+        scope,
+        number,
+        production,
+        graph: &graph,
+    };
+    let answer = check_graph(alloc, &tested, cycle);
+    drop(graph);
+    answer
 }

@@ -2,61 +2,47 @@
 //!
 //! Its flow graph has an order or a cycle.
 
-ghost use Rattle.std.specs.Prelude.{◌≡◌, ◌<◌, Some, All, IfOk, IfErr, length, slice_get};
+ghost use Rattle.std.specs.Prelude.{◌≡◌, ◌<◌, None, Some, All, IfOk, OnOk, length, slice_get};
 ghost use Rattle.std.specs.List.{AllZip};
-ghost use Rattle.wb_flow_theory.specs.Modular.{IsProduction};
-ghost use Rattle.wb_flow_theory.specs.WellDefined.{IsAcyclic};
-ghost use Rattle.wb_flow.specs.Inner.Sources.{RefusesCycle, IsTested};
-ghost use Rattle.wb_flow.specs.Occurrences.{IsIndexOf};
-ghost use Rattle.wb_syntax_resolved.specs.Attribution.{IsAttribution};
+ghost use Rattle.wb_flow.specs.Inner.Sources.{Notes, IsTested};
 
-use crate::graph::graph_of;
-use crate::reads::Tested;
-use crate::{AttributeRefusal, Scope, Vertex};
+use crate::tested::Tested;
+use crate::{AttributeRefusal, Vertex};
 use std::alloc::{AllocError, Global};
 use wb_base::{Sequence, push};
 use wb_graph::{Order, order_of};
-use wb_syntax_resolved::Production;
 
-// Whether nothing in the production of this number needs itself.
-pub(crate) fn check_cycle(
+// Keeps a cycle of a production, where it has one and none is known.
+pub(crate) fn note_cycle(
     alloc: Global,
-    scope: &Scope,
-    number: usize,
-    production: &Production,
-) -> Result<(), AttributeRefusal>
-    requires attribution { IsAttribution scope.now.attributes.now }
-    requires index { IsIndexOf scope.now.attributes.now.occurrences scope.now.index.now }
-    requires there { IsProduction scope.now.attributes.now number production.now }
-    ensures ok { IfOk result (λ done. IsAcyclic scope.now.attributes.now production.now) }
-    ensures refused { IfErr result (RefusesCycle scope.now.attributes.now number production.now) }
+    tested: &Tested,
+    cycle: &mut Option<AttributeRefusal>,
+) -> Result<(), AllocError>
+    requires { IsTested tested.now }
+    ensures { OnOk result (Notes tested.now.scope.now.attributes.now tested.now.number tested.now.production.now cycle.old cycle.new) }
 {
-    let graph = graph_of(alloc, scope, production)?;
-    let tested = Tested {
-        scope,
-        number,
-        production,
-        graph: &graph,
-    };
-    check_order(alloc, &tested)
+    if cycle.is_some() {
+        return Ok(());
+    }
+    *cycle = cycle_of(alloc, tested)?;
+    Ok(())
 }
 
-// Whether the graph has no cycle.
-fn check_order(alloc: Global, tested: &Tested) -> Result<(), AttributeRefusal>
+// The refusal with a cycle of a production, where it has one.
+fn cycle_of(alloc: Global, tested: &Tested) -> Result<Option<AttributeRefusal>, AllocError>
     requires { IsTested tested.now }
-    ensures ok { IfOk result (λ done. IsAcyclic tested.now.scope.now.attributes.now tested.now.production.now) }
-    ensures refused { IfErr result (RefusesCycle tested.now.scope.now.attributes.now tested.now.number tested.now.production.now) }
+    ensures { IfOk result (Notes tested.now.scope.now.attributes.now tested.now.number tested.now.production.now None) }
 {
     let graph = tested.graph;
     let order = order_of(alloc, graph.vertices.len(), graph.edges.as_slice())?;
     let Order::Cycle(places) = order else {
-        return Ok(());
+        return Ok(None);
     };
     let vertices = vertices_at(alloc, graph.vertices.as_slice(), &places)?;
-    Err(AttributeRefusal::Cycle {
+    Ok(Some(AttributeRefusal::Cycle {
         production: tested.number,
         vertices: Sequence::from_vec(vertices),
-    })
+    }))
 }
 
 // The vertices at these places.

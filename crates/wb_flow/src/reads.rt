@@ -3,7 +3,6 @@
 //! What each synthesized attribute of its top reaches in its flow graph, and what the forwarded tree does, has to be in a flow type.
 
 ghost use Rattle.std.specs.Prelude.{◌≡◌, ◌<◌, ◌↔◌, ℕ, Some, IfOk, IfErr, IfSome, IfNone, Contains, Option, length, slice_get, false};
-ghost use Rattle.wb_flow_theory.specs.Modular.{IsProduction};
 ghost use Rattle.wb_flow_theory.specs.Occurrences.{Occurs};
 ghost use Rattle.wb_flow.specs.declared.vertex.Vertex.{Vertex};
 ghost use Rattle.wb_flow.specs.Inner.Sources.{IsSource, Allows, KeepsFrom, KeepsAll, RefusesReads, IsTested};
@@ -12,77 +11,17 @@ ghost use Rattle.wb_flow.specs.Tops.{KnowsTops};
 ghost use Rattle.wb_syntax_resolved.specs.declared.attributes.Direction.TheVariants.{Inherited};
 ghost use Rattle.wb_syntax_resolved.specs.Attribution.{IsAttribution};
 
-use crate::graph::graph_of;
-use crate::{AttributeRefusal, FlowGraph, Scope, TopReach, Vertex};
-use std::alloc::{AllocError, Global};
+use crate::tested::Tested;
+use crate::{AttributeRefusal, Scope, TopReach, Vertex};
+use std::alloc::Global;
 use wb_syntax_resolved::Production;
 
-// A production with its number and its flow graph.
-#[derive(Clone, Copy)]
-pub(crate) struct Tested<'a> {
-    pub(crate) scope: &'a Scope<'a>,
-    pub(crate) number: usize,
-    pub(crate) production: &'a Production,
-    pub(crate) graph: &'a FlowGraph,
-}
-
-// Whether the production of this number keeps to its flow types.
+// Whether all that has a flow type keeps to it.
 pub(crate) fn check_reads(
     alloc: Global,
-    scope: &Scope,
-    number: usize,
-    production: &Production,
+    tested: &Tested,
+    reach: &TopReach,
 ) -> Result<(), AttributeRefusal>
-    requires attribution { IsAttribution scope.now.attributes.now }
-    requires index { IsIndexOf scope.now.attributes.now.occurrences scope.now.index.now }
-    requires there { IsProduction scope.now.attributes.now number production.now }
-    ensures ok { IfOk result (λ done. KeepsAll scope.now.attributes.now production.now) }
-    ensures refused { IfErr result (RefusesReads scope.now.attributes.now number production.now) }
-{
-    if !inherits(scope, production.left) {
-        return Ok(());
-    }
-    let graph = graph_of(alloc, scope, production)?;
-    let answer = check_graph(
-        alloc,
-        &Tested {
-            scope,
-            number,
-            production,
-            graph: &graph,
-        },
-    );
-    drop(graph);
-    answer
-}
-
-// Whether an inherited attribute occurs on a nonterminal.
-fn inherits(scope: &Scope, nonterminal: usize) -> bool
-    requires { IsIndexOf scope.now.attributes.now.occurrences scope.now.index.now }
-    ensures { result ≡ false → (i : ℕ) → ¬ Occurs scope.now.attributes.now Inherited i nonterminal }
-{
-    'occurrences: for &number in scope.index.on(nonterminal) {
-        if scope.is_inherited(scope.occurrence(number).attribute) {
-            return true;
-        }
-    }
-    false
-}
-
-// Whether all that has a flow type keeps to it.
-fn check_graph(alloc: Global, tested: &Tested) -> Result<(), AttributeRefusal>
-    requires { IsTested tested.now }
-    ensures ok { IfOk result (λ done. KeepsAll tested.now.scope.now.attributes.now tested.now.production.now) }
-    ensures refused { IfErr result (RefusesReads tested.now.scope.now.attributes.now tested.now.number tested.now.production.now) }
-{
-    let reach = TopReach::new(alloc, tested.scope, tested.graph)?;
-    let answer = check_sources(alloc, tested, &reach);
-    drop(reach);
-    answer
-}
-
-// Like `check_graph`, where it is known which inherited attributes of the top are reached.
-fn check_sources(alloc: Global, tested: &Tested, reach: &TopReach) -> Result<(), AttributeRefusal>
     requires tested { IsTested tested.now }
     requires reach { KnowsTops tested.now.scope.now.attributes.now tested.now.graph.now reach.now }
     ensures ok { IfOk result (λ done. KeepsAll tested.now.scope.now.attributes.now tested.now.production.now) }
@@ -92,6 +31,19 @@ fn check_sources(alloc: Global, tested: &Tested, reach: &TopReach) -> Result<(),
         check_from(alloc, tested, reach, start)?;
     }
     Ok(())
+}
+
+// Whether an inherited attribute occurs on a nonterminal.
+pub(crate) fn inherits(scope: &Scope, nonterminal: usize) -> bool
+    requires { IsIndexOf scope.now.attributes.now.occurrences scope.now.index.now }
+    ensures { result ≡ false → (i : ℕ) → ¬ Occurs scope.now.attributes.now Inherited i nonterminal }
+{
+    'occurrences: for &number in scope.index.on(nonterminal) {
+        if scope.is_inherited(scope.occurrence(number).attribute) {
+            return true;
+        }
+    }
+    false
 }
 
 // Whether a vertex keeps to its flow type, where it has one.

@@ -2,7 +2,7 @@
 //!
 //! By vertices, so that both are ends of edges.
 
-ghost use Rattle.std.specs.Prelude.{◌≡◌, ◌↔◌, Contains, IfOk, IsTrue};
+ghost use Rattle.std.specs.Prelude.{◌≡◌, ◌↔◌, Contains, IfOk};
 ghost use Rattle.wb_flow.specs.declared.vertex.Vertex.{Vertex};
 ghost use Rattle.wb_flow.specs.Rules.{attribute_at, target_of, IsDefined};
 ghost use Rattle.wb_flow.specs.Inner.Arrows.{label_read, read_by};
@@ -11,18 +11,6 @@ use crate::Vertex;
 use crate::vertex_set::VertexSet;
 use std::alloc::{AllocError, Global};
 use wb_syntax_resolved::{Node, Place, Production, Target};
-
-/// Whether an equation of a production is for this vertex. Takes time linear in its equations.
-pub fn defines(production: &Production, vertex: Vertex) -> bool
-    ensures { IsTrue result ↔ IsDefined production.now vertex }
-{
-    'equations: for equation in production.equations.as_slice() {
-        if is_for(equation.target, vertex) {
-            return true;
-        }
-    }
-    false
-}
 
 /// The vertices for which a production has equations.
 pub fn defined_vertices(alloc: Global, production: &Production) -> Result<VertexSet, AllocError>
@@ -33,13 +21,6 @@ pub fn defined_vertices(alloc: Global, production: &Production) -> Result<Vertex
         vertices.add(defined(equation.target))?;
     }
     Ok(vertices)
-}
-
-// Whether an equation of this target is for this vertex.
-fn is_for(target: Target, vertex: Vertex) -> bool
-    ensures { IsTrue result ↔ (target_of target ≡ vertex) }
-{
-    defined(target) == vertex
 }
 
 // What an equation of this target defines.

@@ -33,17 +33,11 @@ label_read (place.Child k) = None
 label_read (place.Local x) = Some (v.LocalTree x)
 
 abbrev pub read_by : Node → Option Vertex
-read_by (n.Int z) = None
-read_by (n.Text s) = None
-read_by (n.Bool b) = None
 read_by (n.Label at) = label_read at
 read_by (n.Read at number) = Some (attribute_at at number)
-read_by (n.Lexeme at) = None
 read_by (n.Top number) = Some (v.Top number)
 read_by (n.Forward number) = Some (v.Forward number)
-read_by (n.Build number children) = None
-read_by (n.Call operation arguments) = None
-read_by (n.If condition holds fails) = None
+read_by node = None
 
 -- an edge from this vertex to what a node reads
 abbrev pub IsReadArrow : Vertex → Node → Arrow → Type 0

@@ -1,11 +1,12 @@
 -- What has a flow type in a production: a synthesized attribute of its top, or the forwarded tree.
-use Rattle.std.specs.Prelude.{◌≡◌, ℕ, Option, None, Some, Contains}
+use Rattle.std.specs.Prelude.{◌≡◌, ◌<◌, ℕ, List, Option, None, Some, Contains, slice_get}
 use Rattle.wb_flow_theory.specs.Vertices.{top_inherited}
 use Rattle.wb_flow_theory.specs.Occurrences.{Goes, Needs, ForwardNeeds}
 use Rattle.wb_flow_theory.specs.Flow.{Reaches}
 use Rattle.wb_flow_theory.specs.Modular.{IsProduction}
-use Rattle.wb_flow_theory.specs.WellDefined.{KeepsFlowTypes, KeepsForwardFlowType}
-use Rattle.wb_flow.specs.declared.reads.Tested.{Tested}
+use Rattle.wb_flow_theory.specs.WellDefined.{IsAcyclic, KeepsFlowTypes, KeepsForwardFlowType}
+use Rattle.wb_graph.specs.Graphs.{Edge, IsEdge}
+use Rattle.wb_flow.specs.declared.tested.Tested.{Tested}
 use Rattle.wb_flow.specs.declared.refusal.AttributeRefusal.{AttributeRefusal}
 use Rattle.wb_flow.specs.declared.refusal.AttributeRefusal.TheVariants as r
 use Rattle.wb_flow.specs.declared.vertex.Vertex.{Vertex}
@@ -78,3 +79,23 @@ RefusesAnyReads a refusal =
 abbrev pub RefusesAnyCycle : AttributionParts → AttributeRefusal → Type 0
 RefusesAnyCycle a refusal =
     (number : ℕ) × (production : Production) × IsProduction a number production × RefusesCycle a number production refusal
+
+-- what was known of cycles stays; where none was known, one of this production is now, or it has none
+abbrev pub Notes : AttributionParts → ℕ → Production → (old new : Option AttributeRefusal) → Type 0
+Notes a number production (Some known) new = new ≡ Some known
+Notes a number production None (Some refusal) = RefusesCycle a number production refusal
+Notes a number production None None = IsAcyclic a production
+
+-- a cycle of some production is known, or none of the first productions has one
+abbrev pub KnowsCycle : AttributionParts → (count : ℕ) → Option AttributeRefusal → Type 0
+KnowsCycle a count (Some refusal) = RefusesAnyCycle a refusal
+KnowsCycle a count None =
+    (number : ℕ) (production : Production) → number < count → IsProduction a number production → IsAcyclic a production
+
+-- the edge leads to another component than its own
+abbrev pub LeavesComponent : (numbers : List ℕ) → Edge → Type 0
+LeavesComponent numbers edge = (n : ℕ) → slice_get numbers edge.0 ≡ Some n → ¬ (slice_get numbers edge.1 ≡ Some n)
+
+-- each edge does
+abbrev pub LeaveComponents : List Edge → (numbers : List ℕ) → Type 0
+LeaveComponents edges numbers = (u v : ℕ) → IsEdge edges u v → LeavesComponent numbers (u, v)

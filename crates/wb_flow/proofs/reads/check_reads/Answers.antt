@@ -1,22 +1,23 @@
-use Rattle.std.proofs.Common.{refl}
-use Rattle.wb_lemmas.proofs.Members.{contains_at}
-use Rattle.wb_flow.proofs.ReadLemmas.{keeps_nothing, known_production}
+use Rattle.std.proofs.Common.{◌<◌, ◌≤◌, length, arith}
+use Rattle.wb_lemmas.proofs.Places.{at_within}
+use Rattle.wb_flow.specs.Inner.Sources.{KeepsFrom}
+use Rattle.wb_flow.proofs.EachLemmas.{each_more, each_all}
+use Rattle.wb_flow.proofs.ReadLemmas.{keeps_all, known_production}
 use Rattle.wb_flow.proofs.reads.check_reads.Goals as goal
 
-pub returns-then-not-inherits-clause-ok : goal.returns-then-not-inherits-clause-ok
-returns-then-not-inherits-clause-ok c =
-    let a = c.args.scope.now.attributes.now in
-    keeps_nothing a c.requires.attribution c.args.production.now
-    (known_production a c.requires.attribution c.args.number c.args.production.now c.requires.there) (c.if-not-inherits.ensures refl)
+pub vertices-preserved : goal.vertices-preserved
+vertices-preserved c =
+    let t = c.args.tested.now in
+    let within : c.vertices.start < length t.graph.now.vertices = omega arith in
+    let (v, at) = at_within t.graph.now.vertices c.vertices.start within in
+    each_more t.graph.now.vertices (KeepsFrom t.scope.now.attributes.now t.production.now) c.vertices.start v at c.vertices.invariant
+    (c.in_ok-check_from.ensures.ok v at)
 
-pub graph_of-requires-clause-listed : goal.graph_of-requires-clause-listed
-graph_of-requires-clause-listed c =
-    contains_at c.args.scope.now.attributes.now.productions c.args.production.now c.args.number c.requires.there
-
-pub check_graph-answer-requires : goal.check_graph-answer-requires
-check_graph-answer-requires c = record {
-  attribution = c.requires.attribution;
-  index = c.requires.index;
-  there = c.requires.there;
-  graph = c.in_ok-graph.ensures;
-}
+pub returns-clause-ok : goal.returns-clause-ok
+returns-clause-ok c =
+    let t = c.args.tested.now in
+    let a = t.scope.now.attributes.now in
+    let ended : length t.graph.now.vertices ≤ c.vertices.start = omega arith in
+    keeps_all a c.requires.tested.attribution t.production.now (known_production a c.requires.tested.attribution t.number t.production.now c.requires.tested.there)
+    t.graph.now c.requires.tested.graph
+    (each_all t.graph.now.vertices (KeepsFrom a t.production.now) c.vertices.start ended c.vertices.invariant)

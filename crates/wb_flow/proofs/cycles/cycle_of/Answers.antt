@@ -3,10 +3,10 @@ use Rattle.wb_flow.specs.declared.vertex.Vertex.{Vertex}
 use Rattle.wb_flow.specs.Refusals.{IsFlowCycle}
 use Rattle.wb_flow.proofs.ReadLemmas.{known_production}
 use Rattle.wb_flow.proofs.WalkLemmas.{cycle_of, places_below, flow_cycle, no_cycle, simple_cycle, zip_in}
-use Rattle.wb_flow.proofs.cycles.check_order.Goals as goal
+use Rattle.wb_flow.proofs.cycles.cycle_of.Goals as goal
 
-pub returns-in_default-clause-ok : goal.returns-in_default-clause-ok
-returns-in_default-clause-ok c v reaches =
+pub returns-in_default : goal.returns-in_default
+returns-in_default c v reaches =
     let t = c.args.tested.now in
     let a = t.scope.now.attributes.now in
     let known = known_production a c.requires.attribution t.number t.production.now c.requires.there in
@@ -23,8 +23,8 @@ vertices_at-requires c =
     subst (λ (z : List ℕ). All (λ place. place < length c.as_slice-2.result.now) z) (sym c.deref.ensures.value)
     (subst (λ (z : List Vertex). All (λ place. place < length z) c.in-Cycle.places.items) (sym c.as_slice-2.ensures) below)
 
-pub returns-clause-refused : goal.returns-clause-refused
-returns-clause-refused c =
+pub returns : goal.returns
+returns c =
     let t = c.args.tested.now in
     let cycle = simple_cycle c.len.result t.graph.now.edges c.as_slice.result.now c.as_slice.ensures c.in_ok-order.order c.in-Cycle.places
     c.in-Cycle.is c.in_ok-order.ensures.ok in (
