@@ -47,3 +47,16 @@ IsNoMemory (d.Clash _ _ _ _) = ⊥
 IsNoMemory (d.Lookahead _ _ _) = ⊥
 IsNoMemory (d.Envelope _ _) = ⊥
 IsNoMemory (d.NoMemory _) = Unit {0}
+
+-- the reason is one of those before the conflict, or that memory ran out
+abbrev pub IsBeforeConflict : DeterminismRefusal → Type 0
+IsBeforeConflict (d.Markers _) = Unit {0}
+IsBeforeConflict (d.PreferenceCycle _) = Unit {0}
+IsBeforeConflict (d.NotReduced _) = Unit {0}
+IsBeforeConflict (d.UnitCycle _) = Unit {0}
+IsBeforeConflict (d.HiddenLeftRecursion _) = Unit {0}
+IsBeforeConflict (d.Conflict _ _ _ _) = ⊥
+IsBeforeConflict (d.Clash _ _ _ _) = ⊥
+IsBeforeConflict (d.Lookahead _ _ _) = ⊥
+IsBeforeConflict (d.Envelope _ _) = ⊥
+IsBeforeConflict (d.NoMemory _) = Unit {0}

@@ -9,9 +9,9 @@ ghost use Rattle.wb_grammar_theory.specs.Shape.{IsReduced};
 ghost use Rattle.wb_items.specs.LookaheadSets.{AreLookaheads};
 ghost use Rattle.wb_marking_holes.specs.Holes.{with_holes_of};
 ghost use Rattle.wb_determinism_host.specs.Hosts.{AreAcyclic, AreHostParts, IsDeterministicHost, IsSound};
-ghost use Rattle.wb_determinism_host.specs.Judged.{IsReadyToJudge};
+ghost use Rattle.wb_determinism_host.specs.Judged.{AreFactsOfHost, IsReadyToJudge};
 ghost use Rattle.wb_determinism_host.specs.Lexicons.{preference_pairs};
-ghost use Rattle.wb_determinism_host.specs.Refusals.{IsHostRefusal};
+ghost use Rattle.wb_determinism_host.specs.Refusals.{IsBeforeConflict, IsHostRefusal};
 ghost use Rattle.wb_determinism_host.specs.HostGrammar.{HasGrammar};
 
 use crate::judge::judge_host;
@@ -70,6 +70,30 @@ pub fn analysed_host(alloc: Global, resolved: &Resolved) -> Result<AnalysedHost,
     }
 }
 
+/// A host's grammar with holes, and what an analysis knows of it.
+#[derive(Drop)]
+pub struct HostFacts {
+    /// The grammar with holes.
+    pub grammar: Grammar,
+    /// What an analysis knows of it.
+    pub facts: Facts,
+}
+
+/// A host's grammar with holes and its facts, or the first rule before the conflict that fails.
+///
+/// Neither kernels nor lookaheads are found. No clause bounds the time.
+pub fn host_facts(alloc: Global, resolved: &Resolved) -> Result<HostFacts, DeterminismRefusal>
+    requires { IsSome resolved.now.grammar }
+    ensures ok { IfOk result (λ made. IfSome resolved.now.grammar (λ g. AreFactsOfHost resolved.now g made.grammar made.facts)) }
+    ensures refused { IfErr result (λ refusal. IfSome resolved.now.grammar (λ g. IsHostRefusal resolved.now g refusal)) }
+    ensures early { IfErr result IsBeforeConflict }
+{
+    match &resolved.parts().grammar {
+        Some(grammar) => facts_of(alloc, &Host { resolved, grammar }),
+        None => unreachable!(),
+    }
+}
+
 // A host and its grammar.
 #[derive(Clone, Copy)]
 struct Host<'a> {
@@ -83,15 +107,36 @@ fn with_grammar(alloc: Global, host: &Host) -> Result<AnalysedHost, DeterminismR
     ensures ok { IfOk result (λ made. IsReadyToJudge host.now.resolved.now host.now.grammar.now made.grammar made.facts made.kernels made.lookaheads) }
     ensures refused { IfErr result (IsHostRefusal host.now.resolved.now host.now.grammar.now) }
 {
+    let HostFacts { grammar, facts } = facts_of(alloc, host)?;
+    match kernels_and_lookaheads(alloc, &grammar, &facts) {
+        Ok(made) => Ok(AnalysedHost {
+            grammar,
+            facts,
+            kernels: made.kernels,
+            lookaheads: made.lookaheads,
+        }),
+        Err(error) => {
+            drop(grammar);
+            drop(facts);
+            Err(DeterminismRefusal::NoMemory(error))
+        }
+    }
+}
+
+// Like `host_facts`, where the host has this grammar.
+fn facts_of(alloc: Global, host: &Host) -> Result<HostFacts, DeterminismRefusal>
+    requires { HasGrammar host.now.resolved.now host.now.grammar.now }
+    ensures ok { IfOk result (λ made. AreFactsOfHost host.now.resolved.now host.now.grammar.now made.grammar made.facts) }
+    ensures refused { IfErr result (IsHostRefusal host.now.resolved.now host.now.grammar.now) }
+    ensures early { IfErr result IsBeforeConflict }
+{
     test_preferences(alloc, host)?;
     test_reduced(alloc, host)?;
     let holes = with_holes(alloc, host.resolved)?;
-    match found_with_holes(alloc, host, &holes) {
-        Ok(found) => Ok(AnalysedHost {
+    match facts_with_holes(alloc, host, &holes) {
+        Ok(facts) => Ok(HostFacts {
             grammar: holes,
-            facts: found.facts,
-            kernels: found.kernels,
-            lookaheads: found.lookaheads,
+            facts,
         }),
         Err(refusal) => {
             drop(holes);
@@ -104,6 +149,7 @@ fn with_grammar(alloc: Global, host: &Host) -> Result<AnalysedHost, DeterminismR
 fn test_preferences(alloc: Global, host: &Host) -> Result<(), DeterminismRefusal>
     ensures ok { IfOk result (λ done. AreAcyclic host.now.resolved.now) }
     ensures refused { IfErr result (IsHostRefusal host.now.resolved.now host.now.grammar.now) }
+    ensures early { IfErr result IsBeforeConflict }
 {
     let pairs = pairs_of(alloc, host.resolved.parts().preferences.as_slice())?;
     let tested = test_pairs(alloc, host, &pairs);
@@ -120,6 +166,7 @@ fn test_pairs(
     requires { pairs.now ≡ preference_pairs host.now.resolved.now }
     ensures ok { IfOk result (λ done. AreAcyclic host.now.resolved.now) }
     ensures refused { IfErr result (IsHostRefusal host.now.resolved.now host.now.grammar.now) }
+    ensures early { IfErr result IsBeforeConflict }
 {
     let count = host.resolved.parts().terminals.len();
     match preference_cycle(alloc, count, pairs)? {
@@ -133,6 +180,7 @@ fn test_reduced(alloc: Global, host: &Host) -> Result<(), DeterminismRefusal>
     requires { AreAcyclic host.now.resolved.now }
     ensures ok { IfOk result (λ done. IsReduced host.now.grammar.now) }
     ensures refused { IfErr result (IsHostRefusal host.now.resolved.now host.now.grammar.now) }
+    ensures early { IfErr result IsBeforeConflict }
 {
     match analyse(alloc, host.grammar) {
         Ok(facts) => {
@@ -152,39 +200,6 @@ fn test_reduced(alloc: Global, host: &Host) -> Result<(), DeterminismRefusal>
     }
 }
 
-// What is found of a grammar with holes.
-#[derive(Drop)]
-struct Found {
-    facts: Facts,
-    kernels: Kernels,
-    lookaheads: Lookaheads,
-}
-
-// The facts, kernels and lookaheads of the grammar with holes.
-fn found_with_holes(
-    alloc: Global,
-    host: &Host,
-    holes: &Grammar,
-) -> Result<Found, DeterminismRefusal>
-    requires sound { IsSound host.now.resolved.now host.now.grammar.now }
-    requires holes { holes.now ≡ with_holes_of host.now.grammar.now host.now.resolved.now.extensible }
-    ensures ok { IfOk result (λ made. IsReadyToJudge host.now.resolved.now host.now.grammar.now holes.now made.facts made.kernels made.lookaheads) }
-    ensures refused { IfErr result (IsHostRefusal host.now.resolved.now host.now.grammar.now) }
-{
-    let facts = facts_with_holes(alloc, host, holes)?;
-    match kernels_and_lookaheads(alloc, holes, &facts) {
-        Ok(made) => Ok(Found {
-            facts,
-            kernels: made.kernels,
-            lookaheads: made.lookaheads,
-        }),
-        Err(error) => {
-            drop(facts);
-            Err(DeterminismRefusal::NoMemory(error))
-        }
-    }
-}
-
 // The facts of the grammar with holes.
 fn facts_with_holes(
     alloc: Global,
@@ -195,6 +210,7 @@ fn facts_with_holes(
     requires holes { holes.now ≡ with_holes_of host.now.grammar.now host.now.resolved.now.extensible }
     ensures ok { IfOk result (AreFacts holes.now) }
     ensures refused { IfErr result (IsHostRefusal host.now.resolved.now host.now.grammar.now) }
+    ensures early { IfErr result IsBeforeConflict }
 {
     match analyse(alloc, holes) {
         Ok(facts) => Ok(facts),

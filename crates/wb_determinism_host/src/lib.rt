@@ -11,7 +11,7 @@ mod lexicon;
 mod parts;
 mod refusal;
 
-pub use host::{AnalysedHost, analysed_host, host_determinism};
+pub use host::{AnalysedHost, HostFacts, analysed_host, host_determinism, host_facts};
 pub use judge::judge_host;
 pub use laws::{host_refusals_law, host_tables_law};
 pub use lexicon::{expressions_of, pairs_of};
