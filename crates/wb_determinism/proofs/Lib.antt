@@ -1,3 +1,4 @@
+mod ApartLemmas
 mod BoundLemmas
 mod ClashLemmas
 mod ConsideredLemmas

@@ -5,6 +5,7 @@ ghost use Rattle.wb_items.specs.declared.item_lookahead.ItemLookahead.{ItemLooka
 ghost use Rattle.wb_termset.specs.Sets.{IsMember};
 ghost use Rattle.wb_determinism.specs.Inner.Conflicts.{AreApartBefore, HasNoConflictAt, HasNoConflictIn, IsFound, IsFoundPair, IsPairConflict, IsShiftConflict};
 
+use crate::apart::are_apart;
 use wb_base::Grammar;
 use wb_items::{ItemLookahead, symbol_after};
 use wb_termset::TermSet;
@@ -24,6 +25,17 @@ pub(crate) fn row_conflict(
     shifts: &TermSet,
     row: &[ItemLookahead],
 ) -> Option<ActionPair>
+    requires { All (λ (looks : ItemLookahead). length looks.set ≡ length shifts.now) row.now }
+    ensures { MatchOption result (HasNoConflictIn grammar.now shifts.now row.now) (IsFound grammar.now shifts.now row.now) }
+{
+    if are_apart(grammar, shifts, row) {
+        return None;
+    }
+    first_conflict(grammar, shifts, row)
+}
+
+// The same, by all pairs.
+fn first_conflict(grammar: &Grammar, shifts: &TermSet, row: &[ItemLookahead]) -> Option<ActionPair>
     requires { All (λ (looks : ItemLookahead). length looks.set ≡ length shifts.now) row.now }
     ensures { MatchOption result (HasNoConflictIn grammar.now shifts.now row.now) (IsFound grammar.now shifts.now row.now) }
 {

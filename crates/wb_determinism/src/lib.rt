@@ -4,6 +4,7 @@
 //! `wb_compose_theory`; marks are tested elsewhere.
 #![tactic(auto)]
 
+mod apart;
 mod conflict;
 mod context;
 mod envelope;

@@ -60,3 +60,23 @@ IsFoundBy g shifts row t (Some first) second = IsFoundReduction g row t first se
 
 abbrev pub IsFound : GrammarView → List Bool → List ItemLookahead → ActionPair → Type 0
 IsFound g shifts row pair = IsFoundBy g shifts row pair.terminal pair.first pair.second
+
+-- none of the set's members was taken, and now all are, beside what was taken
+pub record TakesSet (set old new : List Bool) : Type 0 where
+  pub len : length new ≡ length old
+  pub keeps : (t : ℕ) → IsMember old t → IsMember new t
+  pub added : (t : ℕ) → IsMember set t → (¬ IsMember old t) × IsMember new t
+
+-- so it is with the lookaheads of an item, where it is complete; else all stays
+pub record TakesItem (g : GrammarView) (looks : ItemLookahead) (old new : List Bool) : Type 0 where
+  pub len : length new ≡ length old
+  pub keeps : (t : ℕ) → IsMember old t → IsMember new t
+  pub added : after_dot g looks.item ≡ [] → (t : ℕ) → IsMember looks.set t → (¬ IsMember old t) × IsMember new t
+
+-- what can be shifted and the lookaheads of the complete ones among the first items are taken, and these have no conflict
+pub record AreTaken (g : GrammarView) (shifts : List Bool) (row : List ItemLookahead) (place : ℕ) (taken : List Bool) : Type 0 where
+  pub len : length taken ≡ length shifts
+  pub shifts_in : (t : ℕ) → IsMember shifts t → IsMember taken t
+  pub sets_in : (j : ℕ) (one : ItemLookahead) → j < place → slice_get row j ≡ Some one → after_dot g one.item ≡ [] → (t : ℕ)
+      → IsMember one.set t → IsMember taken t
+  pub apart : (p : ℕ) → p < place → HasNoConflictAt g shifts row p
