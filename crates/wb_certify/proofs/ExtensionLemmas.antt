@@ -1,5 +1,5 @@
 -- What is known of a specification as an extension, from what is known of the value that it stands for with its host.
-use Rattle.std.proofs.Common.{◌≡◌, Result, Ok, Err, IfOk, IfErr, List, sym, subst}
+use Rattle.std.proofs.Common.{Result, Ok, Err, IfOk, IfErr, List}
 use Rattle.wb_certify_host.specs.Hosts.{IsCertifiedValue}
 use Rattle.wb_certify_host.specs.declared.refusal.CertifyRefusal.{CertifyRefusal}
 use Rattle.wb_certify_host.specs.declared.refusal.CertifyRefusal.TheVariants as c
@@ -43,9 +43,3 @@ module _ (host : ResolvedParts) (spec : SpecView) (r : ResolvedParts) (operation
       → IfErr result (IsExtensionCertifyRefusal host spec operations)
   extension_refused (Ok extension) reason = tt
   extension_refused (Err refusal) reason = of_value refusal reason
-
--- what is said of a value that was copied
-pub on_copy : {X E R : Type 0} (result : Result X E) (copy_of : X → R) (r : R) (P : R → X → Type 0) → IfOk result (λ x. copy_of x ≡ r)
-    → IfOk result (P r) → IfOk result (λ x. P (copy_of x) x)
-on_copy (Ok x) copy_of r P same is = subst (λ k. P k x) (sym same) is
-on_copy (Err e) copy_of r P same is = tt

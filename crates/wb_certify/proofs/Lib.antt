@@ -5,3 +5,4 @@ mod ValueLemmas
 mod ExtensionLemmas
 mod AnswerLemmas
 mod NameLemmas
+mod DeterminismLemmas

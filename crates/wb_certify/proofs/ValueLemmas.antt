@@ -13,15 +13,15 @@ use Rattle.wb_determinism_host.specs.declared.parts.HostParts.{HostParts}
 use Rattle.wb_determinism_host.specs.declared.refusal.DeterminismRefusal.{DeterminismRefusal}
 use Rattle.wb_determinism_host.specs.declared.refusal.DeterminismRefusal.TheVariants as d
 use Rattle.wb_determinism.specs.Extensions.{IsDeterministicExtension, IsHostBeside}
-use Rattle.wb_determinism.specs.declared.parts.ExtensionParts.{ExtensionParts}
 use Rattle.wb_operations.specs.Operations.{OperationSignature}
 use Rattle.wb_syntax_resolved.specs.declared.resolved.ResolvedParts.{ResolvedParts}
+use Rattle.wb_syntax_resolved.specs.Resolved.{IsResolved}
 use Rattle.wb_types.specs.Rules.{KindsOk}
 use Rattle.wb_certify.specs.Extensions.{IsCertifiedBeside}
-use Rattle.wb_certify.specs.Kept.{ArePartsBeside, Extends, IsKept}
+use Rattle.wb_certify.specs.Kept.{Extends, IsKept}
 use Rattle.wb_certify.specs.Refusals.{IsAttributeRefusal, IsBesideRefusal, IsReason}
-use Rattle.wb_certify.specs.Inner.Tests.{ArePartsFound, AttributesOk, IsAttributesReason, IsFound, IsLaterRefusal, IsMade}
-use Rattle.wb_certify.specs.Inner.Tests.{IsMadeCertified, IsPlainMemory, IsReasonBeside}
+use Rattle.wb_certify.specs.Inner.Tests.{AreClearBeside, AttributesOk, IsAttributesReason, IsFound, IsLaterRefusal, IsMade}
+use Rattle.wb_certify.specs.Inner.Tests.{IsMadeCertified, IsOfHost, IsPlainMemory, IsReasonBeside}
 use Rattle.wb_certify.proofs.BesideLemmas.{for_some, has_start, host_beside}
 
 -- what is there
@@ -61,28 +61,38 @@ module _ (host : CertifiedView) (r : ResolvedParts) (parts : HostParts) (extends
       for_some r.grammar (λ g. IsHostBeside r g parts) (λ g start.
       host_beside host.resolved r extends.spec extends.names host_grammar is_host.certified.start is_host.whole g start parts own)
 
+  -- the parts are those of the host, of which this is the specification with an extension
+  pub of_host : IsResolved r → IsOfHost r parts
+  of_host whole = record {
+    host = host.resolved;
+    host_grammar = host_grammar;
+    host_whole = is_host.whole;
+    whole = whole;
+    host_start = is_host.certified.start;
+    alone = is_host.certified.alone;
+    deterministic = is_host.certified.deterministic;
+    of_host = own;
+    spec = extends.spec;
+    names = extends.names;
+  }
+
   -- where it is deterministic beside these parts, it is beside the host
-  found : (made : ExtensionParts) → ArePartsFound r parts made → IsFound host.resolved r
-  found made is =
+  pub made_beside : AreClearBeside r parts.grammar → IsMade host r
+  made_beside is =
       let there = some_of r.grammar start_is in
       let one = is there.0 there.1 in record {
-        host_grammar = host_grammar;
-        host_start = is_host.certified.start;
-        grammar = there.0;
-        start = there.1;
-        deterministic = record {
-          markers = one.markers;
-          deterministic = subst (IsDeterministicExtension r there.0) own.grammar one.deterministic;
+        host_certified = is_host;
+        found = record {
+          host_grammar = host_grammar;
+          host_start = is_host.certified.start;
+          grammar = there.0;
+          start = there.1;
+          deterministic = record {
+            markers = one.markers;
+            deterministic = subst (IsDeterministicExtension r there.0) own.grammar one.deterministic;
+          };
         };
       }
-
-  -- and the parts that were made are those of the extended grammar
-  pub made_beside : (made : ExtensionParts) → ArePartsFound r parts made → IsMade host r made
-  made_beside made is = record {
-    host_certified = is_host;
-    found = found made is;
-    beside = subst (λ (p : HostParts). ArePartsBeside r p made) are (λ g start. (is g start).made);
-  }
 
   -- where it isn't, it isn't beside the host for the same reason
   pub not_found : (refusal : DeterminismRefusal) → IsReasonBeside r parts.grammar refusal → ¬ IsPlainMemory refusal
@@ -154,16 +164,15 @@ attributes_refused host r operations kinds is (c.Attributes refusal) (reason, ot
 attributes_refused host r operations kinds is (c.NoMemory error) reason = tt
 
 -- what is kept of it, with copies
-pub kept_of : (host : CertifiedView) (base r copied : ResolvedParts) (operations kept : List OperationSignature) (parts : ExtensionParts)
+pub kept_of : (host : CertifiedView) (base r copied : ResolvedParts) (operations kept : List OperationSignature)
     → base ≡ host.resolved → copied ≡ r → kept ≡ host.operations → operations ≡ host.operations → Extends host.resolved r
-    → IsMadeCertified host r operations parts → IsKept (record { host = base; resolved = copied; parts = parts; operations = kept })
-kept_of host base r copied operations kept parts same also again alike extends made =
-    subst (λ (b : ResolvedParts). IsKept (record { host = b; resolved = copied; parts = parts; operations = kept })) (sym same)
-    (subst (λ (q : ResolvedParts). IsKept (record { host = host.resolved; resolved = q; parts = parts; operations = kept })) (sym also)
-    (subst (λ (os : List OperationSignature). IsKept (record { host = host.resolved; resolved = r; parts = parts; operations = os }))
+    → IsMadeCertified host r operations → IsKept (record { host = base; resolved = copied; operations = kept })
+kept_of host base r copied operations kept same also again alike extends made =
+    subst (λ (b : ResolvedParts). IsKept (record { host = b; resolved = copied; operations = kept })) (sym same)
+    (subst (λ (q : ResolvedParts). IsKept (record { host = host.resolved; resolved = q; operations = kept })) (sym also)
+    (subst (λ (os : List OperationSignature). IsKept (record { host = host.resolved; resolved = r; operations = os }))
     (sym again) (record {
       host_certified = made.host_certified.certified;
       extends = extends;
       certified = subst (IsCertifiedBeside host.resolved r) alike made.certified;
-      parts = record { host_parts = host.parts; of_host = made.host_certified.parts; beside = made.beside };
     })))

@@ -2,10 +2,6 @@
 use Rattle.std.specs.Prelude.{◌≡◌, List, Some}
 use Rattle.wb_base.specs.Grammar.{GrammarView}
 use Rattle.wb_certify_host.specs.Hosts.{IsCertifiedValue, IsWritten}
-use Rattle.wb_determinism_host.specs.Hosts.{AreHostParts}
-use Rattle.wb_determinism_host.specs.declared.parts.HostParts.{HostParts}
-use Rattle.wb_determinism.specs.Extensions.{AreExtensionParts}
-use Rattle.wb_determinism.specs.declared.parts.ExtensionParts.{ExtensionParts}
 use Rattle.wb_names.specs.Resolving.{ResolvesExtension}
 use Rattle.wb_operations.specs.Operations.{OperationSignature}
 use Rattle.wb_syntax_resolved.specs.Resolved.{IsResolved}
@@ -13,12 +9,10 @@ use Rattle.wb_syntax_resolved.specs.declared.resolved.ResolvedParts.{ResolvedPar
 use Rattle.wb_syntax.specs.SpecText.{SpecView}
 use Rattle.wb_certify.specs.Extensions.{IsCertifiedBeside}
 
--- a host and the host with an extension, both by numbers; what is made of the grammar of the second with holes; and signatures of
--- operations
+-- a host and the host with an extension, both by numbers, and signatures of operations
 pub record ExtensionView : Type 0 where
   pub host : ResolvedParts
   pub resolved : ResolvedParts
-  pub parts : ExtensionParts
   pub operations : List OperationSignature
 
 -- the value is that of the host with some extension, whose specification some text is and whose names are right
@@ -27,22 +21,11 @@ pub record Extends (host r : ResolvedParts) : Type 0 where
   pub written : IsWritten spec
   pub names : ResolvesExtension host spec r
 
--- the parts are those of the extended grammar, beside these of the host
-abbrev pub ArePartsBeside : ResolvedParts → HostParts → ExtensionParts → Type 0
-ArePartsBeside r host parts = (g : GrammarView) → r.grammar ≡ Some g → AreExtensionParts r g host parts
-
--- the parts are those of the extended grammar, beside some parts of the host
-pub record AreKeptParts (host r : ResolvedParts) (parts : ExtensionParts) : Type 0 where
-  pub host_parts : HostParts
-  pub of_host : (g : GrammarView) → host.grammar ≡ Some g → AreHostParts host g host_parts
-  pub beside : ArePartsBeside r host_parts parts
-
--- the host is certified, the other is the host with some extension, which is certified beside it, and the parts are those of its grammar
+-- the host is certified, and the other is the host with some extension, which is certified beside it
 pub record IsKept (e : ExtensionView) : Type 0 where
   pub host_certified : IsCertifiedValue e.host e.operations
   pub extends : Extends e.host e.resolved
   pub certified : IsCertifiedBeside e.host e.resolved e.operations
-  pub parts : AreKeptParts e.host e.resolved e.parts
 
 -- both are resolved and have these grammars; the host is certified, and r is the host with some extension, which is certified beside it
 pub record AreCertifiedBoth (host r : ResolvedParts) (host_grammar grammar : GrammarView) (operations : List OperationSignature) :

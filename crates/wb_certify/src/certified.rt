@@ -3,10 +3,9 @@
 ghost use Rattle.std.specs.Prelude.{◌≡◌};
 ghost use Rattle.wb_certify_host.specs.Hosts.{IsCertifiedValue};
 ghost use Rattle.wb_certify.specs.Extensions.{IsCertifiedBeside, IsOneExtension};
-ghost use Rattle.wb_certify.specs.Kept.{AreKeptParts, Extends};
+ghost use Rattle.wb_certify.specs.Kept.{Extends};
 
 use std::marker::Model;
-use wb_determinism::ExtensionParts;
 use wb_operations::OperationSignatures;
 use wb_syntax_resolved::Resolved;
 
@@ -17,7 +16,6 @@ use wb_syntax_resolved::Resolved;
 pub struct CertifiedExtension {
     pub(crate) host: Resolved,
     pub(crate) resolved: Resolved,
-    pub(crate) parts: ExtensionParts,
     pub(crate) operations: OperationSignatures,
 }
 
@@ -30,9 +28,9 @@ impl Model for CertifiedExtension {
 
     ghost coded = { Prim.hlevel (codes, regex.the_row.coded) };
 
-    ghost view = { λ e. record { host = e.host; resolved = e.resolved; parts = e.parts; operations = e.operations } };
+    ghost view = { λ e. record { host = e.host; resolved = e.resolved; operations = e.operations } };
 
-    ghost invariant = { λ e. IsKept (record { host = e.host; resolved = e.resolved; parts = e.parts; operations = e.operations }) };
+    ghost invariant = { λ e. IsKept (record { host = e.host; resolved = e.resolved; operations = e.operations }) };
 }
 
 impl CertifiedExtension {
@@ -66,14 +64,6 @@ impl CertifiedExtension {
         &self.resolved
     }
 
-    /// What is made of the grammar of host and extension, with holes.
-    pub fn parts(&self) -> &ExtensionParts
-        ensures parts { result.now ≡ self.now.parts }
-        ensures of_grammar { AreKeptParts self.now.host self.now.resolved self.now.parts }
-    {
-        &self.parts
-    }
-
     /// The signatures of the operations with which it was certified.
     pub fn operations(&self) -> &OperationSignatures
         ensures { result.now ≡ self.now.operations }
@@ -93,12 +83,10 @@ impl Drop for CertifiedExtension {
         let CertifiedExtension {
             host,
             resolved,
-            parts,
             operations,
         } = self;
         host.release();
         resolved.release();
-        parts.release();
         operations.release();
     }
 }

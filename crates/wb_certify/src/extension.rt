@@ -5,7 +5,6 @@
 ghost use Rattle.std.specs.Prelude.{◌≡◌, [], IfErr, IfOk};
 ghost use Rattle.wb_names.specs.Resolving.{ResolvesExtension};
 ghost use Rattle.wb_certify.specs.Extensions.{IsCertifiedExtension};
-ghost use Rattle.wb_certify.specs.Kept.{ArePartsBeside};
 ghost use Rattle.wb_certify.specs.Refusals.{IsExtensionCertifyRefusal};
 
 use crate::CertifiedExtension;
@@ -32,7 +31,6 @@ pub fn certify_extension<M: Meaning>(
     ensures host { IfOk result (λ extension. extension.host ≡ host.now.resolved) }
     ensures operations { IfOk result (λ extension. extension.operations ≡ host.now.operations) }
     ensures names { IfOk result (λ extension. ResolvesExtension host.now.resolved spec.now extension.resolved) }
-    ensures parts { IfOk result (λ extension. ArePartsBeside extension.resolved host.now.parts extension.parts) }
     ensures certified { IfOk result (λ extension. IsCertifiedExtension host.now.resolved spec.now host.now.operations) }
     ensures refused { IfErr result (IsExtensionCertifyRefusal host.now.resolved spec.now host.now.operations) }
 {

@@ -17,6 +17,7 @@ use wb_syntax_resolved::Resolved;
 pub(crate) fn test_marks(alloc: Global, resolved: &Resolved) -> Result<(), DeterminismRefusal>
     requires { IsSome resolved.now.grammar }
     ensures ok { IfOk result (λ done. KeepMarkers resolved.now) }
+    ensures acyclic { IfOk result (λ done. AreAcyclic resolved.now) }
     ensures refused { IfErr result (IsMarkReason resolved.now) }
 {
     test_bridges(alloc, resolved)?;

@@ -6,7 +6,7 @@ ghost use Rattle.wb_syntax_resolved.specs.declared.resolved.ResolvedParts.{Resol
 ghost use Rattle.wb_types.specs.Rules.{KindsOk};
 ghost use Rattle.wb_certify_host.specs.Refusals.{start_of};
 ghost use Rattle.wb_certify.specs.Extensions.{IsCertifiedBeside};
-ghost use Rattle.wb_certify.specs.Kept.{ArePartsBeside, Extends};
+ghost use Rattle.wb_certify.specs.Kept.{Extends};
 ghost use Rattle.wb_certify.specs.Refusals.{IsBesideRefusal};
 ghost use Rattle.wb_certify.specs.Inner.Tests.{AttributesOk, IsAttributesReason, IsLaterRefusal, IsMade, IsMadeCertified};
 
@@ -15,7 +15,6 @@ use crate::attributes::test_attributes;
 use crate::determinism::determinism_beside;
 use std::alloc::{AllocError, Global};
 use wb_certify_host::{CertifiedHost, CertifyRefusal};
-use wb_determinism::ExtensionParts;
 use wb_determinism_host::DeterminismRefusal;
 use wb_flow::AttributeRefusal;
 use wb_operations::{Meaning, OperationSignatures, OperationTable};
@@ -39,22 +38,17 @@ pub fn certify_beside<M: Meaning>(
     ensures host { IfOk result (λ extension. extension.host ≡ host.now.resolved) }
     ensures resolved { IfOk result (λ extension. extension.resolved ≡ resolved.now) }
     ensures operations { IfOk result (λ extension. extension.operations ≡ host.now.operations) }
-    ensures parts { IfOk result (λ extension. ArePartsBeside resolved.now host.now.parts extension.parts) }
     ensures certified { IfOk result (λ extension. IsCertifiedBeside host.now.resolved resolved.now host.now.operations) }
     ensures refused { IfErr result (IsBesideRefusal host.now.resolved resolved.now host.now.operations) }
 {
-    let parts = parts_beside(alloc, host, resolved, operations)?;
+    test_beside(alloc, host, resolved, operations)?;
     match copies_of(host, resolved) {
         Ok((base, copied, signatures)) => Ok(CertifiedExtension {
             host: base,
             resolved: copied,
-            parts,
             operations: signatures,
         }),
-        Err(error) => {
-            drop(parts);
-            Err(CertifyRefusal::NoMemory(error))
-        }
+        Err(error) => Err(CertifyRefusal::NoMemory(error)),
     }
 }
 
@@ -85,25 +79,22 @@ fn copies_of(
     }
 }
 
-// What is made of a host with an extension that is certified.
-fn parts_beside<M: Meaning>(
+// Whether the extension is certified.
+fn test_beside<M: Meaning>(
     alloc: Global,
     host: &CertifiedHost,
     resolved: &Resolved,
     operations: &OperationTable<M>,
-) -> Result<ExtensionParts, CertifyRefusal>
+) -> Result<(), CertifyRefusal>
     requires { Extends host.now.resolved resolved.now }
-    ensures ok { IfOk result (IsMadeCertified host.now resolved.now operations.now.signatures) }
+    ensures ok { IfOk result (λ done. IsMadeCertified host.now resolved.now operations.now.signatures) }
     ensures refused { IfErr result (IsBesideRefusal host.now.resolved resolved.now operations.now.signatures) }
 {
     check_kinds(alloc, resolved, operations)?;
-    let parts = determinism_of(alloc, host, resolved)?;
+    check_determinism(alloc, host, resolved)?;
     match check_attributes(alloc, resolved) {
-        Ok(()) => Ok(parts),
-        Err(refusal) => {
-            drop(parts);
-            Err(refusal)
-        }
+        Ok(()) => Ok(()),
+        Err(refusal) => Err(refusal),
     }
 }
 
@@ -123,18 +114,20 @@ fn check_kinds<M: Meaning>(
     }
 }
 
-// What is made of host and extension, where the extension is deterministic beside the host.
-fn determinism_of(
+// Whether the extension is deterministic beside the host.
+fn check_determinism(
     alloc: Global,
     host: &CertifiedHost,
     resolved: &Resolved,
-) -> Result<ExtensionParts, CertifyRefusal>
+) -> Result<(), CertifyRefusal>
     requires { Extends host.now.resolved resolved.now }
-    ensures ok { IfOk result (IsMade host.now resolved.now) }
+    ensures ok { IfOk result (λ done. IsMade host.now resolved.now) }
     ensures refused { IfErr result (IsLaterRefusal host.now.resolved resolved.now) }
 {
+    // The specification is resolved.
+    resolved.parts();
     match determinism_beside(alloc, host.parts(), resolved) {
-        Ok(made) => Ok(made),
+        Ok(()) => Ok(()),
         Err(DeterminismRefusal::NoMemory(..)) => Err(CertifyRefusal::NoMemory(AllocError)),
         Err(refusal) => Err(CertifyRefusal::Determinism(refusal)),
     }

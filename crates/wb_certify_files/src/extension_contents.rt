@@ -4,7 +4,7 @@
 //! on as a report shows it.
 
 ghost use Rattle.std.specs.Prelude.{◌≡◌, ◌≢◌, IfErr, IfOk, List, None};
-ghost use Rattle.wb_certify.specs.Kept.{ArePartsBeside, Extends};
+ghost use Rattle.wb_certify.specs.Kept.{Extends};
 ghost use Rattle.wb_certify.specs.Refusals.{IsBesideRefusal};
 ghost use Rattle.wb_certify_host.specs.Refusals.{IsNameMemory};
 ghost use Rattle.wb_names.specs.Resolving.{IsExtensionNameRefusal};
@@ -44,7 +44,6 @@ pub fn extension_of<M: Meaning>(
     ensures host { IfOk result (λ extension. extension.host ≡ host.now.resolved) }
     ensures extension { IfOk result (λ extension. IsExtensionText host.now.resolved host.now.operations contents.now extension.resolved) }
     ensures operations { IfOk result (λ extension. extension.operations ≡ host.now.operations) }
-    ensures parts { IfOk result (λ extension. ArePartsBeside extension.resolved host.now.parts extension.parts) }
     ensures refused { IfErr result (IsExtensionRefusal host.now.resolved host.now.operations contents.now) }
 {
     let spec = extension_spec(alloc, host, contents)?;
@@ -66,7 +65,6 @@ pub fn extension_of_spec<M: Meaning>(
     ensures host { IfOk result (λ extension. extension.host ≡ host.now.resolved) }
     ensures extension { IfOk result (λ extension. IsExtensionSpec host.now.resolved host.now.operations spec.now extension.resolved) }
     ensures operations { IfOk result (λ extension. extension.operations ≡ host.now.operations) }
-    ensures parts { IfOk result (λ extension. ArePartsBeside extension.resolved host.now.parts extension.parts) }
     ensures refused { IfErr result (IsSpecRefusal host.now.resolved host.now.operations spec.now) }
 {
     let resolved = value_of(alloc, host, spec)?;
@@ -89,7 +87,6 @@ fn certified<M: Meaning>(
     ensures host { IfOk result (λ extension. extension.host ≡ host.now.resolved) }
     ensures extension { (spec : SpecView) → IsNumbered host.now.resolved spec resolved.now → IfOk result (λ extension. IsExtensionSpec host.now.resolved host.now.operations spec extension.resolved) }
     ensures operations { IfOk result (λ extension. extension.operations ≡ host.now.operations) }
-    ensures parts { IfOk result (λ extension. ArePartsBeside extension.resolved host.now.parts extension.parts) }
     ensures refused { (spec : SpecView) → IsNumbered host.now.resolved spec resolved.now → IfErr result (IsSpecRefusal host.now.resolved host.now.operations spec) }
 {
     match certify_beside(alloc, host, resolved, operations) {

@@ -105,12 +105,12 @@ module _ (own g : GrammarView) (extensible : List ℕ) where
   abbrev holes : ℕ
   holes = length extensible
 
-  own_rules : length (with_holes_of own extensible).productions ≡ length own.productions + holes
+  pub own_rules : length (with_holes_of own extensible).productions ≡ length own.productions + holes
   own_rules =
       let a = length-append own.productions (hole_productions own.terminals extensible) in
       let b = holes_len own.terminals extensible in omega (arith, a, b)
 
-  both_rules : length (with_holes_of g extensible).productions ≡ length g.productions + holes
+  pub both_rules : length (with_holes_of g extensible).productions ≡ length g.productions + holes
   both_rules =
       let a = length-append g.productions (hole_productions g.terminals extensible) in
       let b = holes_len g.terminals extensible in omega (arith, a, b)
@@ -139,13 +139,14 @@ module _ (own g : GrammarView) (extensible : List ℕ) where
 
 module _ (host r : ResolvedParts) (h g : GrammarView) (is : IsExtendedBy host r h g) (images : List (Option ℕ))
     (are : AreImages (numbers_beside r.extensible h g) (stands_for r g) (g.terminals + length r.extensible + 1) images) where
-  same : host.extensible ≡ r.extensible
+  -- what is extensible stays so
+  pub same : host.extensible ≡ r.extensible
   same = sym (same_extensible host r h g is)
 
-  pieces : ArePieces h r.extensible (piece_in r g ∷ [])
+  pub pieces : ArePieces h r.extensible (piece_in r g ∷ [])
   pieces = subst (λ (z : List ℕ). ArePieces h z (piece_in r g ∷ [])) same (pieces_are host r h g is)
 
-  stands : (t : ℕ) → stands_for r g t ≡ phi_of r.extensible (piece_in r g) t
+  pub stands : (t : ℕ) → stands_for r g t ≡ phi_of r.extensible (piece_in r g) t
   stands = subst (λ (z : List ℕ). (t : ℕ) → stands_for r g t ≡ phi_of z (piece_in r g) t) same (images_same host r h g is)
 
   images_are : AreImages (numbers_beside r.extensible h g) (phi_of r.extensible (piece_in r g)) (g.terminals + length r.extensible + 1) images
@@ -157,7 +158,7 @@ module _ (host r : ResolvedParts) (h g : GrammarView) (is : IsExtendedBy host r 
   terminal_is : (u : ℕ) → terminal_up (numbers_beside r.extensible h g) u ≡ (up_of h g).terminal u
   terminal_is u = sym (ap (λ (z : Renaming). z.terminal u) (numbers_are h g r.extensible))
 
-  phi_is : phi_of r.extensible (piece_in r g) ≡ phi_by (moved_beside r.extensible h g) images
+  pub phi_is : phi_of r.extensible (piece_in r g) ≡ phi_by (moved_beside r.extensible h g) images
   phi_is = λ z t. image_is h r.extensible (piece_in r g) pieces (numbers_beside r.extensible h g) h.nonterminals
       (g.nonterminals - h.nonterminals) images terminal_is images_are t z
 

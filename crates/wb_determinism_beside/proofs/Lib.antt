@@ -13,3 +13,11 @@ pub mod LayoutRows
 pub mod ScannedLemmas
 pub mod HoleLemmas
 pub mod GivenLemmas
+pub mod ListedLemmas
+pub mod ClearLemmas
+pub mod SeenLemmas
+pub mod AskedLemmas
+pub mod ImageLemmas
+pub mod ValidLemmas
+pub mod FlagLemmas
+pub mod ListLemmas

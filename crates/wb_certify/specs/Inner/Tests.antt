@@ -1,5 +1,5 @@
 -- What each private test asks and tells of the specification of a host with an extension.
-use Rattle.std.specs.Prelude.{◌≡◌, ℕ, List, Some, Option}
+use Rattle.std.specs.Prelude.{◌≡◌, ℕ, List, [], Some, Option}
 use Rattle.wb_flow_theory.specs.Modular.{ForwardEquationsReach}
 use Rattle.wb_base.specs.Grammar.{GrammarView}
 use Rattle.wb_certify_host.specs.Hosts.{CertifiedView, IsCertified}
@@ -7,19 +7,21 @@ use Rattle.wb_certify_host.specs.Refusals.{IsAttributeMemory, start_of}
 use Rattle.wb_certify_host.specs.declared.refusal.CertifyRefusal.{CertifyRefusal}
 use Rattle.wb_certify_host.specs.declared.refusal.CertifyRefusal.TheVariants as c
 use Rattle.wb_complete.specs.Refusals.{CompleteOk}
+use Rattle.wb_determinism_host.specs.Hosts.{AreHostParts, IsDeterministicHost}
 use Rattle.wb_determinism_host.specs.declared.parts.HostParts.{HostParts}
 use Rattle.wb_determinism_host.specs.declared.refusal.DeterminismRefusal.{DeterminismRefusal}
 use Rattle.wb_determinism_host.specs.declared.refusal.DeterminismRefusal.TheVariants as d
-use Rattle.wb_determinism.specs.Extensions.{AreExtensionParts, IsDeterministicExtension}
-use Rattle.wb_determinism.specs.declared.parts.ExtensionParts.{ExtensionParts}
+use Rattle.wb_determinism.specs.Extensions.{IsDeterministicExtension}
 use Rattle.wb_flow.specs.Refusals.{FlowsOk}
 use Rattle.wb_marking.specs.Bridges.{AreBridges}
+use Rattle.wb_names.specs.Resolving.{ResolvesExtension}
 use Rattle.wb_operations.specs.Operations.{OperationSignature}
+use Rattle.wb_syntax.specs.SpecText.{SpecView}
 use Rattle.wb_syntax_resolved.specs.declared.attribution.AttributionParts.{AttributionParts}
 use Rattle.wb_syntax_resolved.specs.declared.resolved.ResolvedParts.{ResolvedParts}
+use Rattle.wb_syntax_resolved.specs.Resolved.{IsResolved}
 use Rattle.wb_types.specs.Rules.{KindsOk}
 use Rattle.wb_certify.specs.Extensions.{AreMarkersKept, IsCertifiedBeside, IsDeterministicBeside}
-use Rattle.wb_certify.specs.Kept.{ArePartsBeside}
 use Rattle.wb_certify.specs.Refusals.{IsAttributeRefusal, IsBesideRefusal, IsReason}
 
 -- the rules on bridges hold in the grammar
@@ -43,15 +45,27 @@ abbrev pub IsPlainMemory : DeterminismRefusal → Type 0
 IsPlainMemory (d.NoMemory error) = Unit {0}
 IsPlainMemory other = ⊥
 
--- markers keep their rules, the extension is deterministic beside the host, and the parts are those of the extended grammar
-pub record ArePartsOfDeterministic (r : ResolvedParts) (g : GrammarView) (host : HostParts) (parts : ExtensionParts) : Type 0 where
+-- markers keep their rules, and the extension is deterministic beside the host with this grammar with holes
+pub record IsClearBeside (r : ResolvedParts) (g host : GrammarView) : Type 0 where
   pub markers : AreMarkersKept r g
-  pub deterministic : IsDeterministicExtension r g host.grammar
-  pub made : AreExtensionParts r g host parts
+  pub deterministic : IsDeterministicExtension r g host
 
--- the parts are those of a deterministic extension, for each grammar that the specification has
-abbrev pub ArePartsFound : ResolvedParts → HostParts → ExtensionParts → Type 0
-ArePartsFound r host parts = (g : GrammarView) → r.grammar ≡ Some g → ArePartsOfDeterministic r g host parts
+-- so for each grammar that the specification has
+abbrev pub AreClearBeside : ResolvedParts → GrammarView → Type 0
+AreClearBeside r host = (g : GrammarView) → r.grammar ≡ Some g → IsClearBeside r g host
+
+-- the parts are those of a host, which is deterministic, and of which this is the specification with some extension whose names are right
+pub record IsOfHost (r : ResolvedParts) (parts : HostParts) : Type 0 where
+  pub host : ResolvedParts
+  pub host_grammar : GrammarView
+  pub host_whole : IsResolved host
+  pub whole : IsResolved r
+  pub host_start : host.grammar ≡ Some host_grammar
+  pub alone : host.attributes.extensions ≡ []
+  pub deterministic : IsDeterministicHost host host_grammar
+  pub of_host : AreHostParts host host_grammar parts
+  pub spec : SpecView
+  pub names : ResolvesExtension host spec r
 
 -- host and extended host have grammars, and the extension is deterministic beside the host
 pub record IsFound (host r : ResolvedParts) : Type 0 where
@@ -61,18 +75,15 @@ pub record IsFound (host r : ResolvedParts) : Type 0 where
   pub start : r.grammar ≡ Some grammar
   pub deterministic : IsDeterministicBeside host r host_grammar grammar
 
--- the host is certified, the extension is deterministic beside it, and the parts are those of the extended grammar
-pub record IsMade (host : CertifiedView) (r : ResolvedParts) (parts : ExtensionParts) : Type 0 where
+-- the host is certified, and the extension is deterministic beside it
+pub record IsMade (host : CertifiedView) (r : ResolvedParts) : Type 0 where
   pub host_certified : IsCertified host
   pub found : IsFound host.resolved r
-  pub beside : ArePartsBeside r host.parts parts
 
--- the host is certified, the extension is certified beside it, and the parts are those of the extended grammar
-pub record IsMadeCertified (host : CertifiedView) (r : ResolvedParts) (operations : List OperationSignature) (parts : ExtensionParts) :
-    Type 0 where
+-- the host is certified, and the extension is certified beside it
+pub record IsMadeCertified (host : CertifiedView) (r : ResolvedParts) (operations : List OperationSignature) : Type 0 where
   pub host_certified : IsCertified host
   pub certified : IsCertifiedBeside host.resolved r operations
-  pub beside : ArePartsBeside r host.parts parts
 
 -- attributes are complete as an extension's, keep to their flow types, and so do equations for forwarded trees
 pub record AttributesOk (a : AttributionParts) (start : Option ℕ) : Type 0 where

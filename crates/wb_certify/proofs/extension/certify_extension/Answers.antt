@@ -2,20 +2,14 @@ use Rattle.std.proofs.Common.{◌≡◌, subst, sym}
 use Rattle.std.proofs.lemmas.Result.{IfOk-weaker}
 use Rattle.wb_names.specs.Resolving.{ResolvesExtension}
 use Rattle.wb_syntax_resolved.specs.declared.resolved.ResolvedParts.{ResolvedParts}
-use Rattle.wb_certify.specs.Kept.{ArePartsBeside, ExtensionView}
-use Rattle.wb_certify.proofs.ExtensionLemmas.{certified_extension, extension_refused, of_written, on_copy}
+use Rattle.wb_certify.specs.Kept.{ExtensionView}
+use Rattle.wb_certify.proofs.ExtensionLemmas.{certified_extension, extension_refused, of_written}
 use Rattle.wb_certify.proofs.extension.certify_extension.Goals as goal
 
 pub certify_beside-answer-requires-clause-extends : goal.certify_beside-answer-requires-clause-extends
 certify_beside-answer-requires-clause-extends g c =
     of_written c.args.host.now.resolved c.args.spec.now c.in-Ok.resolved (rw c.resolved.ensures.resolved at c.in-Ok.ensures.ok)
     c.items.ensures.text
-
-pub returns-in-Ok-clause-parts : goal.returns-in-Ok-clause-parts
-returns-in-Ok-clause-parts g c =
-    on_copy c.certify_beside-answer.result (λ (e : ExtensionView). e.resolved) c.in-Ok.resolved
-    (λ (r : ResolvedParts) (e : ExtensionView). ArePartsBeside r c.args.host.now.parts e.parts) c.certify_beside-answer.ensures.resolved
-    c.certify_beside-answer.ensures.parts
 
 pub returns-in-Ok-clause-certified : goal.returns-in-Ok-clause-certified
 returns-in-Ok-clause-certified g c =

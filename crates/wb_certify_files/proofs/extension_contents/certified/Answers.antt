@@ -1,5 +1,4 @@
 use Rattle.std.proofs.Common.{rules, subst, sym}
-use Rattle.wb_certify.specs.Kept.{ArePartsBeside}
 use Rattle.wb_certify.specs.Refusals.{IsMemory}
 use Rattle.wb_syntax_resolved.specs.declared.resolved.ResolvedParts.{ResolvedParts}
 use Rattle.wb_certify_files.specs.ExtensionContents.{IsExtensionText}
@@ -23,11 +22,6 @@ returns-in-Ok-clause-extension g c = λ spec is contents accepted.
 pub returns-in-Err-clause-refused : goal.returns-in-Err-clause-refused
 returns-in-Err-clause-refused g c =
     λ spec is. c.bad_value-shown.ensures c.args.host.now.resolved c.args.host.now.operations spec is c.in-Err.ensures.refused
-
-pub returns-in-Ok-clause-parts : goal.returns-in-Ok-clause-parts
-returns-in-Ok-clause-parts g c =
-    subst (λ (r : ResolvedParts). ArePartsBeside r c.args.host.now.parts c.in-Ok.extension.parts) (sym c.in-Ok.ensures.resolved)
-    c.in-Ok.ensures.parts
 
 pub returns-in-Err-NoMemory-clause-refused : goal.returns-in-Err-NoMemory-clause-refused
 returns-in-Err-NoMemory-clause-refused g c = λ spec is contents accepted. tt

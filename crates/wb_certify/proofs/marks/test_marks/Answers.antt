@@ -1,0 +1,9 @@
+use Rattle.std.proofs.lemmas.Result.{IfOk-weaker}
+use Rattle.wb_determinism_host.specs.Hosts.{AreAcyclic}
+use Rattle.wb_certify.specs.Inner.Tests.{KeepMarkers}
+use Rattle.wb_certify.proofs.marks.test_marks.Goals as goal
+
+pub returns-clause-acyclic : goal.returns-clause-acyclic
+returns-clause-acyclic c =
+    IfOk-weaker c.test_clashes.result (λ done. KeepMarkers c.args.resolved.now) (λ done. AreAcyclic c.args.resolved.now)
+    (λ done kept. c.in_ok-test_preferences.ensures.ok) c.test_clashes.ensures.ok
