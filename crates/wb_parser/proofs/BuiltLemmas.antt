@@ -21,7 +21,6 @@ use Rattle.wb_parser_states.specs.declared.rules.Rule.{Rule}
 use Rattle.wb_parser_states.specs.Chains.{IsChain, link, nothing}
 use Rattle.wb_parser_states.specs.Rules.{IsRule}
 use Rattle.wb_parser_states.specs.Stacks.{IsMoved, last_or}
-use Rattle.wb_parser_states.proofs.ChainLemmas.{split_top}
 use Rattle.wb_parser_states.proofs.StateLemmas.{last_below, top_pushed}
 use Rattle.wb_parser_states.proofs.TableLemmas.{goto_below, zero_below}
 use Rattle.wb_parser.specs.declared.chains.Chain.{Chain}
@@ -44,20 +43,25 @@ moved_top tables xs state next left goes =
       states_are = ap (λ z. z ++ next ∷ []) (sym lower);
     }
 
--- a tree for each production
-pub built_longer : (ps : List ℕ) (vs : List Value) (trees : List Tree) (vs' : List Value) (trees' : List Tree) → AreBuilt ps vs trees vs' trees'
-    → length trees' ≡ length trees + length ps
-built_longer [] vs trees vs' trees' built = omega (arith, ap length built.1)
-built_longer (p ∷ ps) vs trees vs' trees' built =
-    let t = node p (values_in trees (last 1 vs)) in
-    let rest = built_longer ps (take (length vs - 1) vs ++ stored.Tree (record { 0 = length trees }) ∷ []) (trees ++ t ∷ []) vs' trees' built.1 in
-    omega (arith, rest, length-append trees (t ∷ []))
+-- the last of some states, and those before it
+split_top : (states : List ℕ) → 1 ≤ length states → states ≡ take (length states - 1) states ++ last_or 0 states ∷ []
+split_top [] some = absurd (omega arith)
+split_top (x ∷ xs) some =
+    let e : length (x ∷ xs) - 1 ≡ length xs = omega arith in split x xs ∙ ap (λ k. take k (x ∷ xs) ++ last_or x xs ∷ []) (sym e)
+  where
+    split : (x : ℕ) (xs : List ℕ) → x ∷ xs ≡ take (length xs) (x ∷ xs) ++ last_or x xs ∷ []
+    split x [] = refl
+    split x (y ∷ ys) = ap (λ z. x ∷ z) (split y ys)
 
--- of which the first has a number
-pub built_fits : (ps : List ℕ) (vs : List Value) (trees : List Tree) (vs' : List Value) (trees' : List Tree) → AreBuilt ps vs trees vs' trees'
-    → 1 ≤ length ps → length trees < 2 ^ 64
-built_fits [] vs trees vs' trees' built some = absurd (omega (arith, some))
-built_fits (p ∷ ps) vs trees vs' trees' built some = built.0
+-- some, and then others
+pub reduced_more : (parts : LanguageParts) (t : ℕ) (s0 s1 s2 : List ℕ) (v0 v1 v2 : List Value) (t0 t1 t2 : List Tree)
+    → AreReduced parts t s0 v0 t0 s1 v1 t1 → AreReduced parts t s1 v1 t1 s2 v2 t2 → AreReduced parts t s0 v0 t0 s2 v2 t2
+reduced_more parts t s0 s1 s2 v0 v1 v2 t0 t1 t2 first others = record {
+  carries = λ text prefix at place next n gives are.
+      others.carries text prefix at place next n gives (first.carries text prefix at place next n gives are);
+  sound = others.sound;
+  extends = extends_more t0 t1 t2 first.extends others.extends;
+}
 
 module _ (parts : LanguageParts) (ok : IsLanguage parts.language) (of : AreTablesOf parts.language.grammar parts.tables) (t : ℕ)
     (le : t ≤ parts.language.grammar.terminals) where

@@ -19,7 +19,9 @@ use wb_parser_states::{Rule, move_states, top};
 use wb_scan::Language;
 use wb_values::{PackedValues, TreeStore};
 
-// Reduces on a terminal by a production, or by all of a chain that begins with it. Answers the action after that.
+// Reduces on a terminal by a production, and by all of a chain that begins after it. Answers the action after that.
+//
+// Most chains of some languages are of one production, so none is asked for before the second.
 pub(crate) fn reduce_on(
     language: &Language,
     reductions: &mut Reductions,
@@ -38,19 +40,44 @@ pub(crate) fn reduce_on(
     ensures extends { Extends store.old store.new }
     ensures reductions { AreReductions language.now.language.grammar language.now.tables reductions.new }
 {
+    let action = reduce_once(
+        language,
+        &reductions.rules,
+        stack,
+        store,
+        terminal,
+        production,
+    )?;
+    follow_chain(language, reductions, stack, store, terminal, action)
+}
+
+// Reduces by all of the chain that begins with the action at the states on top, where one does, and answers the action after that.
+fn follow_chain(
+    language: &Language,
+    reductions: &mut Reductions,
+    stack: &mut Stack,
+    store: &mut TreeStore,
+    terminal: usize,
+    action: Action,
+) -> Result<Action, AllocError>
+    requires reductions { AreReductions language.now.language.grammar language.now.tables reductions.old }
+    requires terminal { terminal ≤ language.now.language.grammar.terminals }
+    requires action { action ≡ action_of language.now.tables (last_or 0 stack.old.states.items) terminal }
+    requires sound { IsSound language.now stack.old.states.items stack.old.values store.old }
+    ensures reduced { OnOk result (AreReduced language.now terminal stack.old.states.items stack.old.values store.old stack.new.states.items stack.new.values store.new) }
+    ensures action { IfOk result (λ action. action ≡ action_of language.now.tables (last_or 0 stack.new.states.items) terminal) }
+    ensures extends { Extends store.old store.new }
+    ensures reductions { AreReductions language.now.language.grammar language.now.tables reductions.new }
+{
+    let Action::Reduce(production) = action else {
+        return Ok(action);
+    };
     if reductions.chains.is_empty()
         || reductions.rules[production].width != 1
         || stack.values.len() == 0
         || stack.states.is_empty()
     {
-        return reduce_once(
-            language,
-            &reductions.rules,
-            stack,
-            store,
-            terminal,
-            production,
-        );
+        return Ok(action);
     }
     let place = stack.states.len() - 1;
     let start = Start {
@@ -59,16 +86,6 @@ pub(crate) fn reduce_on(
         terminal,
     };
     let chain = chain_from(language, reductions, start);
-    if chain.first == chain.end {
-        return reduce_once(
-            language,
-            &reductions.rules,
-            stack,
-            store,
-            terminal,
-            production,
-        );
-    }
     reduce_chain(language, &reductions.productions, stack, store, chain)
 }
 
@@ -130,7 +147,6 @@ fn reduce_chain(
     chain: Chain,
 ) -> Result<Action, AllocError>
     requires chain { IsChainOf language.now.language.grammar language.now.tables productions.now chain }
-    requires some { chain.first < chain.end }
     requires states { 1 ≤ length stack.old.states.items }
     requires values { 1 ≤ length stack.old.values }
     requires state { chain.start.state ≡ last_or 0 stack.old.states.items }
@@ -138,7 +154,6 @@ fn reduce_chain(
     requires sound { IsSound language.now stack.old.states.items stack.old.values store.old }
     ensures reduced { OnOk result (AreReduced language.now chain.start.terminal stack.old.states.items stack.old.values store.old stack.new.states.items stack.new.values store.new) }
     ensures action { IfOk result (λ action. action ≡ action_of language.now.tables (last_or 0 stack.new.states.items) chain.start.terminal) }
-    ensures longer { OnOk result ((length store.old < 2 ^ 64) × (length store.old < length store.new)) }
     ensures extends { Extends store.old store.new }
 {
     build_chain(

@@ -1,7 +1,6 @@
 -- Chains of reductions of one symbol each, and what they make of states.
-use Rattle.std.proofs.Common.{◌≡◌, ◌<◌, ◌≤◌, ◌-◌, ◌+◌, ◌⊎◌, ℕ, zero, suc, List, [], ◌∷◌, ◌++◌, length, take, refl, sym, ◌∙◌, ap, subst, inl, inr, arith, length-append, zero-le}
-use Rattle.std.specs.Prelude.{All, IfSome, None, Option, Some, slice_get, slice_set}
-use Rattle.std.proofs.lemmas.List.Elements.{All-push, All-take}
+use Rattle.std.proofs.Common.{◌≡◌, ◌<◌, ◌≤◌, ◌-◌, ◌+◌, ◌⊎◌, ℕ, List, [], ◌∷◌, ◌++◌, length, take, refl, sym, ◌∙◌, ap, subst, inl, inr, arith, length-append}
+use Rattle.std.specs.Prelude.{Some, slice_get}
 use Rattle.std.proofs.lemmas.Option.{same_Some}
 use Rattle.wb_lemmas.proofs.Parts.{take_append}
 use Rattle.wb_lemmas.proofs.Places.{at_push}
@@ -19,15 +18,15 @@ use Rattle.wb_parser_states.specs.declared.chains.RuleAction.{RuleAction}
 use Rattle.wb_parser_states.specs.declared.chains.RuleAction.TheVariants as shown
 use Rattle.wb_parser_states.specs.declared.kept.Kept.{Kept}
 use Rattle.wb_parser_states.specs.declared.rules.Rule.{Rule}
-use Rattle.wb_parser_states.specs.Chains.{IsChain, IsChainEnd, IsMoveEnd, IsRuleAction, link, nothing}
+use Rattle.wb_parser_states.specs.Chains.{IsChain, IsMoveEnd, IsRuleAction, link, nothing}
 use Rattle.wb_parser_states.specs.Kept.{AreKept, end_of, key_of}
-use Rattle.wb_parser_states.specs.Inner.Followed.{IsChainOf, IsKey}
+use Rattle.wb_parser_states.specs.Inner.Followed.{IsChainEnd, IsChainOf, IsKey}
 use Rattle.wb_parser_states.specs.Rules.{IsRule}
 use Rattle.wb_parser_states.specs.Stacks.{IsMoved, last_or}
 use Rattle.wb_parser_states.specs.Inner.Carried.{CarryOver}
-use Rattle.wb_parser_states.proofs.StateLemmas.{last_below, top_pushed, top_set}
+use Rattle.wb_parser_states.proofs.StateLemmas.{top_pushed}
 use Rattle.wb_parser_states.proofs.StepLemmas.{goto_there, reduce_case}
-use Rattle.wb_parser_states.proofs.TableLemmas.{IsActionBelow, action_below, goto_below, zero_below}
+use Rattle.wb_parser_states.proofs.TableLemmas.{IsActionBelow, action_below, goto_below}
 
 -- a chain with one reduction more
 pub chain_more : {g : GrammarView} {tables : TablesView} {below terminal state target : ℕ} {productions : List ℕ} (production next : ℕ)
@@ -68,28 +67,6 @@ module _ (parts : LanguageParts) (ok : IsLanguage parts.language) (of : AreTable
       (moved_top parts.tables xs state next rule.width rule.left one (subst (λ z. goto_of parts.tables z rule.left ≡ Some next) is goes))
       text read prefix at place ahead n gives are)
 
--- the last of some states, and those before it
-pub split_top : (states : List ℕ) → 1 ≤ length states → states ≡ take (length states - 1) states ++ last_or 0 states ∷ []
-split_top [] some = absurd (omega arith)
-split_top (x ∷ xs) some = let e : length (x ∷ xs) - 1 ≡ length xs = omega arith in
-    split x xs ∙ ap (λ k. take k (x ∷ xs) ++ last_or x xs ∷ []) (sym e)
-  where
-    split : (x : ℕ) (xs : List ℕ) → x ∷ xs ≡ take (length xs) (x ∷ xs) ++ last_or x xs ∷ []
-    split x [] = refl
-    split x (y ∷ ys) = ap (λ z. x ∷ z) (split y ys)
-
--- a chain that begins with the states on top leads to those with its end on top
-pub top_carries : (parts : LanguageParts) → IsLanguage parts.language → AreTablesOf parts.language.grammar parts.tables → (t : ℕ) →
-    t ≤ parts.language.grammar.terminals → (states : List ℕ) → 1 ≤ length states → (key : Key) (end : ChainEnd) →
-    IsChainEnd parts.language.grammar parts.tables key end → key.terminal ≡ t → key.from ≡ last_or 0 states →
-    key.below ≡ last_or 0 (take (length states - 1) states) → CarryOver parts t states (take (length states - 1) states ++ end.target ∷ [])
-top_carries parts ok of t le states some key end is terminal_is from_is below_is =
-    let g = parts.language.grammar in
-    let xs = take (length states - 1) states in
-    subst (λ z. CarryOver parts t z (xs ++ end.target ∷ [])) (sym (split_top states some))
-    (chain_carries parts ok of t le (subst (λ z. IsChain g parts.tables key.below z (last_or 0 states) is.productions end.target) terminal_is
-    (subst (λ z. IsChain g parts.tables key.below key.terminal z is.productions end.target) from_is is.is)) xs below_is)
-
 -- a reduction, and the chain that begins with the state after its left side, lead to the states below it with the end of the chain on top
 pub move_carries : (parts : LanguageParts) → IsLanguage parts.language → AreTablesOf parts.language.grammar parts.tables → (t : ℕ) →
     t ≤ parts.language.grammar.terminals → (states : List ℕ) (rule : Rule) →
@@ -109,15 +86,6 @@ move_carries parts ok of t le states rule (production, act, has) key end is term
     text read prefix at place ahead n gives
     (reduce_case parts ok of t le states production act rule has (xs ++ next ∷ [])
     (record { target = next; target_is = λ k e. same_Some next k (sym goes ∙ e); states_are = refl }) text read prefix at place ahead n gives are)
-
--- what is at a place after another was written: what was written, or what was there
-at_written : {X : Type 0} (xs : List X) (p : ℕ) (x : X) (q : ℕ) (y : X) → slice_get (slice_set xs p x) q ≡ Some y →
-    (y ≡ x) ⊎ (slice_get xs q ≡ Some y)
-at_written [] p x q y at = inr at
-at_written (z ∷ xs) zero x zero y at = inl (sym (same_Some x y at))
-at_written (z ∷ xs) zero x (suc q) y at = inr at
-at_written (z ∷ xs) (suc p) x zero y at = inr at
-at_written (z ∷ xs) (suc p) x (suc q) y at = at_written xs p x q y at
 
 -- the action at a state names no production that there isn't
 pub acts_within : (g : GrammarView) (tables : TablesView) (state terminal : ℕ) (action : Action) → AreTablesOf g tables → state < size_of tables →
@@ -177,23 +145,15 @@ move_ends g tables start target end leads is = record {
   ends = is.ends;
 }
 
--- what is at a place after an end was kept: what was there, or this end with its key
-pub kept_set : (list : List Kept) (place : ℕ) (kept : Kept) (key : Key) (end : ChainEnd) → key_of kept ≡ key → end_of kept ≡ end →
-    (k : ℕ) (other : Kept) → slice_get (slice_set list place kept) k ≡ Some other →
-    (slice_get list k ≡ Some other) ⊎ ((key_of other ≡ key) × (end_of other ≡ end))
-kept_set list place kept key end key_is end_is k other at = elim (at_written list place kept k other at) [
-  | inl new ↦ inr (ap key_of new ∙ key_is, ap end_of new ∙ end_is)
-  | inr old ↦ inl old
-]
-
--- so what is kept belongs together after that too
-pub kept_after : (belong : Key → ChainEnd → Type 0) (old new : List Kept) (key : Key) (end : ChainEnd) →
+-- so what is kept are ends of chains after that too
+pub kept_after : (g : GrammarView) (tables : TablesView) (old new : List Kept) (key : Key) (end : ChainEnd) →
     ((place : ℕ) (kept : Kept) → slice_get new place ≡ Some kept →
-    (slice_get old place ≡ Some kept) ⊎ ((key_of kept ≡ key) × (end_of kept ≡ end))) → AreKept belong old → belong key end →
-    AreKept belong new
-kept_after belong old new key end each are is place kept at = elim (each place kept at) [
+    (slice_get old place ≡ Some kept) ⊎ ((key_of kept ≡ key) × (end_of kept ≡ end))) → AreKept g tables old → IsMoveEnd g tables key end →
+    AreKept g tables new
+kept_after g tables old new key end each are is place kept at = elim (each place kept at) [
   | inl before ↦ are place kept before
-  | inr (key_is, end_is) ↦ subst (λ z. belong z (end_of kept)) (sym key_is) (subst (λ z. belong key z) (sym end_is) is)
+  | inr (key_is, end_is) ↦
+      subst (λ z. IsMoveEnd g tables z (end_of kept)) (sym key_is) (subst (λ z. IsMoveEnd g tables key z) (sym end_is) is)
 ]
 
 -- nothing is at a place of an empty list
@@ -209,23 +169,8 @@ all_more list kept before place other at = elim (at_push list kept other place a
   | inr (last, same) ↦ sym same
 ]
 
--- what was made to be kept
-pub kept_made : (belong : Key → ChainEnd → Type 0) (made : Option Kept) (key : Key) (end : ChainEnd) →
-    IfSome made (λ kept. key_of kept ≡ key) → IfSome made (λ kept. end_of kept ≡ end) → belong key end →
-    IfSome made (λ kept. belong (key_of kept) (end_of kept))
-kept_made belong None key end key_is end_is is = tt
-kept_made belong (Some kept) key end key_is end_is is =
-    subst (λ z. belong z (end_of kept)) (sym key_is) (subst (λ z. belong key z) (sym end_is) is)
-
--- places that keep one end
-pub kept_first : (belong : Key → ChainEnd → Type 0) (first : Option Kept) (list : List Kept) →
-    IfSome first (λ kept. belong (key_of kept) (end_of kept)) →
-    ((place : ℕ) (kept : Kept) → slice_get list place ≡ Some kept → first ≡ Some kept) → AreKept belong list
-kept_first belong first list is each place kept at =
-    subst (λ z. IfSome z (λ kept. belong (key_of kept) (end_of kept))) (each place kept at) is
-
 -- what was found at a place
-pub kept_found : (belong : Key → ChainEnd → Type 0) (list : List Kept) (place : ℕ) (kept : Kept) (key : Key) (end : ChainEnd) →
-    AreKept belong list → slice_get list place ≡ Some kept → key_of kept ≡ key → end ≡ end_of kept → belong key end
-kept_found belong list place kept key end are at key_is end_is =
-    subst (λ z. belong key z) (sym end_is) (subst (λ z. belong z (end_of kept)) key_is (are place kept at))
+pub kept_found : (g : GrammarView) (tables : TablesView) (list : List Kept) (place : ℕ) (kept : Kept) (key : Key) (end : ChainEnd) →
+    AreKept g tables list → slice_get list place ≡ Some kept → key_of kept ≡ key → end ≡ end_of kept → IsMoveEnd g tables key end
+kept_found g tables list place kept key end are at key_is end_is =
+    subst (λ z. IsMoveEnd g tables key z) (sym end_is) (subst (λ z. IsMoveEnd g tables z (end_of kept)) key_is (are place kept at))

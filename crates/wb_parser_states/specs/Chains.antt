@@ -33,12 +33,6 @@ pub record IsEnd (g : GrammarView) (tables : TablesView) (terminal : ℕ) (end :
   pub target : end.target < size_of tables
   pub action : IsRuleAction g (action_of tables end.target terminal) end.action
 
--- some chain leads from the state to the end
-pub record IsChainEnd (g : GrammarView) (tables : TablesView) (key : Key) (end : ChainEnd) : Type 0 where
-  pub productions : List ℕ
-  pub is : IsChain g tables key.below key.terminal key.from productions end.target
-  pub ends : IsEnd g tables key.terminal end
-
 -- some chain leads there from the state after the left side, where that leads somewhere
 pub record IsMoveEnd (g : GrammarView) (tables : TablesView) (key : Key) (end : ChainEnd) : Type 0 where
   pub is : (next : ℕ) → goto_of tables key.below key.from ≡ Some next →

@@ -1,5 +1,5 @@
 -- What is kept of chains of reductions, with what reductions are made by.
-use Rattle.std.specs.Prelude.{◌≡◌, ℕ, List, Some, slice_get}
+use Rattle.std.specs.Prelude.{◌≡◌, ◌/◌, ◌%◌, ℕ, zero, suc, List, Some, slice_get}
 use Rattle.wb_base.specs.Grammar.{GrammarView}
 use Rattle.wb_lookahead.specs.Contents.{TablesView}
 use Rattle.wb_parser_states.specs.declared.chains.ChainEnd.{ChainEnd}
@@ -7,33 +7,37 @@ use Rattle.wb_parser_states.specs.declared.chains.Key.{Key}
 use Rattle.wb_parser_states.specs.declared.chains.RuleAction.{RuleAction}
 use Rattle.wb_parser_states.specs.declared.chains.RuleAction.TheVariants as shown
 use Rattle.wb_parser_states.specs.declared.kept.Kept.{Kept}
-use Rattle.wb_parser_states.specs.declared.kept.Kind.{Kind}
-use Rattle.wb_parser_states.specs.declared.kept.Kind.TheVariants as kind
 use Rattle.wb_parser_states.specs.declared.reductions.Reductions.{Reductions}
-use Rattle.wb_parser_states.specs.Chains.{IsChainEnd, IsMoveEnd}
+use Rattle.wb_parser_states.specs.Chains.{IsMoveEnd}
 use Rattle.wb_parser_states.specs.Rules.{AreRules}
 
--- the action of a kind with a number, which is a state or a left side, and with a width
-abbrev pub action_kept : Kind → ℕ → ℕ → RuleAction
-action_kept kind.Shift number width = shown.Shift number
-action_kept kind.Reduce number width = shown.Reduce (record { left = number; width = width })
-action_kept kind.Accept number width = shown.Accept
-action_kept kind.None number width = shown.None
+-- the action of a kind with a number: a state; or a left side below 2^20, with the width above it
+abbrev pub of_kind : ℕ → ℕ → RuleAction
+of_kind zero number = shown.Shift number
+of_kind (suc _) number = shown.Reduce (record { left = number % 1048576; width = number / 1048576 })
+
+-- the action that a code stands for: twice a number, and a kind
+abbrev pub action_in : ℕ → RuleAction
+action_in code = of_kind (code % 2) (code / 2)
+
+-- the key that a number stands for: the state below and the left side, each below 2^20, and the terminal above them
+abbrev pub key_in : ℕ → Key
+key_in number =
+    record { below = number % 1048576; from = number / 1048576 % 1048576; terminal = number / 1048576 / 1048576 }
 
 -- where the chain that is kept begins
 abbrev pub key_of : Kept → Key
-key_of kept = record { below = kept.below; from = kept.from; terminal = kept.terminal }
+key_of kept = key_in kept.key
 
 -- where it ends
 abbrev pub end_of : Kept → ChainEnd
-end_of kept = record { target = kept.target; action = action_kept kept.kind kept.number kept.width }
+end_of kept = record { target = kept.target; action = action_in kept.action }
 
--- for each that is kept the key and the end belong together
-abbrev pub AreKept : (Key → ChainEnd → Type 0) → List Kept → Type 0
-AreKept belong list = (place : ℕ) (kept : Kept) → slice_get list place ≡ Some kept → belong (key_of kept) (end_of kept)
+-- each end that is kept is that of the chain from the state after the left side of its key
+abbrev pub AreKept : GrammarView → TablesView → List Kept → Type 0
+AreKept g tables list = (place : ℕ) (kept : Kept) → slice_get list place ≡ Some kept → IsMoveEnd g tables (key_of kept) (end_of kept)
 
--- the left sides and widths are those of the grammar's productions, and the chains are those of its tables
+-- the left sides and widths are those of the grammar's productions, and the ends of chains are those of its tables
 pub record AreReductions (g : GrammarView) (tables : TablesView) (reductions : Reductions) : Type 0 where
   pub rules : AreRules g reductions.rules.items
-  pub chains : AreKept (IsChainEnd g tables) reductions.chains.items
-  pub moves : AreKept (IsMoveEnd g tables) reductions.moves.items
+  pub ends : AreKept g tables reductions.ends.items

@@ -5,9 +5,9 @@
 ghost use Rattle.std.specs.Prelude.{◌≡◌, ◌<◌, ◌≤◌, ℕ, IfSome, length};
 ghost use Rattle.wb_base.specs.Grammar.{GrammarView};
 ghost use Rattle.wb_lookahead.specs.declared.action.Action.TheVariants.{Reduce};
-ghost use Rattle.wb_lookahead.specs.Contents.{action_of};
-ghost use Rattle.wb_parser_states.specs.Chains.{IsChainEnd, IsMoveEnd, IsRuleAction};
-ghost use Rattle.wb_parser_states.specs.Inner.Followed.{IsChainOf, IsKey, IsMoveKey};
+ghost use Rattle.wb_lookahead.specs.Contents.{action_of, size_of};
+ghost use Rattle.wb_parser_states.specs.Chains.{IsMoveEnd, IsRuleAction};
+ghost use Rattle.wb_parser_states.specs.Inner.Followed.{IsChainEnd, IsChainOf, IsKey, IsMoveKey};
 ghost use Rattle.wb_parser_states.specs.Rules.{AreRules};
 
 use crate::moves::target_of;
@@ -15,7 +15,7 @@ use crate::rules::Rule;
 use wb_lookahead::Action;
 use wb_scan::Language;
 
-// Where a chain begins: the state below, what is on it, and the terminal that is ahead. On it is a state, or the left side of a reduction.
+// Where a chain begins: the state below, what is on it, and the terminal that is ahead. On it is the left side of a reduction, or a state.
 #[derive(Clone, Copy)]
 pub(crate) struct Key {
     pub(crate) below: usize,
@@ -62,7 +62,7 @@ pub(crate) fn move_end(language: &Language, rules: &[Rule], start: Key) -> Chain
 }
 
 // The end of the chain that begins with a state.
-pub(crate) fn chain_end(language: &Language, rules: &[Rule], start: Key) -> ChainEnd
+fn chain_end(language: &Language, rules: &[Rule], start: Key) -> ChainEnd
     requires start { IsKey language.now.language.grammar language.now.tables start }
     requires rules { AreRules language.now.language.grammar rules.now }
     ensures { IsChainEnd language.now.language.grammar language.now.tables start result }
@@ -74,16 +74,24 @@ pub(crate) fn chain_end(language: &Language, rules: &[Rule], start: Key) -> Chai
     }
 }
 
-// The action at the state 0.
-pub(crate) fn start_action(language: &Language, rules: &[Rule], terminal: usize) -> RuleAction
+// The action at a state.
+#[inline]
+pub(crate) fn action_at(
+    language: &Language,
+    rules: &[Rule],
+    state: usize,
+    terminal: usize,
+) -> RuleAction
+    requires state { state < size_of language.now.tables }
     requires terminal { terminal ≤ language.now.language.grammar.terminals }
     requires rules { AreRules language.now.language.grammar rules.now }
-    ensures { IsRuleAction language.now.language.grammar (action_of language.now.tables 0 terminal) result }
+    ensures { IsRuleAction language.now.language.grammar (action_of language.now.tables state terminal) result }
 {
-    with_rule(rules, language.tables().action(0, terminal))
+    with_rule(rules, language.tables().action(state, terminal))
 }
 
 // An action with the left side and the width of its production.
+#[inline]
 fn with_rule(rules: &[Rule], action: Action) -> RuleAction
     requires { (production : ℕ) → action ≡ Reduce production → production < length rules.now }
     ensures { (g : GrammarView) → AreRules g rules.now → IsRuleAction g action result }

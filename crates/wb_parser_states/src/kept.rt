@@ -1,54 +1,73 @@
-//! How is the end of a chain kept? In 28 bytes, since thousands of them are used in turn.
+//! How is the end of a chain kept? In 16 bytes, with its key in one number, since thousands of them are used in turn.
+//!
+//! Ends at which the text is accepted or stops aren't kept: a text comes to one of them at most.
 
-ghost use Rattle.std.specs.Prelude.{◌≡◌, ℕ, IfSome, IsTrue, Some, slice_get};
-ghost use Rattle.wb_parser_states.specs.Kept.{action_kept, end_of, key_of};
+ghost use Rattle.std.specs.Prelude.{◌≡◌, ◌<◌, ◌%◌, ◌/◌, ℕ, IfSome, IsTrue, Some, slice_get};
+ghost use Rattle.wb_parser_states.specs.Kept.{action_in, end_of, key_in, key_of};
 
 use crate::chains::{ChainEnd, Key, RuleAction};
 use crate::rules::Rule;
 use std::alloc::Global;
 use wb_base::push;
 
-// How many places there are for kept ends, of a sort.
-const PLACES: usize = 16_384;
+// How many places there are for kept ends.
+const PLACES: usize = 8_192;
 
-// A kind of action.
-#[derive(Clone, Copy)]
-pub(crate) enum Kind {
-    Shift,
-    Reduce,
-    Accept,
-    None,
-}
+// States and left sides from here on aren't kept.
+const LIMIT: usize = 1_048_576;
 
-// A key with its end. The number is the state after a shift, or the left side of a reduction, whose width is beside it.
+// Nor are terminals from here on.
+const TERMINALS: usize = 16_777_216;
+
+// A key with its end, both as numbers.
 #[derive(Clone, Copy)]
 pub(crate) struct Kept {
-    below: u32,
-    from: u32,
-    terminal: u32,
+    key: u64,
     target: u32,
-    kind: Kind,
-    number: u32,
-    width: u32,
+    action: u32,
 }
 
-// The place for a key: bits in the middle of a sum of products.
+// The place for a key. Keys that differ in their terminal alone are side by side, as those that are used in turn often do.
 #[inline]
 pub(crate) fn place_of(key: Key) -> usize {
     let below = key.below.wrapping_mul(2_654_435_761);
     let from = key.from.wrapping_mul(2_246_822_519);
-    let terminal = key.terminal.wrapping_mul(3_266_489_917);
-    (below.wrapping_add(from).wrapping_add(terminal) >> 18) % PLACES
+    (below.wrapping_add(from) >> 18).wrapping_add(key.terminal) % PLACES
 }
 
-// Whether the key is the one that is kept.
+// A key as a number, where its numbers fit.
+#[inline]
+pub(crate) fn number_of(key: Key) -> Option<u64>
+    ensures { IfSome result (λ number. key_in number ≡ key) }
+{
+    if key.below >= LIMIT || key.from >= LIMIT || key.terminal >= TERMINALS {
+        return None;
+    }
+    let rest = joined(key.from as u64, key.terminal as u64);
+    Some(joined(key.below as u64, rest))
+}
+
+// One number of two, of which the first is below 2^20 and the other below 2^44.
+#[inline]
+fn joined(low: u64, high: u64) -> u64
+    requires low { low < 1048576 }
+    requires high { high < 17592186044416 }
+    ensures low { result % 1048576 ≡ low }
+    ensures high { result / 1048576 ≡ high }
+    ensures within { high < 16777216 → result < 17592186044416 }
+{
+    high * 1_048_576 + low
+}
+
+// Whether this is the key that is kept.
 #[inline]
 pub(crate) fn is_kept(kept: &Kept, key: Key) -> bool
     ensures { IsTrue result → key_of kept.now ≡ key }
 {
-    kept.below as usize == key.below
-        && kept.from as usize == key.from
-        && kept.terminal as usize == key.terminal
+    match number_of(key) {
+        Some(number) => kept.key == number,
+        None => false,
+    }
 }
 
 // The end that is kept.
@@ -58,70 +77,69 @@ pub(crate) fn end_in(kept: &Kept) -> ChainEnd
 {
     ChainEnd {
         target: kept.target as usize,
-        action: action_in(kept),
+        action: action_from(kept.action),
     }
 }
 
-fn action_in(kept: &Kept) -> RuleAction
-    ensures { result ≡ (end_of kept.now).action }
+// The action of a code.
+#[inline]
+fn action_from(code: u32) -> RuleAction
+    ensures { result ≡ action_in code }
 {
-    match kept.kind {
-        Kind::Shift => RuleAction::Shift(kept.number as usize),
-        Kind::Reduce => RuleAction::Reduce(Rule {
-            left: kept.number as usize,
-            width: kept.width as usize,
-        }),
-        Kind::Accept => RuleAction::Accept,
-        Kind::None => RuleAction::None,
+    let number = (code / 2) as usize;
+    if code % 2 == 0 {
+        return RuleAction::Shift(number);
     }
+    RuleAction::Reduce(Rule {
+        left: number % LIMIT,
+        width: number / LIMIT,
+    })
 }
 
-// An end to be kept by its key, where all its numbers fit.
+// An end to be kept by its key, where it has a code and its numbers fit.
 pub(crate) fn kept_of(key: Key, end: ChainEnd) -> Option<Kept>
     ensures key { IfSome result (λ kept. key_of kept ≡ key) }
     ensures end { IfSome result (λ kept. end_of kept ≡ end) }
 {
-    let code = code_of(end.action)?;
     Some(Kept {
-        below: narrow(key.below)?,
-        from: narrow(key.from)?,
-        terminal: narrow(key.terminal)?,
+        key: number_of(key)?,
         target: narrow(end.target)?,
-        kind: code.kind,
-        number: code.number,
-        width: code.width,
+        action: code_of(end.action)?,
     })
 }
 
-// An action as it is kept.
-#[derive(Clone, Copy)]
-struct Code {
-    kind: Kind,
-    number: u32,
-    width: u32,
-}
-
-fn code_of(action: RuleAction) -> Option<Code>
-    ensures { IfSome result (λ code. action_kept code.kind code.number code.width ≡ action) }
+// The code of an action, where it has one.
+fn code_of(action: RuleAction) -> Option<u32>
+    ensures { IfSome result (λ code. action_in code ≡ action) }
 {
     match action {
-        RuleAction::Shift(state) => coded(Kind::Shift, state, 0),
-        RuleAction::Reduce(rule) => coded(Kind::Reduce, rule.left, rule.width),
-        RuleAction::Accept => coded(Kind::Accept, 0, 0),
-        RuleAction::None => coded(Kind::None, 0, 0),
+        RuleAction::Shift(state) => code(state, 0),
+        RuleAction::Reduce(rule) => code(number_of_rule(rule)?, 1),
+        _ => None,
     }
 }
 
-fn coded(kind: Kind, number: usize, width: usize) -> Option<Code>
-    ensures kind { IfSome result (λ code. code.kind ≡ kind) }
-    ensures number { IfSome result (λ code. code.number ≡ number) }
-    ensures width { IfSome result (λ code. code.width ≡ width) }
+// The code of a kind with a number.
+fn code(number: usize, kind: u32) -> Option<u32>
+    requires { kind < 2 }
+    ensures number { IfSome result (λ code. code / 2 ≡ number) }
+    ensures kind { IfSome result (λ code. code % 2 ≡ kind) }
 {
-    Some(Code {
-        kind,
-        number: narrow(number)?,
-        width: narrow(width)?,
-    })
+    if number >= 2_147_483_648 {
+        return None;
+    }
+    Some(number as u32 * 2 + kind)
+}
+
+// A left side and a width as one number.
+fn number_of_rule(rule: Rule) -> Option<usize>
+    ensures left { IfSome result (λ number. number % 1048576 ≡ rule.left) }
+    ensures width { IfSome result (λ number. number / 1048576 ≡ rule.width) }
+{
+    if rule.left >= LIMIT || rule.width >= 2_048 {
+        return None;
+    }
+    Some(rule.width * LIMIT + rule.left)
 }
 
 // A number in 32 bits, where it fits.
@@ -134,17 +152,8 @@ fn narrow(number: usize) -> Option<u32>
     Some(number as u32)
 }
 
-// Places that all keep one end, as far as there is memory, and none where there is none to be kept.
-pub(crate) fn places_of(alloc: Global, first: Option<Kept>) -> Vec<Kept>
-    ensures { (place : ℕ) (kept : Kept) → slice_get result.items place ≡ Some kept → first ≡ Some kept }
-{
-    match first {
-        Some(kept) => filled(alloc, kept),
-        None => Vec::new(alloc),
-    }
-}
-
-fn filled(alloc: Global, kept: Kept) -> Vec<Kept>
+// Places that all keep one end, as far as there is memory.
+pub(crate) fn filled(alloc: Global, kept: Kept) -> Vec<Kept>
     ensures { (place : ℕ) (other : Kept) → slice_get result.items place ≡ Some other → other ≡ kept }
 {
     let mut places = Vec::new(alloc);

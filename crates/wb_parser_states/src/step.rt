@@ -1,4 +1,6 @@
 //! What do the states become on the terminal that is ahead? Reductions are made until it can be shifted, accepted, or nothing is left to do.
+//!
+//! The table is asked first, since a third of all leaves are shifted at once. After each reduction the end of its chain is asked.
 
 ghost use Rattle.std.specs.Prelude.{◌<◌, ◌≤◌, All, IfOk};
 ghost use Rattle.wb_lookahead.specs.Contents.{action_of, size_of};
@@ -11,8 +13,8 @@ ghost use Rattle.wb_parser_states.specs.Steps.{HasOutcome, ShiftsBelow};
 ghost use Rattle.wb_parser_states.specs.Inner.Carried.{CarryOver};
 
 use crate::Outcome;
-use crate::chains::{Key, RuleAction, start_action};
-use crate::reductions::{Reductions, chain_from, move_from};
+use crate::chains::{Key, RuleAction, action_at};
+use crate::reductions::{Reductions, end_from};
 use crate::rules::Rule;
 use crate::stack::top;
 use std::alloc::AllocError;
@@ -38,7 +40,7 @@ pub fn reduce_states(
     ensures reductions { AreReductions language.now.language.grammar language.now.tables reductions.new }
 {
     let _tables = language.tables();
-    let mut action = follow_top(language, reductions, states, terminal);
+    let mut action = action_at(language, &reductions.rules, top(states), terminal);
     'reductions: for _ in 0..usize::MAX {
         match action {
             RuleAction::Shift(target) => return Ok(Outcome::Shifts(target)),
@@ -50,38 +52,6 @@ pub fn reduce_states(
         }
     }
     Err(AllocError)
-}
-
-// Makes the reductions of one symbol each with which it begins, and answers the action after them.
-#[inline]
-fn follow_top(
-    language: &Language,
-    reductions: &mut Reductions,
-    states: &mut Vec<usize>,
-    terminal: usize,
-) -> RuleAction
-    requires language { IsLanguage language.now.language }
-    requires of_grammar { AreTablesOf language.now.language.grammar language.now.tables }
-    requires reductions { AreReductions language.now.language.grammar language.now.tables reductions.old }
-    requires terminal { terminal ≤ language.now.language.grammar.terminals }
-    requires states { All (λ s. s < size_of language.now.tables) states.old.items }
-    ensures action { IsRuleAction language.now.language.grammar (action_of language.now.tables (last_or 0 states.new.items) terminal) result }
-    ensures carries { CarryOver language.now terminal states.old.items states.new.items }
-    ensures states { All (λ s. s < size_of language.now.tables) states.new.items }
-    ensures reductions { AreReductions language.now.language.grammar language.now.tables reductions.new }
-{
-    if states.is_empty() {
-        return start_action(language, &reductions.rules, terminal);
-    }
-    let place = states.len() - 1;
-    let key = Key {
-        below: top(&states[..place]),
-        from: states[place],
-        terminal,
-    };
-    let end = chain_from(language, reductions, key);
-    states[place] = end.target;
-    end.action
 }
 
 // Makes a reduction of that rule, and then those of one symbol each that follow. Answers the action after them.
@@ -111,7 +81,7 @@ fn reduce_top(
         from: rule.left,
         terminal,
     };
-    let end = move_from(language, reductions, key);
+    let end = end_from(language, reductions, key);
     states.push(end.target)?;
     Ok(end.action)
 }

@@ -1,10 +1,8 @@
-use Rattle.std.proofs.Common.{◌≡◌, ◌-◌, length, take, drop, length-drop, subst, sym, ap, ◌∙◌, rules, arith}
-use Rattle.std.proofs.lemmas.List.{length-take-le}
+use Rattle.std.proofs.Common.{◌≡◌, ◌-◌, length, take, subst, sym, ap, ◌∙◌, rules}
 use Rattle.wb_lookahead.specs.Contents.{action_of}
 use Rattle.wb_parser_states.proofs.StateLemmas.{top_pushed, top_set}
-use Rattle.wb_parser.specs.Inner.Chains.{links_of}
 use Rattle.wb_parser.specs.Inner.Steps.{AreReduced}
-use Rattle.wb_parser.proofs.BuiltLemmas.{built_fits, built_longer, kept_built}
+use Rattle.wb_parser.proofs.BuiltLemmas.{kept_built}
 use Rattle.wb_parser.proofs.reduce.reduce_chain.Goals as goal
 
 pub returns-clause-reduced : goal.returns-clause-reduced
@@ -23,16 +21,3 @@ returns-clause-action c =
     let len_is : c.len-place.result ≡ length states = search rules in
     c.requires.chain.action ∙ ap (λ s. action_of c.args.language.now.tables s c.args.chain.start.terminal)
     (top_pushed (take (length states - 1) states) _ c.args.chain.target (top_set states c.len-place.result c.args.chain.target c.requires.states len_is))
-
-pub returns-clause-longer : goal.returns-clause-longer
-returns-clause-longer c =
-    let ps = c.args.productions.now in
-    let chain = c.args.chain in
-    let longer = built_longer (links_of ps chain) c.args.stack.now.values c.args.store.now c.build_chain.new.values c.build_chain.new.store
-    c.in_ok-build_chain.ensures.built in
-    let some : length (links_of ps chain) ≡ chain.end - chain.first =
-    length-take-le (chain.end - chain.first) (drop chain.first ps) (omega (arith, length-drop chain.first ps, c.requires.chain.within)) in (
-      built_fits (links_of ps chain) c.args.stack.now.values c.args.store.now c.build_chain.new.values c.build_chain.new.store
-          c.in_ok-build_chain.ensures.built (omega (arith, some, c.requires.some)),
-      omega (arith, longer, some, c.requires.some),
-    )

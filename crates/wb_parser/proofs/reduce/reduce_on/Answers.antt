@@ -1,46 +1,21 @@
-use Rattle.std.proofs.Common.{◌<◌, ◌≤◌, ◌≡◌, ◌-◌, ◌∙◌, ap, arith, length, rules, subst, sym, take}
-use Rattle.std.specs.Prelude.{slice_index_or}
-use Rattle.std.proofs.lemmas.List.{get_or_default}
-use Rattle.std.proofs.lemmas.List.Elements.{All-take}
-use Rattle.wb_lookahead.specs.Contents.{size_of}
-use Rattle.wb_parser_states.specs.Stacks.{last_or}
-use Rattle.wb_parser_states.proofs.StateLemmas.{last_below, top_is}
-use Rattle.wb_parser_states.proofs.TableLemmas.{zero_below, action_below, IsActionBelow}
+use Rattle.std.proofs.lemmas.Result.{on_ok_weaker}
+use Rattle.wb_parser.specs.Inner.Steps.{AreReduced}
+use Rattle.wb_parser.proofs.BuiltLemmas.{reduced_more}
 use Rattle.wb_parser.proofs.reduce.reduce_on.Goals as goal
 
-pub index-requires : goal.index-requires
-index-requires c =
-    let g = c.args.language.now.language.grammar in
-    let ts = c.args.language.now.tables in
-    let below = subst (IsActionBelow g ts) c.requires.action
-    (action_below c.requires.sound.tables_of (last_or 0 c.args.stack.now.states.items) c.args.terminal
-    (last_below (size_of ts) 0 c.args.stack.now.states.items (zero_below c.requires.sound.tables_of) c.requires.sound.states_below)
-    c.requires.terminal) in
-    let within : c.args.production < length c.args.reductions.now.rules.items =
-    subst (λ k. c.args.production < k) (sym c.requires.reductions.rules.count) below in
-    search (rules, within)
-
-pub chain_from-chain-requires-clause-start : goal.chain_from-chain-requires-clause-start
-chain_from-chain-requires-clause-start c =
-    let n = size_of c.args.language.now.tables in
-    let items = c.args.stack.now.states.items in
-    let len_is : c.len-place.result ≡ length items = search rules in
-    let some : 1 ≤ length items = search rules in
-    let zero = zero_below c.requires.sound.tables_of in
-    record {
-      below = subst (λ z. z < n) (sym (c.top.ensures ∙ ap (λ z. last_or 0 (take (c.len-place.result - 1) z)) c.deref-2.ensures.value))
-          (last_below n 0 (take (c.len-place.result - 1) items) zero
-          (All-take (λ s. s < n) (c.len-place.result - 1) items c.requires.sound.states_below));
-      state = subst (λ z. z < n) (sym (c.index-2.ensures ∙ get_or_default items (c.len-place.result - 1) c.index-2.result.now 0
-          (omega (arith, len_is, some)) ∙ ap (λ k. slice_index_or items (k - 1) 0) len_is ∙ top_is items)) (last_below n 0 items zero
-          c.requires.sound.states_below);
-      terminal = c.requires.terminal;
-    }
-
-pub reduce_chain-requires-clause-state : goal.reduce_chain-requires-clause-state
-reduce_chain-requires-clause-state c =
-    let items = c.args.stack.now.states.items in
-    let len_is : c.len-place.result ≡ length items = search rules in
-    let some : 1 ≤ length items = search rules in
-    ap (λ s. s.state) c.chain_from-chain.ensures.start ∙ (c.index-2.ensures ∙ get_or_default items (c.len-place.result - 1) c.index-2.result.now 0
-    (omega (arith, len_is, some)) ∙ ap (λ k. slice_index_or items (k - 1) 0) len_is ∙ top_is items)
+pub returns-clause-reduced : goal.returns-clause-reduced
+returns-clause-reduced c =
+    let l = c.args.language.now in
+    let t = c.args.terminal in
+    let s0 = c.args.stack.now.states.items in
+    let v0 = c.args.stack.now.values in
+    let t0 = c.args.store.now in
+    let s1 = c.reduce_once.new.stack.states.items in
+    let v1 = c.reduce_once.new.stack.values in
+    let t1 = c.reduce_once.new.store in
+    let s2 = c.follow_chain.new.stack.states.items in
+    let v2 = c.follow_chain.new.stack.values in
+    let t2 = c.follow_chain.new.store in
+    let more : AreReduced l t s1 v1 t1 s2 v2 t2 → AreReduced l t s0 v0 t0 s2 v2 t2 =
+    reduced_more l t s0 s1 s2 v0 v1 v2 t0 t1 t2 c.in_ok-action.ensures.reduced in
+    on_ok_weaker c.follow_chain.result more c.follow_chain.ensures.reduced

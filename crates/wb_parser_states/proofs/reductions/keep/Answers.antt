@@ -1,8 +1,8 @@
-use Rattle.std.proofs.Common.{inl, inr}
-use Rattle.wb_parser_states.proofs.ChainLemmas.{kept_set}
+use Rattle.std.proofs.Common.{◌∙◌, ap, inr}
+use Rattle.wb_parser_states.specs.Kept.{end_of, key_of}
 use Rattle.wb_parser_states.proofs.reductions.keep.Goals as goal
 
-pub returns-in-Some : goal.returns-in-Some
-returns-in-Some c place kept at =
-    kept_set c.args.list.now.items c.place_of-place.result c.in-Some.kept c.args.key c.args.end c.in-Some.ensures.key c.in-Some.ensures.end
-    place kept at
+pub returns-then-is_empty : goal.returns-then-is_empty
+returns-then-is_empty c place kept at =
+    let same = c.filled.ensures place kept at in
+    inr (ap key_of same ∙ c.in-Some.ensures.key, ap end_of same ∙ c.in-Some.ensures.end)

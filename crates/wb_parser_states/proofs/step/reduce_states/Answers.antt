@@ -1,11 +1,33 @@
-use Rattle.std.proofs.Common.{◌<◌, subst}
+use Rattle.std.proofs.Common.{◌<◌, ◌∙◌, ap, subst, sym}
 use Rattle.std.specs.Prelude.{All}
 use Rattle.wb_lookahead.specs.declared.action.Action.TheVariants.{Shift}
 use Rattle.wb_lookahead.specs.Contents.{action_of, size_of}
 use Rattle.wb_parser_states.specs.Chains.{IsRuleAction}
+use Rattle.wb_parser_states.specs.Rules.{AreRules}
 use Rattle.wb_parser_states.specs.Stacks.{last_or}
+use Rattle.wb_parser_states.proofs.StateLemmas.{last_below}
+use Rattle.wb_parser_states.proofs.TableLemmas.{zero_below}
 use Rattle.wb_parser_states.proofs.StepLemmas.{accept_case, act_below, shift_case, stuck_case}
 use Rattle.wb_parser_states.proofs.step.reduce_states.Goals as goal
+
+pub action_at-action-requires-clause-state : goal.action_at-action-requires-clause-state
+action_at-action-requires-clause-state c =
+    let n = size_of c.args.language.now.tables in
+    subst (λ z. z < n) (sym (c.top.ensures ∙ ap (last_or 0) c.deref-2.ensures.value))
+    (last_below n 0 c.args.states.now.items (zero_below c.tables-tables.ensures.of_grammar) c.requires.states)
+
+pub action_at-action-requires-clause-rules : goal.action_at-action-requires-clause-rules
+action_at-action-requires-clause-rules c =
+    subst (AreRules c.args.language.now.language.grammar) (sym c.deref.ensures.value) c.requires.reductions.rules
+
+pub reductions-init : goal.reductions-init
+reductions-init c = record {
+  below = c.requires.states;
+  action = subst (λ z. IsRuleAction c.args.language.now.language.grammar (action_of c.args.language.now.tables z c.args.terminal)
+      c.action_at-action.result) (c.top.ensures ∙ ap (last_or 0) c.deref-2.ensures.value) c.action_at-action.ensures;
+  carries = λ text read prefix at place next n gives are. are;
+  kept = c.requires.reductions;
+}
 
 pub returns-in-Shift-clause-target : goal.returns-in-Shift-clause-target
 returns-in-Shift-clause-target c =
@@ -22,8 +44,7 @@ returns-in-Shift-clause-outcome c text read prefix at place next n gives are =
     shift_case parts c.tables-tables.ensures.language c.tables-tables.ensures.of_grammar c.args.terminal c.requires.terminal states c.in-Shift.target
     (subst (IsRuleAction parts.language.grammar (action_of parts.tables (last_or 0 states) c.args.terminal)) c.in-Shift.is
     c.reductions.invariant.action) text read prefix at
-    (c.reductions.invariant.carries text read prefix at place next n gives
-    (c.follow_top-action.ensures.carries text read prefix at place next n gives are))
+    (c.reductions.invariant.carries text read prefix at place next n gives are)
 
 pub returns-in-Accept-clause-outcome : goal.returns-in-Accept-clause-outcome
 returns-in-Accept-clause-outcome c text read prefix at place next n gives are =
@@ -32,8 +53,7 @@ returns-in-Accept-clause-outcome c text read prefix at place next n gives are =
     accept_case parts c.tables-tables.ensures.language c.tables-tables.ensures.of_grammar c.args.terminal c.requires.terminal states
     (subst (IsRuleAction parts.language.grammar (action_of parts.tables (last_or 0 states) c.args.terminal)) c.in-Accept.is
     c.reductions.invariant.action) text read prefix at
-    (c.reductions.invariant.carries text read prefix at place next n gives
-    (c.follow_top-action.ensures.carries text read prefix at place next n gives are))
+    (c.reductions.invariant.carries text read prefix at place next n gives are)
 
 pub returns-in-None-clause-outcome : goal.returns-in-None-clause-outcome
 returns-in-None-clause-outcome c text read prefix at place next n gives are =
@@ -42,8 +62,7 @@ returns-in-None-clause-outcome c text read prefix at place next n gives are =
     stuck_case parts c.tables-tables.ensures.language c.tables-tables.ensures.of_grammar c.args.terminal c.requires.terminal states
     (subst (IsRuleAction parts.language.grammar (action_of parts.tables (last_or 0 states) c.args.terminal)) c.in-None.is
     c.reductions.invariant.action) text read prefix at
-    (c.reductions.invariant.carries text read prefix at place next n gives
-    (c.follow_top-action.ensures.carries text read prefix at place next n gives are))
+    (c.reductions.invariant.carries text read prefix at place next n gives are)
 
 pub reduce_top-requires-clause-rule : goal.reduce_top-requires-clause-rule
 reduce_top-requires-clause-rule c =
