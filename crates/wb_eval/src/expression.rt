@@ -13,12 +13,15 @@ ghost use Rattle.wb_eval.specs.Inner.Works.{IsReading, HasChildAt, IsChildPushed
 use crate::evaluation::Evaluation;
 use crate::machine::{Key, Machine, tree_at};
 use std::alloc::AllocError;
-use wb_base::push;
 use wb_eval_memo::Step;
 use wb_syntax_resolved::Place;
 use wb_values::{TreeStore, Value};
 
+// How many children and locals have a number of 32 bits.
+const LOW: usize = 4_294_967_296;
+
 // Reads the instance of a key, which is then on the values, or wasn't entered.
+#[inline(always)]
 pub(crate) fn read(
     machine: &Machine,
     values: &mut Vec<Value>,
@@ -35,6 +38,7 @@ pub(crate) fn read(
 }
 
 // Pushes the value of a child.
+#[inline(always)]
 pub(crate) fn visit_child(
     machine: &Machine,
     store: &TreeStore,
@@ -51,14 +55,17 @@ pub(crate) fn visit_child(
 }
 
 // Pushes a value, and waits for nothing.
+#[inline(always)]
 pub(crate) fn visit_value(values: &mut Vec<Value>, value: Value) -> Result<Option<Key>, AllocError>
     ensures { IfOk result (IsPushed values.old.items values.new.items value) }
 {
-    push(values, value)?;
+    values.reserve(1)?;
+    values.push_reserved(value);
     Ok(None)
 }
 
 // Reads a synthesized attribute one step down.
+#[inline(always)]
 pub(crate) fn read_below(
     evaluation: &mut Evaluation,
     store: &TreeStore,
@@ -80,11 +87,12 @@ pub(crate) fn read_below(
 }
 
 // Reads the tree of a local.
+#[inline(never)]
 pub(crate) fn read_local(
     evaluation: &mut Evaluation,
     store: &TreeStore,
     site: usize,
-    local: usize,
+    local: u32,
 ) -> Result<Option<Key>, AllocError>
     requires whole { IsWhole evaluation.old.machine.memo }
     requires there { site ≤ count evaluation.old.machine.memo }
@@ -95,12 +103,24 @@ pub(crate) fn read_local(
     read(&evaluation.machine, &mut evaluation.values, key)
 }
 
-// The step to a child or local.
-pub(crate) fn step_to(place: Place) -> Step
-    ensures { result ≡ way_to place }
+// The step to a child or local. One without a number of 32 bits is want of memory.
+#[inline(always)]
+pub(crate) fn step_to(place: Place) -> Result<Step, AllocError>
+    ensures { IfOk result (λ step. step ≡ way_to place) }
 {
     match place {
-        Place::Child(k) => Step::Child(k),
-        Place::Local(x) => Step::Local(x),
+        Place::Child(k) => Ok(Step::Child(low(k)?)),
+        Place::Local(x) => Ok(Step::Local(low(x)?)),
     }
+}
+
+// A number in 32 bits. One that has more is want of memory.
+#[inline(always)]
+pub(crate) fn low(number: usize) -> Result<u32, AllocError>
+    ensures { IfOk result (λ low. low ≡ number) }
+{
+    if number >= LOW {
+        return Err(AllocError);
+    }
+    Ok(number as u32)
 }

@@ -10,7 +10,6 @@ ghost use Rattle.wb_eval.specs.Inner.Reached.{IsReady, IsGivenTree, IsReached};
 
 use crate::frame::Frame;
 use std::alloc::{AllocError, Global};
-use wb_base::push;
 use wb_eval_memo::{Memo, Step};
 use wb_values::{TreeId, TreeStore, Value};
 
@@ -59,23 +58,28 @@ impl<'a> Machine<'a> {
         requires room { self.old.entered + 1 < 2 ^ 64 }
         ensures { OnOk result (IsFirst self.old self.new key) }
     {
-        push(&mut self.stack, key)?;
+        self.stack.reserve(1)?;
+        self.stack.push_reserved(key);
         self.entered += 1;
         Ok(())
     }
 
     // Enters the instance of a key, for which the one at work waits by a frame or none.
+    #[inline(always)]
     pub(crate) fn push(&mut self, key: Key, frame: Option<Frame<'a>>) -> Result<(), AllocError>
         requires room { self.old.entered + 1 < 2 ^ 64 }
         ensures { OnOk result (HasMore self.old self.new key frame.entry) }
     {
-        push(&mut self.frames, frame)?;
-        push(&mut self.stack, key)?;
+        self.frames.reserve(1)?;
+        self.stack.reserve(1)?;
+        self.frames.push_reserved(frame);
+        self.stack.push_reserved(key);
         self.entered += 1;
         Ok(())
     }
 
     // The value that is known for a key.
+    #[inline(always)]
     pub(crate) fn known(&self, key: Key) -> Result<Option<Value>, AllocError>
         requires whole { IsWhole self.now.memo }
         requires key { IsKey self.now.memo key }
@@ -92,6 +96,7 @@ impl<'a> Machine<'a> {
     }
 
     // The site one step down from another, whose tree is known.
+    #[inline(always)]
     pub(crate) fn below(
         &mut self,
         store: &TreeStore,
@@ -115,6 +120,7 @@ impl<'a> Machine<'a> {
     }
 
     // Adds the site one step down from another, which isn't there.
+    #[inline(always)]
     fn add_below(&mut self, store: &TreeStore, site: usize, step: Step) -> Result<usize, AllocError>
         requires whole { IsWhole self.old.memo }
         requires there { site ≤ count self.old.memo }
@@ -130,6 +136,7 @@ impl<'a> Machine<'a> {
     }
 
     // The tree of the site one step down, where that is a child.
+    #[inline(always)]
     fn tree_below(&self, store: &TreeStore, site: usize, step: Step) -> Option<TreeId>
         requires { IsReady store.now self.now.memo site step }
         ensures { IsGivenTree store.now self.now.memo site step result }
@@ -137,7 +144,7 @@ impl<'a> Machine<'a> {
         match step {
             Step::Child(k) => {
                 let tree = tree_at(&self.memo, site);
-                store.child_tree(tree, k)
+                store.child_tree(tree, k as usize)
             }
             Step::Local(_) => None,
             Step::Forward => None,
@@ -146,6 +153,7 @@ impl<'a> Machine<'a> {
 }
 
 // The tree of a site, which is known.
+#[inline(always)]
 pub(crate) fn tree_at(memo: &Memo, site: usize) -> TreeId
     requires { IsTreeKnown memo.now site }
     ensures { HasTree memo.now site result }

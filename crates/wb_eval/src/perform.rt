@@ -19,12 +19,12 @@ use crate::frame::Frame;
 use crate::ran::{Ran, Stop};
 use crate::visit::visit;
 use std::alloc::AllocError;
-use wb_base::push;
 use wb_eval_rules::{After, Op, Task};
 use wb_operations::{Meaning, OperationRefusal, OperationTable};
 use wb_values::{TreeStore, Value};
 
 // Evaluates code from a place on.
+#[inline(always)]
 pub(crate) fn evaluate_code<'a, M: Meaning>(
     context: &Context<'a, '_, M>,
     expression: &Expression<'a>,
@@ -53,6 +53,7 @@ pub(crate) fn evaluate_code<'a, M: Meaning>(
 }
 
 // What the work comes to that stops at a place.
+#[inline(always)]
 fn stopped<'a>(expression: &Expression<'a>, at: usize, stop: Stop) -> Ran<'a>
     ensures { IsStopped expression.now at stop result }
 {
@@ -70,6 +71,7 @@ fn stopped<'a>(expression: &Expression<'a>, at: usize, stop: Stop) -> Ran<'a>
 }
 
 // The place where code goes on, with the value of the instruction at a place.
+#[inline(always)]
 pub(crate) fn follow(values: &mut Vec<Value>, after: After, at: usize) -> usize
     requires room { at + 1 < 2 ^ 64 }
     requires truth { HasTruthFor after values.old.items }
@@ -92,6 +94,7 @@ pub(crate) fn follow(values: &mut Vec<Value>, after: After, at: usize) -> usize
 }
 
 // The truth value at a place.
+#[inline(always)]
 fn truth_at(values: &[Value], at: usize) -> bool
     requires { HasTruth values.now at }
     ensures { slice_get values.now at ≡ Some (Bool result) }
@@ -103,6 +106,7 @@ fn truth_at(values: &[Value], at: usize) -> bool
 }
 
 // Does an instruction: why code stops there, where it does.
+#[inline(always)]
 fn perform<M: Meaning>(
     operations: &OperationTable<M>,
     evaluation: &mut Evaluation,
@@ -131,6 +135,7 @@ fn perform<M: Meaning>(
 }
 
 // Visits an expression without parts.
+#[inline(always)]
 fn visit_or_wait(
     evaluation: &mut Evaluation,
     store: &TreeStore,
@@ -149,6 +154,7 @@ fn visit_or_wait(
 }
 
 // Builds a tree of the last values.
+#[inline(never)]
 fn build_tree(
     store: &mut TreeStore,
     values: &mut Vec<Value>,
@@ -161,11 +167,13 @@ fn build_tree(
     ensures store { IsExtended store.old store.new }
 {
     let tree = store.build_from(production, values, count)?;
-    push(values, Value::Tree(tree))?;
+    values.reserve(1)?;
+    values.push_reserved(Value::Tree(tree));
     Ok(())
 }
 
 // Calls an operation on the last values: its fault, where it fails.
+#[inline(always)]
 fn call<M: Meaning>(
     operations: &OperationTable<M>,
     values: &mut Vec<Value>,
@@ -180,12 +188,13 @@ fn call<M: Meaning>(
         (λ run vs r. ⟦<Box<dyn Fn(&[Value]) -> Result<Value, OperationRefusal>> as Fn(&[Value]) -> Result<Value, OperationRefusal>>⟧.post run vs r) }
     ensures { IfOk result (IsCalled (M.meaning operation (plains_of (last count values.old.items))) values.old.items values.new.items operation count) }
 {
+    values.reserve(1)?;
     let start = values.len() - count;
     let answer = operations.call(operation, &values.as_slice()[start..]);
     match answer {
         Ok(value) => {
             values.truncate(start);
-            push(values, value)?;
+            values.push_reserved(value);
             Ok(None)
         }
         Err(OperationRefusal::Fault(code)) => Ok(Some(Stop::Fault { operation, code })),

@@ -27,6 +27,7 @@ use wb_operations::{Meaning, OperationRefusal};
 use wb_values::{TreeStore, Value};
 
 // Works on the last instance, on from its frame or from the start.
+#[inline(always)]
 pub(crate) fn run<'a, M: Meaning>(
     context: &Context<'a, '_, M>,
     evaluation: &mut Evaluation<'a>,
@@ -56,6 +57,7 @@ pub(crate) fn run<'a, M: Meaning>(
 }
 
 // Works on the last instance from the start.
+#[inline(always)]
 fn begin<'a, M: Meaning>(
     context: &Context<'a, '_, M>,
     evaluation: &mut Evaluation<'a>,
@@ -86,6 +88,7 @@ fn begin<'a, M: Meaning>(
 }
 
 // Works on a synthesized attribute that is that of the forwarded tree.
+#[inline(never)]
 fn run_forward<'a>(
     machine: &mut Machine<'a>,
     store: &TreeStore,
@@ -110,6 +113,7 @@ fn run_forward<'a>(
 }
 
 // Reads one instance, whose value is the value.
+#[inline(always)]
 fn read_alone<'a>(machine: &Machine<'a>, key: Key) -> Result<Ran<'a>, AllocError>
     requires whole { IsWhole machine.now.memo }
     requires key { IsKey machine.now.memo key }

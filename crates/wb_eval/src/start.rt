@@ -34,6 +34,7 @@ pub(crate) enum Start<'a> {
 }
 
 // From what the instance of a key is evaluated.
+#[inline(always)]
 pub(crate) fn start_of<'a>(
     definitions: &Definitions<'a>,
     machine: &Machine,
@@ -57,6 +58,7 @@ pub(crate) fn start_of<'a>(
 }
 
 // From what the tree of a local or forward is evaluated.
+#[inline(never)]
 fn start_of_tree<'a>(
     definitions: &Definitions<'a>,
     machine: &Machine,
@@ -69,12 +71,10 @@ fn start_of_tree<'a>(
     ensures { (operations : Operations) (under : List Value) → IsAtWork definitions.now.attributes.now operations store.now under machine.now (Tree site) → AreCoded operations.signatures definitions.now.attributes.now.productions definitions.now.rules.now.codes.items → IsStart definitions.now.attributes.now operations store.now under machine.now result }
 {
     let origin = machine.memo.sites.origins[site - 1];
-    let rules = rules_at(definitions, machine, store, origin.parent);
+    let parent = origin.parent as usize;
+    let rules = rules_at(definitions, machine, store, parent);
     match tree_code(&rules, origin.step) {
-        Some(code) => Start::Expression {
-            site: origin.parent,
-            code,
-        },
+        Some(code) => Start::Expression { site: parent, code },
         None => unreachable!(),
     }
 }
@@ -87,13 +87,14 @@ fn tree_code<'a>(rules: &Rules<'a>, step: Step) -> Option<&'a [Op]>
     ensures none { IfNone result (made_by step (λ k. ¬ HasRule rules.now.production.now (tree_of k))) }
 {
     match step {
-        Step::Local(x) => local_code(rules, x),
+        Step::Local(x) => local_code(rules, x as usize),
         Step::Forward => forward_code(rules),
         Step::Child(_) => None,
     }
 }
 
 // From what an inherited attribute is evaluated.
+#[inline(always)]
 fn start_of_inherited<'a>(
     definitions: &Definitions<'a>,
     machine: &Machine,
@@ -107,20 +108,19 @@ fn start_of_inherited<'a>(
     ensures { (operations : Operations) (under : List Value) → IsAtWork definitions.now.attributes.now operations store.now under machine.now (Inherited site attribute) → AreCoded operations.signatures definitions.now.attributes.now.productions definitions.now.rules.now.codes.items → IsStart definitions.now.attributes.now operations store.now under machine.now result }
 {
     let origin = machine.memo.sites.origins[site - 1];
-    let rules = rules_at(definitions, machine, store, origin.parent);
+    let parent = origin.parent as usize;
+    let rules = rules_at(definitions, machine, store, parent);
     match equation_for(&rules, target_below(origin.step, attribute)) {
-        Some(code) => Start::Expression {
-            site: origin.parent,
-            code,
-        },
+        Some(code) => Start::Expression { site: parent, code },
         None => Start::Read(Key::Inherited {
-            site: origin.parent,
+            site: parent,
             attribute,
         }),
     }
 }
 
 // From what a synthesized attribute is evaluated.
+#[inline(always)]
 fn start_of_synthesized<'a>(
     definitions: &Definitions<'a>,
     machine: &Machine,
@@ -144,6 +144,7 @@ fn start_of_synthesized<'a>(
 }
 
 // The rules of the production at a site whose tree is known.
+#[inline(always)]
 fn rules_at<'a>(
     definitions: &Definitions<'a>,
     machine: &Machine,
@@ -168,16 +169,17 @@ fn rules_at<'a>(
 }
 
 // What an equation is for, one step down.
+#[inline(always)]
 fn target_below(step: Step, attribute: usize) -> Target
     ensures { target_vertex result ≡ inherited (step_of step) attribute }
 {
     match step {
         Step::Child(k) => Target::Place {
-            place: Place::Child(k),
+            place: Place::Child(k as usize),
             attribute,
         },
         Step::Local(x) => Target::Place {
-            place: Place::Local(x),
+            place: Place::Local(x as usize),
             attribute,
         },
         Step::Forward => Target::Forward(attribute),

@@ -17,7 +17,6 @@ use crate::frame::Frame;
 use crate::machine::Key;
 use crate::ran::Ran;
 use std::alloc::AllocError;
-use wb_base::push;
 use wb_eval_memo::Memo;
 use wb_values::Value;
 
@@ -29,6 +28,7 @@ pub(crate) enum Turn<'a> {
 }
 
 // Leaves the instance at work with what its work came to, or enters the one that it needs.
+#[inline(always)]
 pub(crate) fn proceed<'a>(
     evaluation: &mut Evaluation<'a>,
     ran: Ran<'a>,
@@ -52,6 +52,7 @@ pub(crate) fn proceed<'a>(
 }
 
 // Leaves the instance at work, whose value this is.
+#[inline(always)]
 fn leave<'a>(evaluation: &mut Evaluation<'a>, answer: Value) -> Result<Turn<'a>, AllocError>
     requires { IsLeaving evaluation.old.machine answer }
     ensures { IfOk result (IsLeftWith evaluation.old.machine evaluation.new.machine evaluation.old.values.items evaluation.new.values.items answer) }
@@ -70,6 +71,7 @@ fn leave<'a>(evaluation: &mut Evaluation<'a>, answer: Value) -> Result<Turn<'a>,
 }
 
 // Pushes the value for which a frame waited.
+#[inline(always)]
 fn push_answer(
     values: &mut Vec<Value>,
     frame: &Option<Frame>,
@@ -79,14 +81,17 @@ fn push_answer(
 {
     match frame {
         Some(_) => {
+            values.reserve(1)?;
             let value = answer.copy()?;
-            push(values, value)
+            values.push_reserved(value);
+            Ok(())
         }
         None => Ok(()),
     }
 }
 
 // Keeps the value of the instance of a key.
+#[inline(always)]
 fn keep(memo: &mut Memo, key: Key, answer: Value) -> Result<(), AllocError>
     requires whole { IsWhole memo.old }
     requires there { IsKey memo.old key }

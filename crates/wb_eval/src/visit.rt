@@ -11,7 +11,7 @@ ghost use Rattle.wb_syntax_resolved.specs.declared.attribution.AttributionParts.
 ghost use Rattle.wb_values.specs.declared.value.Value.TheVariants.{Text};
 
 use crate::evaluation::Evaluation;
-use crate::expression::{read, read_below, read_local, step_to, visit_child, visit_value};
+use crate::expression::{low, read, read_below, read_local, step_to, visit_child, visit_value};
 use crate::machine::Key;
 use std::alloc::AllocError;
 use wb_base::Bytes;
@@ -21,6 +21,7 @@ use wb_syntax_resolved::Place;
 use wb_values::{TreeStore, Value};
 
 // Does an instruction of an expression without parts: the instance that it reads, where that wasn't entered.
+#[inline(always)]
 pub(crate) fn visit(
     evaluation: &mut Evaluation,
     store: &TreeStore,
@@ -37,7 +38,8 @@ pub(crate) fn visit(
         Task::Bool(truth) => visit_value(&mut evaluation.values, Value::Bool(*truth)),
         Task::Label(place) | Task::Lexeme(place) => visit_label(evaluation, store, site, *place),
         Task::Read { label, attribute } => {
-            read_below(evaluation, store, site, step_to(*label), *attribute)
+            let step = step_to(*label)?;
+            read_below(evaluation, store, site, step, *attribute)
         }
         Task::Top(attribute) => {
             let key = Key::Inherited {
@@ -54,6 +56,7 @@ pub(crate) fn visit(
 }
 
 // Pushes a text.
+#[inline(never)]
 fn visit_text(values: &mut Vec<Value>, text: &Bytes) -> Result<Option<Key>, AllocError>
     ensures { IfOk result (IsPushed values.old.items values.new.items (Text text.now)) }
 {
@@ -62,6 +65,7 @@ fn visit_text(values: &mut Vec<Value>, text: &Bytes) -> Result<Option<Key>, Allo
 }
 
 // Pushes the value of a child, or reads the tree of a local.
+#[inline(always)]
 fn visit_label(
     evaluation: &mut Evaluation,
     store: &TreeStore,
@@ -75,6 +79,9 @@ fn visit_label(
 {
     match place {
         Place::Child(k) => visit_child(&evaluation.machine, store, &mut evaluation.values, site, k),
-        Place::Local(x) => read_local(evaluation, store, site, x),
+        Place::Local(x) => {
+            let local = low(x)?;
+            read_local(evaluation, store, site, local)
+        }
     }
 }

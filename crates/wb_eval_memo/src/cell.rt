@@ -30,6 +30,7 @@ pub enum Cell {
 const _: () = prove!(size_of::<Cell>() == 8);
 
 // The cell of a value, if it fits into one.
+#[inline(always)]
 pub(crate) fn cell_of(value: &Value) -> Option<Cell>
     ensures { IfSome result (Holds value.now) }
 {
@@ -42,6 +43,7 @@ pub(crate) fn cell_of(value: &Value) -> Option<Cell>
 }
 
 // The cell of a number, if it is small.
+#[inline(always)]
 fn cell_of_int(number: i64) -> Option<Cell>
     ensures { IfSome result (Holds (Int number)) }
 {
@@ -52,6 +54,7 @@ fn cell_of_int(number: i64) -> Option<Cell>
 }
 
 // The cell of a tree, if its number is small.
+#[inline(always)]
 fn cell_of_tree(tree: TreeId) -> Option<Cell>
     ensures { IfSome result (Holds (Stored tree)) }
 {
@@ -62,6 +65,7 @@ fn cell_of_tree(tree: TreeId) -> Option<Cell>
 }
 
 // Adds a value to those beside cells: its cell.
+#[inline(never)]
 pub(crate) fn cell_of_large(large: &mut Vec<Value>, value: Value) -> Result<Cell, AllocError>
     ensures { IfOk result (IsPlaced large.old.items large.new.items value) }
 {

@@ -46,6 +46,7 @@ impl Memo {
     }
 
     /// The value of an attribute, where it is known. The only error is that a text has too many copies to be counted.
+    #[inline(always)]
     pub fn attribute(&self, site: usize, attribute: usize) -> Result<Option<Value>, AllocError>
         requires { IsWhole self.now }
         ensures { IfOk result (λ found. found ≡ recall self.now site attribute) }
@@ -58,6 +59,7 @@ impl Memo {
     }
 
     /// Keeps the value of an attribute.
+    #[inline(always)]
     pub fn set_attribute(
         &mut self,
         site: usize,
@@ -76,6 +78,7 @@ impl Memo {
     }
 
     /// The site one step down from another, or 0 where it isn't there.
+    #[inline(always)]
     pub fn find(&self, parent: usize, step: Step) -> usize
         requires { IsWhole self.now }
         ensures none { result ≡ 0 → link self.now.sites parent step ≡ 0 }
@@ -85,6 +88,7 @@ impl Memo {
     }
 
     /// Adds the site one step down from another, which isn't there, with its tree where that is known.
+    #[inline(always)]
     pub fn add(
         &mut self,
         parent: usize,

@@ -9,25 +9,30 @@ ghost use Rattle.wb_eval_memo.specs.Inner.Steps.{IsOther};
 use std::alloc::{AllocError, Global};
 use wb_eval_rows::{Rows, SparseRows};
 
+// How many sites have a number of 32 bits.
+const LOW: usize = 4_294_967_296;
+
 /// A step down from a node.
 #[derive(Clone, Copy)]
 pub enum Step {
     /// To a child.
-    Child(usize),
+    Child(u32),
     /// To the tree of a local.
-    Local(usize),
+    Local(u32),
     /// To the forwarded tree.
     Forward,
 }
 
-/// How a site is reached from another.
+/// How a site is reached from another, in 12 bytes.
 #[derive(Clone, Copy)]
 pub struct Origin {
     /// The site above.
-    pub parent: usize,
+    pub parent: u32,
     /// The step down from it.
     pub step: Step,
 }
+
+const _: () = prove!(size_of::<Origin>() == 12);
 
 /// The sites, by number.
 pub struct Sites {
@@ -56,17 +61,19 @@ impl Sites {
     }
 
     /// The site one step down from another, or 0.
+    #[inline(always)]
     pub fn find(&self, parent: usize, step: Step) -> usize
         ensures { result ≡ link self.now parent step }
     {
         match step {
-            Step::Child(k) => self.children.get(parent, k),
-            Step::Local(x) => self.locals.get(parent, x),
+            Step::Child(k) => self.children.get(parent, k as usize),
+            Step::Local(x) => self.locals.get(parent, x as usize),
             Step::Forward => self.forwards.get(parent, 0),
         }
     }
 
     /// Adds the site one step down from another, which isn't there.
+    #[inline(always)]
     pub fn add(&mut self, parent: usize, step: Step) -> Result<usize, AllocError>
         requires whole { IsSites self.old }
         requires there { parent ≤ length self.old.origins.items }
@@ -75,14 +82,21 @@ impl Sites {
         ensures origins { OnOk result (self.new.origins.items ≡ self.old.origins.items ++ record { parent = parent; step = step } ∷ []) }
         ensures whole { OnOk result (IsSites self.new) }
     {
+        if parent >= LOW {
+            return Err(AllocError);
+        }
         let site = self.origins.len() + 1;
         self.origins.reserve(1)?;
         self.set_link(parent, step, site)?;
-        self.origins.push_reserved(Origin { parent, step });
+        self.origins.push_reserved(Origin {
+            parent: parent as u32,
+            step,
+        });
         Ok(site)
     }
 
     // Writes which site is one step down from another.
+    #[inline(always)]
     fn set_link(&mut self, parent: usize, step: Step, site: usize) -> Result<(), AllocError>
         requires found { AreFound self.old }
         ensures found { OnOk result (AreFound self.new) }
@@ -91,8 +105,8 @@ impl Sites {
         ensures kept { OnOk result ((i : ℕ) (other : Step) → IsOther parent step i other → link self.new i other ≡ link self.old i other) }
     {
         match step {
-            Step::Child(k) => self.children.put(parent, k, site)?,
-            Step::Local(x) => self.locals.put(parent, x, site)?,
+            Step::Child(k) => self.children.put(parent, k as usize, site)?,
+            Step::Local(x) => self.locals.put(parent, x as usize, site)?,
             Step::Forward => self.forwards.put(parent, 0, site)?,
         }
         Ok(())

@@ -40,6 +40,7 @@ impl Slots {
     }
 
     /// Adds a site after the others, of which no value is known.
+    #[inline(always)]
     pub fn add_site(&mut self) -> Result<(), AllocError>
         ensures slots { OnOk result ((sites : ℕ) → AreSlots sites self.old → AreSlots (suc sites) self.new) }
         ensures same { OnOk result ((site attribute : ℕ) → slot_value self.new site attribute ≡ slot_value self.old site attribute) }
@@ -49,6 +50,7 @@ impl Slots {
     }
 
     /// The value of an attribute at a site, where it is known. The only error is that a text has too many copies to be counted.
+    #[inline(always)]
     pub fn get(&self, site: usize, attribute: usize) -> Result<Option<Value>, AllocError>
         requires { HasSite self.now site }
         ensures { IfOk result (λ found. found ≡ slot_value self.now site attribute) }
@@ -62,6 +64,7 @@ impl Slots {
     }
 
     /// Keeps the value of an attribute at a site.
+    #[inline(always)]
     pub fn set(&mut self, site: usize, attribute: usize, value: Value) -> Result<(), AllocError>
         requires { HasSite self.old site }
         ensures slots { OnOk result ((sites : ℕ) → site < sites → AreSlots sites self.old → AreSlots sites self.new) }
@@ -82,6 +85,7 @@ impl Slots {
     }
 
     // The place of an attribute's cell.
+    #[inline(always)]
     fn place(&self, site: usize, attribute: usize) -> usize
         requires site { HasSite self.now site }
         requires near { attribute < self.now.width }
@@ -92,6 +96,7 @@ impl Slots {
     }
 
     // The value of the cell at a place.
+    #[inline(always)]
     fn near_value(&self, place: usize) -> Result<Option<Value>, AllocError>
         requires within { place < length self.now.near.items }
         requires slots { (sites : ℕ) × AreSlots sites self.now }
@@ -107,6 +112,7 @@ impl Slots {
     }
 
     // The value of an attribute without a cell.
+    #[inline(never)]
     fn far_value(&self, site: usize, attribute: usize) -> Result<Option<Value>, AllocError>
         requires slots { (sites : ℕ) × AreSlots sites self.now }
         ensures { IfOk result (λ found. found ≡ numbered self.now.large.items (number_at self.now.far site attribute)) }
@@ -134,6 +140,7 @@ impl Drop for Slots {
 }
 
 // The cell of a value. One that doesn't fit lies among the large ones then.
+#[inline(always)]
 fn cell_for(large: &mut Vec<Value>, value: Value) -> Result<Cell, AllocError>
     ensures { IfOk result (IsCellMade large.old.items large.new.items value) }
 {
@@ -144,12 +151,12 @@ fn cell_for(large: &mut Vec<Value>, value: Value) -> Result<Cell, AllocError>
 }
 
 // Adds cells of values that aren't known, so many.
+#[inline(always)]
 fn add_unknown(cells: &mut Vec<Cell>, count: usize) -> Result<(), AllocError>
     ensures { OnOk result (cells.new.items ≡ cells.old.items ++ replicate count Unknown) }
 {
-    'cells: for _ in 0..count {
-        cells.reserve(1)?;
-        cells.push_reserved(Cell::Unknown);
+    match cells.len().checked_add(count) {
+        Some(len) => cells.resize(len, Cell::Unknown),
+        None => Err(AllocError),
     }
-    Ok(())
 }

@@ -52,6 +52,7 @@ impl Rows {
     }
 
     // Adds an empty row after the others.
+    #[inline]
     fn add_row(&mut self) -> Result<(), AllocError>
         ensures { OnOk result (self.new ≡ self.old ++ [] ∷ []) }
     {
@@ -61,6 +62,7 @@ impl Rows {
     }
 
     /// The number at a place, or 0.
+    #[inline(always)]
     pub fn get(&self, row: usize, column: usize) -> usize
         ensures { result ≡ at self.now row column }
     {
@@ -77,6 +79,7 @@ impl Rows {
     }
 
     /// Writes the number at a place, after as many rows as that takes.
+    #[inline]
     pub fn put(&mut self, row: usize, column: usize, number: usize) -> Result<(), AllocError>
         ensures len { OnOk result ((length self.new ≡ length self.old) ⊎ (length self.new ≤ suc row)) }
         ensures set { OnOk result (at self.new row column ≡ number) }
@@ -92,6 +95,7 @@ impl Rows {
     }
 
     // Adds empty rows until this one is there.
+    #[inline]
     fn add_rows(&mut self, row: usize) -> Result<(), AllocError>
         ensures there { OnOk result (row < length self.new) }
         ensures same { OnOk result (HasSameNumbers self.old self.new row) }
@@ -103,6 +107,7 @@ impl Rows {
     }
 
     // Writes the number at a place of a row that is there.
+    #[inline(always)]
     fn set(&mut self, row: usize, column: usize, number: u32) -> Result<(), AllocError>
         requires { row < length self.old }
         ensures len { OnOk result (length self.new ≡ length self.old) }
@@ -116,6 +121,7 @@ impl Rows {
     }
 
     // Makes a row longer than a column.
+    #[inline(always)]
     fn make_room(&mut self, row: usize, column: usize) -> Result<(), AllocError>
         requires { row < length self.old }
         ensures { OnOk result (IsLonger self.old self.new row column) }
@@ -149,6 +155,7 @@ impl Rows {
     }
 
     // Writes a number in a row that is longer than its column.
+    #[inline(always)]
     fn write(&mut self, row: usize, column: usize, number: u32)
         requires there { row < length self.old }
         requires within { column < length (row_at self.old row) }
@@ -191,7 +198,9 @@ fn add_copy(numbers: &mut Vec<u32>, place: Row, width: usize) -> Result<(), Allo
 {
     let first = place.first as usize;
     let before = place.width as usize;
-    numbers.extend_from_within(first..first + before)?;
+    if before > 0 {
+        numbers.extend_from_within(first..first + before)?;
+    }
     match numbers.len().checked_add(width - before) {
         Some(len) => numbers.resize(len, 0),
         None => Err(AllocError),

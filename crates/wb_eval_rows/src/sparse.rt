@@ -39,6 +39,7 @@ impl SparseRows {
     }
 
     /// The number at a place, or 0.
+    #[inline(always)]
     pub fn get(&self, row: usize, column: usize) -> usize
         ensures { result ≡ number_at self.now row column }
     {
@@ -51,6 +52,7 @@ impl SparseRows {
     }
 
     /// Writes the number at a place.
+    #[inline(always)]
     pub fn put(&mut self, row: usize, column: usize, number: usize) -> Result<(), AllocError>
         requires { IsForest self.old }
         ensures forest { OnOk result (IsForest self.new) }
@@ -68,6 +70,7 @@ impl SparseRows {
     }
 
     // The node of a row for sixteen columns, or 0.
+    #[inline(never)]
     fn node(&self, row: usize, block: usize) -> usize
         requires { 0 < block }
         ensures { result ≡ node_of self.now row block }
@@ -81,6 +84,7 @@ impl SparseRows {
     }
 
     // The node of a row for sixteen columns, which is made where it isn't there.
+    #[inline(never)]
     fn reach(&mut self, row: usize, block: usize) -> Result<usize, AllocError>
         requires forest { IsForest self.old }
         requires some { 0 < block }

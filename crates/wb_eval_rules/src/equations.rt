@@ -40,6 +40,7 @@ pub struct Rules<'a> {
 }
 
 /// The code of the equation for a target. Takes constant time.
+#[inline(always)]
 pub fn equation_for<'a>(rules: &Rules<'a>, target: Target) -> Option<&'a [Op]>
     requires index { IsIndexOf rules.now.production.now.equations (length rules.now.production.now.equations) rules.now.equations.now }
     requires coded { (signatures : List OperationSignature) × IsCoded signatures rules.now.production.now rules.now.codes.now }
@@ -56,6 +57,7 @@ pub fn equation_for<'a>(rules: &Rules<'a>, target: Target) -> Option<&'a [Op]>
 }
 
 /// The code of the tree of a local.
+#[inline]
 pub fn local_code<'a>(rules: &Rules<'a>, x: usize) -> Option<&'a [Op]>
     requires { (signatures : List OperationSignature) × IsCoded signatures rules.now.production.now rules.now.codes.now }
     ensures some { (signatures : List OperationSignature) → IsCoded signatures rules.now.production.now rules.now.codes.now
@@ -70,6 +72,7 @@ pub fn local_code<'a>(rules: &Rules<'a>, x: usize) -> Option<&'a [Op]>
 }
 
 /// The code of the forwarded tree.
+#[inline]
 pub fn forward_code<'a>(rules: &Rules<'a>) -> Option<&'a [Op]>
     ensures some { (signatures : List OperationSignature) → IsCoded signatures rules.now.production.now rules.now.codes.now
         → IfSome result (λ code. HasCode signatures rules.now.production.now (tree_of forward) code.now) }
@@ -109,6 +112,7 @@ impl Equations {
     }
 
     // The number of the equation for a target, or 0.
+    #[inline(always)]
     fn get(&self, target: Target) -> usize
         ensures { result ≡ number_for self.now target }
     {

@@ -30,7 +30,7 @@ read_below-requires-clause-there c = c.requires.evaluating.3.there
 pub read_below-requires-clause-ready : goal.read_below-requires-clause-ready
 read_below-requires-clause-ready c =
     let vs = c.args.evaluation.now.values.items in
-    subst (IsReady c.args.store.now c.args.evaluation.now.machine.memo c.args.site) (sym c.step_to.ensures)
+    subst (IsReady c.args.store.now c.args.evaluation.now.machine.memo c.args.site) (sym c.in_ok-step-in-Read.ensures)
     (read_ready _ _ _ _ _ _ _ vs vs c.in-Read.label c.in-Read.attribute
     (in_form _ _ _ _ _ _ _ vs c.args.op.now.task (task.Read c.in-Read.label c.in-Read.attribute) c.in-Read.is c.requires.evaluating.3))
 
@@ -87,8 +87,8 @@ returns-in-Label c = λ a operations rest ev.
     (λ r it. place_visited _ _ _ _ _ _ _ vs c.args.op.now.task c.in-Label.place c.in-Label.is ev new.values.items new.machine r it)
     c.visit_label.ensures
 
-pub returns-in-Read : goal.returns-in-Read
-returns-in-Read c = λ a operations rest ev.
+pub returns-in_ok-step-in-Read : goal.returns-in_ok-step-in-Read
+returns-in_ok-step-in-Read c = λ a operations rest ev.
     let vs = c.args.evaluation.now.values.items in
     let t = c.args.op.now.task in
     let new = c.read_below.new.evaluation in
@@ -98,7 +98,7 @@ returns-in-Read c = λ a operations rest ev.
     (below_visited _ _ _ _ _ _ _ vs new.values.items c.in-Read.label c.in-Read.attribute
     (in_form _ _ _ _ _ _ _ vs t form c.in-Read.is ev) new.machine r
     (subst (λ (s : Step). IsReadBelow c.args.store.now c.args.evaluation.now.machine new.machine c.args.site s
-    (λ below. key.Synthesized below c.in-Read.attribute) vs new.values.items r) c.step_to.ensures it))) c.read_below.ensures
+    (λ below. key.Synthesized below c.in-Read.attribute) vs new.values.items r) c.in_ok-step-in-Read.ensures it))) c.read_below.ensures
 
 pub returns-in-Top : goal.returns-in-Top
 returns-in-Top c = λ a operations rest ev.

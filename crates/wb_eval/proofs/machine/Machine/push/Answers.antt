@@ -1,4 +1,4 @@
-use Rattle.std.proofs.Common.{refl}
+use Rattle.std.proofs.Common.{rules, refl}
 use Rattle.wb_eval.proofs.machine.Machine.push.Goals as goal
 
 pub returns : goal.returns
@@ -6,7 +6,7 @@ returns c = record {
   memo = refl;
   root = refl;
   attribute = refl;
-  stack = c.in_ok-push-2.ensures.ok;
+  stack = search rules;
   entered = refl;
-  frames = c.in_ok-push.ensures.ok;
+  frames = search rules;
 }
