@@ -1,0 +1,12 @@
+pub mod WorldMoves
+pub mod HoleKernels
+pub mod NameLemmas
+pub mod HoleNames
+pub mod PrefixNumbers
+pub mod NumberLemmas
+pub mod MoveLemmas
+pub mod SplicedLemmas
+pub mod LookaheadLemmas
+pub mod LocalLemmas
+pub mod TakenLemmas
+pub mod NumberedLemmas
