@@ -1,3 +1,4 @@
 mod LineStateLemmas
+pub mod ListedLemmas
 mod MissingLemmas
 mod PlaceLemmas

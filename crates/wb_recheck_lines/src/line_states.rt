@@ -33,8 +33,8 @@ impl Model for LineStates {
 }
 
 impl LineStates {
-    // The first kernel alone, of so many.
-    fn new(alloc: Global, count: usize) -> Result<LineStates, AllocError>
+    /// The first kernel alone, of so many.
+    pub fn new(alloc: Global, count: usize) -> Result<LineStates, AllocError>
         requires { 0 < count }
         ensures { IfOk result (λ made. made ≡ record { states = 0 ∷ []; count = count }) }
     {
@@ -72,8 +72,8 @@ impl LineStates {
         }
     }
 
-    // Puts the number of a kernel that isn't there at the end.
-    fn add(&mut self, state: usize) -> Result<(), AllocError>
+    /// Puts the number of a kernel that isn't there at the end.
+    pub fn add(&mut self, state: usize) -> Result<(), AllocError>
         requires below { state < self.old.count }
         requires new { ¬ Contains self.old.states state }
         ensures { OnOk result (self.new ≡ record { states = self.old.states ++ state ∷ []; count = self.old.count }) }

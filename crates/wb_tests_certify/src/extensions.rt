@@ -3,7 +3,7 @@
 //! Each row has an extension and its expected answer, which follows from the rules. What true examples may differ in is left empty. Of
 //! each host and extension that is certified the lookaheads are compared (`lookaheads`).
 
-ghost use Rattle.std.specs.Prelude.{◌≡◌};
+ghost use Rattle.std.specs.Prelude.{◌≡◌, IsSome};
 
 use crate::answers::{Answer, Row, shows, shows_name, spec_of};
 use crate::files::{STATEMENTS, SUMS};
@@ -12,9 +12,11 @@ use std::alloc::Global;
 use std::process::Abort;
 use wb_certify::certify_extension;
 use wb_certify_host::{CertifiedHost, CertifyRefusal, certify_host};
+use wb_marking_holes::with_holes;
 use wb_names::resolve_extension;
 use wb_operations::{OperationTable, Standard, standard_table};
 use wb_syntax::Spec;
+use wb_syntax_resolved::Resolved;
 
 // Fails unless each extension of the host of this text gets its expected answer.
 pub(crate) fn extensions_get<R: Abort + AllocGlobal>(rt: &R, host: &str, rows: &[Row]) {
@@ -99,6 +101,28 @@ fn text_gets(
     }
 }
 
+// Whether both ways find the lookaheads of a specification's grammar with holes.
+fn agrees(alloc: Global, resolved: &Resolved) -> bool {
+    match &resolved.parts().grammar {
+        Some(_) => with_holes_agree(alloc, resolved),
+        None => false,
+    }
+}
+
+// The same, where there is a grammar.
+fn with_holes_agree(alloc: Global, resolved: &Resolved) -> bool
+    requires { IsSome resolved.now.grammar }
+{
+    match with_holes(alloc, resolved) {
+        Ok(grammar) => {
+            let is = agree(alloc, &grammar);
+            drop(grammar);
+            is
+        }
+        Err(_) => false,
+    }
+}
+
 // Whether the extension of this specification gets the answer.
 fn spec_gets(
     alloc: Global,
@@ -112,7 +136,7 @@ fn spec_gets(
     match certify_extension(alloc, host, file.1, operations) {
         // The code `ok` is that of a certified extension.
         Ok(extension) => {
-            let is = answer.0 == "ok" && agree(alloc, &extension.parts().grammar);
+            let is = answer.0 == "ok" && agrees(alloc, extension.resolved());
             extension.release();
             is
         }

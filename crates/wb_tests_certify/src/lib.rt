@@ -20,4 +20,6 @@ mod lookaheads;
 #[cfg(test)]
 mod parts;
 #[cfg(test)]
+mod recheck_files;
+#[cfg(test)]
 mod shown;

@@ -1,0 +1,10 @@
+mod BeginLemmas
+mod FaultLemmas
+mod FollowLemmas
+mod GatherLemmas
+mod KeyLemmas
+mod MissingLemmas
+mod MoveLemmas
+mod RestLemmas
+mod UnlistedLemmas
+mod WrongLemmas

@@ -1,0 +1,4 @@
+mod FitLemmas
+mod LengthLemmas
+mod SmallLemmas
+mod TextLemmas

@@ -1,0 +1,4 @@
+-- lines as they are written
+pub mod Lines
+-- entries as they are written
+pub mod Reached
