@@ -1,17 +1,26 @@
 -- The report of what is asked has the laws of a report, whatever is asked.
+mod CertifyLaws
+mod CheckLaws
+mod ComposeLaws
+mod GenerateLaws
+mod ReadingLaws
+mod RunLaws
+mod ShowLaws
+mod TreeLaws
+mod ValueLaws
 use Rattle.wb_operations.specs.Operations.{Operations}
 use Rattle.wb_program_words.specs.Asked.{Asked}
 use Rattle.wb_program_words.specs.Asked as a
-use Rattle.wb_program.proofs.CertifyLaws.{certify_laws}
-use Rattle.wb_program.proofs.CheckLaws.{check_laws}
-use Rattle.wb_program.proofs.ComposeLaws.{compose_laws}
-use Rattle.wb_program.proofs.GenerateLaws.{generate_laws}
-use Rattle.wb_program.proofs.ReadingLaws.{reading_laws}
+use Rattle.wb_program.proofs.AllReports.CertifyLaws.{certify_laws}
+use Rattle.wb_program.proofs.AllReports.CheckLaws.{check_laws}
+use Rattle.wb_program.proofs.AllReports.ComposeLaws.{compose_laws}
+use Rattle.wb_program.proofs.AllReports.GenerateLaws.{generate_laws}
+use Rattle.wb_program.proofs.AllReports.ReadingLaws.{reading_laws}
 use Rattle.wb_program.proofs.ReportLaws.{HasLaws}
-use Rattle.wb_program.proofs.RunLaws.{run_laws}
-use Rattle.wb_program.proofs.ShowLaws.{show_laws}
-use Rattle.wb_program.proofs.TreeLaws.{tree_laws}
-use Rattle.wb_program.proofs.ValueLaws.{value_laws}
+use Rattle.wb_program.proofs.AllReports.RunLaws.{run_laws}
+use Rattle.wb_program.proofs.AllReports.ShowLaws.{show_laws}
+use Rattle.wb_program.proofs.AllReports.TreeLaws.{tree_laws}
+use Rattle.wb_program.proofs.AllReports.ValueLaws.{value_laws}
 
 pub has_laws : (operations : Operations) (asked : Asked) → HasLaws operations asked
 has_laws operations (a.value host term attribute) = value_laws operations host term attribute

@@ -28,7 +28,7 @@ use Rattle.wb_program.specs.declared.status.Status.{Status}
 use Rattle.wb_program.specs.declared.status.Status.TheVariants.{Done, TooManyExtensions}
 use Rattle.wb_program.proofs.StopLemmas.{stops_first}
 use Rattle.wb_program.proofs.FileLemmas.{refused_checks}
-use Rattle.wb_program.specs.CertifyReport.{CertifyReport, ExtensionsReport, IsExtensionNamed}
+use Rattle.wb_program.specs.Commands.Certify.{CertifyReport, ExtensionsReport, IsExtensionNamed}
 use Rattle.wb_program.specs.Inner.Extensions.{EndsAtExtension, LeadsTo, StopsFrom, CertifyStops}
 
 -- a text that is too long is refused for that

@@ -13,8 +13,8 @@ use Rattle.wb_program.specs.Texts.{IsText, IsTooLongText}
 use Rattle.wb_program.specs.HostChecks.{IsHostFile, IsWellDefinedFile, RefusesHost}
 use Rattle.wb_program.specs.declared.status.Status.{Status}
 use Rattle.wb_program.specs.declared.status.Status.TheVariants.{Done, TextTooLong}
-use Rattle.wb_program.specs.CheckReport.{CheckReport}
-use Rattle.wb_program.specs.ValueReport.{TermReport, ValueReport}
+use Rattle.wb_program.specs.Commands.Check.{CheckReport}
+use Rattle.wb_program.specs.Commands.Value.{TermReport, ValueReport}
 use Rattle.wb_program.proofs.FileLemmas.{refused_checks}
 
 -- `check` of a certified host

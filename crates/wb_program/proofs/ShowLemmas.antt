@@ -16,7 +16,7 @@ use Rattle.wb_program.specs.declared.files.Contents.{Contents}
 use Rattle.wb_program.specs.declared.files.Contents.TheVariants.{Whole, TooLong}
 use Rattle.wb_program.specs.declared.status.Status.{Status}
 use Rattle.wb_program.proofs.FileLemmas.{read_is}
-use Rattle.wb_program.specs.ShowReport.{ShowReport}
+use Rattle.wb_program.specs.Commands.Show.{ShowReport}
 use Rattle.wb_program.specs.Inner.Shown.{ContentsShow, RefusesRead, ShowsRefusal}
 
 -- what is shown isn't out of memory

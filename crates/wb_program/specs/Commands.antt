@@ -1,20 +1,30 @@
 -- What each command reports, and which files it comes to read.
+-- The report of each is in a file of its own.
+pub mod Show
+pub mod Check
+pub mod Certify
+pub mod Compose
+pub mod Tree
+pub mod Reading
+pub mod Value
+pub mod Run
+pub mod Generate
 use Rattle.std.specs.Prelude.{◌≤◌, ℕ, Option, List, [], ◌∷◌, length, map}
 use Rattle.wb_operations.specs.Operations.{Operations, OperationSignature}
 use Rattle.wb_program_words.specs.Asked.{Asked}
 use Rattle.wb_program_words.specs.Asked as a
 use Rattle.wb_world.specs.Shelf.{Files}
-use Rattle.wb_program.specs.CertifyReport.{CertifyReport}
-use Rattle.wb_program.specs.CheckReport.{CheckReport}
-use Rattle.wb_program.specs.ComposeReport.{ComposeReport}
-use Rattle.wb_program.specs.GenerateReport.{GenerateReport}
-use Rattle.wb_program.specs.ReadingReport.{ReadingReport}
-use Rattle.wb_program.specs.RunReport.{RunReport, RunStops}
-use Rattle.wb_program.specs.ShowReport.{ShowReport}
+use Rattle.wb_program.specs.Commands.Certify.{CertifyReport}
+use Rattle.wb_program.specs.Commands.Check.{CheckReport}
+use Rattle.wb_program.specs.Commands.Compose.{ComposeReport}
+use Rattle.wb_program.specs.Commands.Generate.{GenerateReport}
+use Rattle.wb_program.specs.Commands.Reading.{ReadingReport}
+use Rattle.wb_program.specs.Commands.Run.{RunReport, RunStops}
+use Rattle.wb_program.specs.Commands.Show.{ShowReport}
 use Rattle.wb_program.specs.Stops.{certified_extension, certified_host, specification, well_defined_host, written_term}
 use Rattle.wb_program.specs.Stops.{StopsAt, StopsComposed}
-use Rattle.wb_program.specs.TreeReport.{TreeReport}
-use Rattle.wb_program.specs.ValueReport.{ValueReport}
+use Rattle.wb_program.specs.Commands.Tree.{TreeReport}
+use Rattle.wb_program.specs.Commands.Value.{ValueReport}
 use Rattle.wb_program.specs.declared.status.Status.{Status}
 
 -- the report of what is asked

@@ -14,26 +14,8 @@ pub mod SeveralChecks
 pub mod Texts
 -- files as what they are read, and which one is missing or faulty where a run stops
 pub mod Stops
--- the report of `show`
-pub mod ShowReport
--- the report of `check`
-pub mod CheckReport
--- the report of `certify`
-pub mod CertifyReport
--- the report of `tree`
-pub mod TreeReport
--- the report of `reading`
-pub mod ReadingReport
--- the report of `value`
-pub mod ValueReport
--- the report of `compose`
-pub mod ComposeReport
 -- the attribute that is asked at the root of a text, and what is reported of its value
 pub mod Values
--- the report of `run`
-pub mod RunReport
--- the report of `generate`
-pub mod GenerateReport
 -- what each command reports, and which files it comes to read
 pub mod Commands
 -- the report of words and files

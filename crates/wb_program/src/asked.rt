@@ -11,7 +11,7 @@ ghost use Rattle.wb_program.specs.Inner.Makes.{Answers};
 ghost use Rattle.wb_program.specs.Inner.Stopped.{outside};
 ghost use Rattle.wb_program.specs.Texts.{IsText, IsTooLongText};
 ghost use Rattle.wb_program.specs.Inner.Contents.{ReadText};
-ghost use Rattle.wb_program.specs.GenerateReport.{MadeReport, MadeTextReport};
+ghost use Rattle.wb_program.specs.Commands.Generate.{MadeReport, MadeTextReport};
 ghost use Rattle.wb_program.specs.Values.{TextValueReport};
 ghost use Rattle.wb_program.specs.Inner.Sources.{IsAsked, shown_with};
 

@@ -1,36 +1,27 @@
 //! What does a run of the program do, from its words to its status?
 //!
-//! The report is made before anything is written, so that a fault leaves a prefix of it. Each command has a file for its answer.
+//! The report is made before anything is written, so that a fault leaves a prefix of it. The answers to commands are in `commands`.
 
 ghost use Rattle.std.specs.Prelude.{◌≡◌, ◌⊎◌, ◌≤◌, IfOk, IfErr};
 ghost use Rattle.wb_world.specs.Cause.{NeverFalls, Rose};
 ghost use Rattle.wb_operations.specs.Kept.{IsKept};
 ghost use Rattle.wb_report.specs.Lines.{report_of};
-ghost use Rattle.wb_program_words.specs.Asked.{asked_by, texts};
-ghost use Rattle.wb_program_words.specs.Laws.{HasFewLeaves};
+ghost use Rattle.wb_program_words.specs.Asked.{texts};
 ghost use Rattle.wb_program.specs.Inner.Stopped.{outside};
-ghost use Rattle.wb_program.specs.Inner.Makes.{Answers, Makes};
-ghost use Rattle.wb_program.specs.Commands.{IsReportOf, ReadsTo};
+ghost use Rattle.wb_program.specs.Inner.Makes.{Makes};
 ghost use Rattle.wb_program.specs.Reads.{AbsentCause, FaultCause, ComesTo};
 ghost use Rattle.wb_program.specs.Report.{InCommandSet, IsReport};
 ghost use Rattle.wb_program.specs.Written.{Wrote};
 ghost use Rattle.wb_program.specs.Inner.Answered.{Replies};
 
 use crate::answer::{Answer, reported};
-use crate::certify::answer_certify;
-use crate::check::answer_check;
-use crate::compose::answer_compose;
+use crate::commands::answer_to;
 use crate::files::ReadFailure;
-use crate::generate::answer_generate;
-use crate::run::answer_run;
-use crate::show::answer_show;
 use crate::status::Status;
-use crate::texts::{OfText, answer_of_text};
-use crate::value::answer_value;
 use crate::writing::write_report;
 use std::alloc::{AllocError, Global};
 use wb_operations::{Meaning, OperationRefusal, OperationTable};
-use wb_program_words::{Command, command_of};
+use wb_program_words::command_of;
 use wb_report::Outcome;
 use wb_values::Value;
 use wb_world::{Shelf, Sink};
@@ -101,82 +92,6 @@ fn answer<S: Shelf, M: Meaning>(
     match command_of(words) {
         Some(command) => answer_to(alloc, shelf, command, operations),
         None => Ok(usage(alloc)?),
-    }
-}
-
-// The answer to a command.
-fn answer_to<S: Shelf, M: Meaning>(
-    alloc: Global,
-    shelf: &mut S,
-    command: Command<'_>,
-    operations: &OperationTable<M>,
-) -> Result<Answer, ReadFailure>
-    requires leaves { HasFewLeaves (asked_by command) }
-    requires kept { IsKept operations.now.signatures operations.now.built_in operations.now.runs.items M.meaning
-        (λ run vs. ⟦<Box<dyn Fn(&[Value]) -> Result<Value, OperationRefusal>> as Fn(&[Value]) -> Result<Value, OperationRefusal>>⟧.pre run vs)
-        (λ run vs r. ⟦<Box<dyn Fn(&[Value]) -> Result<Value, OperationRefusal>> as Fn(&[Value]) -> Result<Value, OperationRefusal>>⟧.post run vs r) }
-    ensures { Answers (outside (S.files shelf.old) (S.absences shelf.old) (S.faults shelf.old)) (outside (S.files shelf.new) (S.absences shelf.new) (S.faults shelf.new))
-        result (λ status bytes. IsReportOf (record { signatures = operations.now.signatures; meaning = M.meaning }) (S.files shelf.old) status bytes (asked_by command.entry))
-        (ReadsTo operations.now.signatures (S.files shelf.old) (asked_by command.entry)) }
-{
-    match command {
-        Command::Value {
-            host,
-            term,
-            attribute,
-        } => answer_value(alloc, shelf, host, term, attribute, operations),
-        Command::Show { file } => answer_show(alloc, shelf, file),
-        Command::Check { host } => answer_check(alloc, shelf, host, operations),
-        Command::Certify { host, extensions } => {
-            answer_certify(alloc, shelf, host, extensions, operations)
-        }
-        Command::Tree {
-            text,
-            host,
-            extensions,
-        } => answer_of_text(
-            alloc,
-            shelf,
-            OfText::Tree,
-            text,
-            host,
-            extensions,
-            operations,
-        ),
-        Command::Compose { host, extensions } => {
-            answer_compose(alloc, shelf, host, extensions, operations)
-        }
-        Command::Run {
-            text,
-            attribute,
-            steps,
-            host,
-            extensions,
-        } => answer_run(
-            alloc, shelf, text, attribute, steps, host, extensions, operations,
-        ),
-        Command::Generate {
-            number,
-            size,
-            attribute,
-            host,
-            extensions,
-        } => answer_generate(
-            alloc, shelf, number, size, attribute, host, extensions, operations,
-        ),
-        Command::Reading {
-            text,
-            host,
-            extensions,
-        } => answer_of_text(
-            alloc,
-            shelf,
-            OfText::Reading,
-            text,
-            host,
-            extensions,
-            operations,
-        ),
     }
 }
 

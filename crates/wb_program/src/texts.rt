@@ -16,11 +16,11 @@ ghost use Rattle.wb_program.specs.Inner.Contents.{ReadText};
 ghost use Rattle.wb_program.specs.Inner.OfTexts.{OfTextReport};
 
 use crate::answer::{Answer, reported};
+use crate::commands::reading::reading_of_text;
+use crate::commands::tree::tree_of_text;
 use crate::composable::read_composable;
 use crate::files::{Contents, ReadFailure, read_file};
-use crate::reading::reading_of_text;
 use crate::status::Status;
-use crate::tree::tree_of_text;
 use std::alloc::{AllocError, Global};
 use wb_base::FILE_LIMIT;
 use wb_certify::CertifiedExtension;

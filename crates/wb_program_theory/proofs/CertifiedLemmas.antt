@@ -26,11 +26,11 @@ use Rattle.wb_program.specs.Inner.Below.{ExcludesExtensions, ExcludesHeaders}
 use Rattle.wb_program.proofs.Excludes.{not_few}
 use Rattle.wb_program.proofs.OneCheck.{on_file}
 use Rattle.wb_program.proofs.OneSeveralReport.{one_values, refused_or_all}
-use Rattle.wb_program.specs.GenerateReport.{GenerateChecks, ShownMade}
-use Rattle.wb_program.specs.RunReport.{RunChecks}
+use Rattle.wb_program.specs.Commands.Generate.{GenerateChecks, ShownMade}
+use Rattle.wb_program.specs.Commands.Run.{RunChecks}
 use Rattle.wb_program.specs.Values.{ShownTextValue, ShownTreeValue}
-use Rattle.wb_program.specs.ReadingReport.{ShownReading}
-use Rattle.wb_program.specs.TreeReport.{ShownText}
+use Rattle.wb_program.specs.Commands.Reading.{ShownReading}
+use Rattle.wb_program.specs.Commands.Tree.{ShownText}
 use Rattle.wb_program_theory.specs.Certified.{AreCertified, ComposeChecks, HaveNoRefusal, HaveOneValue, IsItsRest, IsRefusalStatus}
 use Rattle.wb_program_theory.specs.Certified.{ReadingChecks, TreeChecks}
 use Rattle.wb_program_theory.proofs.FileLemmas.{all_differ}

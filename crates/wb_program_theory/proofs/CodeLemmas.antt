@@ -15,15 +15,15 @@ use Rattle.wb_program.specs.Inner.Below.{ExcludesExtensions, ExcludesHeaders}
 use Rattle.wb_program.specs.Checks.{Ends}
 use Rattle.wb_program.specs.declared.status.Status.{Status}
 use Rattle.wb_program.specs.declared.status.Status.TheVariants as st
-use Rattle.wb_program.specs.GenerateReport.{GenerateChecks}
-use Rattle.wb_program.specs.RunReport.{RunChecks}
+use Rattle.wb_program.specs.Commands.Generate.{GenerateChecks}
+use Rattle.wb_program.specs.Commands.Run.{RunChecks}
 use Rattle.wb_program_words.proofs.OneAsked.{one_asked}
 use Rattle.wb_program_words.specs.Asked.{Asked}
 use Rattle.wb_program_words.specs.Asked as a
 use Rattle.wb_program.specs.Laws.{HaveOneStatus}
 use Rattle.wb_program.specs.Commands.{IsReportOf}
-use Rattle.wb_program.specs.ShowReport.{ShowReport}
-use Rattle.wb_program.specs.ValueReport.{RootReport, ValueReport}
+use Rattle.wb_program.specs.Commands.Show.{ShowReport}
+use Rattle.wb_program.specs.Commands.Value.{RootReport, ValueReport}
 use Rattle.wb_program_theory.specs.Certified.{ComposeChecks, IsRefusalStatus, ReadingChecks, TreeChecks}
 use Rattle.wb_program_theory.specs.Codes.{HaveOneCode, IsCodeStatus, ShowOneCode}
 use Rattle.wb_program_theory.proofs.AlikeLemmas.{IsTold, told_alike, written_alike}

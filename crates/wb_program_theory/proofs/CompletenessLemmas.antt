@@ -11,7 +11,7 @@ use Rattle.wb_operations.specs.Operations.{Operations}
 use Rattle.wb_program.specs.Inner.Below.{ExcludesExtensions, ExcludesHeaders}
 use Rattle.wb_program.specs.declared.status.Status.{Status}
 use Rattle.wb_program.specs.declared.status.Status.TheVariants.{Done, NotCertified, SpecRefused}
-use Rattle.wb_program.specs.RunReport.{RunChecks}
+use Rattle.wb_program.specs.Commands.Run.{RunChecks}
 use Rattle.wb_program.specs.Laws.{HaveOneStatus, HaveOneText}
 use Rattle.wb_program.specs.Report.{IsReport}
 use Rattle.wb_program.specs.Written.{Wrote, WrotePrefix}

@@ -25,7 +25,7 @@ use Rattle.wb_world.specs.Shelf.{Files}
 use Rattle.wb_program.specs.Inner.Below.{ExcludesExtensions, ExcludesHeaders}
 use Rattle.wb_program.specs.SeveralChecks.{names_of}
 use Rattle.wb_program.specs.declared.status.Status.TheVariants as s
-use Rattle.wb_program.specs.GenerateReport.{GenerateChecks}
+use Rattle.wb_program.specs.Commands.Generate.{GenerateChecks}
 use Rattle.wb_program_words.specs.Asked as a
 use Rattle.wb_program_words.proofs.FewLeaves.{few_leaves}
 use Rattle.wb_program_theory.specs.Existence.{ComesToAnswer}

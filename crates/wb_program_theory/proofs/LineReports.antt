@@ -13,7 +13,7 @@ use Rattle.wb_program.specs.Inner.Below.{ExcludesExtensions, ExcludesHeaders}
 use Rattle.wb_program.specs.SeveralChecks.{AreEach, IsNextText}
 use Rattle.wb_program.specs.declared.status.Status.TheVariants.{Done}
 use Rattle.wb_program_words.specs.Asked as a
-use Rattle.wb_program.specs.CertifyReport.{ExtensionsReport}
+use Rattle.wb_program.specs.Commands.Certify.{ExtensionsReport}
 use Rattle.wb_program_theory.specs.Certified.{ComposeChecks}
 use Rattle.wb_program_theory.specs.Reported.{HaveCertifyReport, HaveCheckReport, HaveComposeReport, IsDone, IsReported}
 use Rattle.wb_program_theory.proofs.CertifiedLemmas.{reports}

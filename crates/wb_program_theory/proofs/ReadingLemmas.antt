@@ -23,8 +23,8 @@ use Rattle.wb_program.specs.SeveralChecks.{names_of}
 use Rattle.wb_program.specs.Texts.{IsText}
 use Rattle.wb_program.specs.declared.status.Status.{Status}
 use Rattle.wb_program.specs.declared.status.Status.TheVariants.{Done}
-use Rattle.wb_program.specs.RunReport.{RunChecks}
-use Rattle.wb_program.specs.ReadingReport.{ReadingReport, ShownReading, TextReadingReport}
+use Rattle.wb_program.specs.Commands.Run.{RunChecks}
+use Rattle.wb_program.specs.Commands.Reading.{ReadingReport, ShownReading, TextReadingReport}
 use Rattle.wb_program_theory.specs.Certified.{AreCertified, ReadingChecks, TreeChecks}
 use Rattle.wb_program_theory.specs.ReadingLaws.{HaveHostRun, HaveHostTree, IsAttributeOf, ReportsHostReading}
 use Rattle.wb_program_theory.proofs.CertifiedLemmas.{one_host_value, passes, reports}

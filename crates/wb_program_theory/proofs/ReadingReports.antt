@@ -16,7 +16,7 @@ use Rattle.wb_program.specs.Files.{FileIs}
 use Rattle.wb_program.specs.declared.status.Status.TheVariants.{Done, TextTooLong}
 use Rattle.wb_program_words.specs.Asked as a
 use Rattle.wb_program_words.specs.Words.{Asks}
-use Rattle.wb_program.specs.ReadingReport.{TextReadingReport}
+use Rattle.wb_program.specs.Commands.Reading.{TextReadingReport}
 use Rattle.wb_program_theory.specs.Certified.{AreCertified, ReadingChecks}
 use Rattle.wb_program_theory.specs.Existence.{ComesToAnswer}
 use Rattle.wb_program_theory.specs.Reported.{HaveReadingReport, HaveReport, IsAny, IsDone, IsReported}

@@ -19,7 +19,7 @@ use Rattle.wb_program.specs.SeveralChecks.{EachChecks, IsLaterRefusal, IsNextTex
 use Rattle.wb_program.specs.declared.status.Status.{Status}
 use Rattle.wb_program.specs.declared.status.Status.TheVariants.{Done, DuplicateExtension, NotCertified, SpecRefused}
 use Rattle.wb_program.specs.declared.status.Status.TheVariants.{TooManyExtensions, WrongHost}
-use Rattle.wb_program.specs.CertifyReport.{CertifyReport, ExtensionsReport}
+use Rattle.wb_program.specs.Commands.Certify.{CertifyReport, ExtensionsReport}
 use Rattle.wb_program_theory.specs.Codes.{IsCodeStatus, ShowOneCode}
 use Rattle.wb_program_theory.proofs.AlikeLemmas.{IsTold, told_alike}
 use Rattle.wb_program_theory.proofs.ExtensionCodes.{extension_alike}

@@ -43,7 +43,7 @@ use Rattle.wb_program.specs.Inner.Below.{ExcludesExtensions, ExcludesHeaders}
 use Rattle.wb_program.specs.Files.{FileIs}
 use Rattle.wb_program.specs.SeveralChecks.{names_of}
 use Rattle.wb_program.specs.declared.status.Status.TheVariants as s
-use Rattle.wb_program.specs.RunReport.{RunChecks}
+use Rattle.wb_program.specs.Commands.Run.{RunChecks}
 use Rattle.wb_program.specs.Values.{TextValueReport}
 use Rattle.wb_program_words.specs.Asked as a
 use Rattle.wb_program_theory.specs.Existence.{ComesToAnswer}

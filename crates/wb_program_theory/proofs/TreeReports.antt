@@ -22,7 +22,7 @@ use Rattle.wb_values.specs.Tree as v
 use Rattle.wb_program.specs.Inner.Below.{ExcludesExtensions, ExcludesHeaders}
 use Rattle.wb_program.specs.declared.status.Status.TheVariants.{Done, TextStopped, TooLongToPrint}
 use Rattle.wb_program_words.specs.Asked as a
-use Rattle.wb_program.specs.TreeReport.{TextReport}
+use Rattle.wb_program.specs.Commands.Tree.{TextReport}
 use Rattle.wb_program_theory.specs.Certified.{TreeChecks}
 use Rattle.wb_program_theory.specs.Existence.{ComesToAnswer}
 use Rattle.wb_program_theory.specs.Laws.{IsAnswerStatus}

@@ -12,11 +12,11 @@ use Rattle.wb_program.specs.Texts.{IsText, IsTooLongText}
 use Rattle.wb_program.specs.declared.status.Status.{Status}
 use Rattle.wb_program.specs.declared.status.Status.TheVariants.{Done, DuplicateExtension, NotCertified, SpecRefused, TextTooLong}
 use Rattle.wb_program.specs.declared.status.Status.TheVariants.{TooManyExtensions, WrongHost}
-use Rattle.wb_program.specs.GenerateReport.{GenerateChecks, GenerateReport}
-use Rattle.wb_program.specs.RunReport.{RunChecks, RunReport}
-use Rattle.wb_program.specs.ComposeReport.{ComposeReport, ComposedLines}
-use Rattle.wb_program.specs.ReadingReport.{ReadingReport, TextReadingReport}
-use Rattle.wb_program.specs.TreeReport.{TextReport, TreeReport}
+use Rattle.wb_program.specs.Commands.Generate.{GenerateChecks, GenerateReport}
+use Rattle.wb_program.specs.Commands.Run.{RunChecks, RunReport}
+use Rattle.wb_program.specs.Commands.Compose.{ComposeReport, ComposedLines}
+use Rattle.wb_program.specs.Commands.Reading.{ReadingReport, TextReadingReport}
+use Rattle.wb_program.specs.Commands.Tree.{TextReport, TreeReport}
 
 -- the files hold a certified host of this value, and at most 64 extensions of these values, each certified with the host and with another
 -- name than those before it

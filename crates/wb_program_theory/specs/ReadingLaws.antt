@@ -11,9 +11,9 @@ use Rattle.wb_world.specs.Shelf.{Files}
 use Rattle.wb_program.specs.Files.{KnownFile}
 use Rattle.wb_program.specs.declared.status.Status.{Status}
 use Rattle.wb_program.specs.declared.status.Status.TheVariants.{Done}
-use Rattle.wb_program.specs.RunReport.{RunReport}
-use Rattle.wb_program.specs.ReadingReport.{ReadingReport}
-use Rattle.wb_program.specs.TreeReport.{TreeReport}
+use Rattle.wb_program.specs.Commands.Run.{RunReport}
+use Rattle.wb_program.specs.Commands.Reading.{ReadingReport}
+use Rattle.wb_program.specs.Commands.Tree.{TreeReport}
 
 -- the report of these files is `host reading`
 abbrev pub ReportsHostReading : List OperationSignature → Files → (text host : List ℕ) → (extensions : List (List ℕ)) → Type 0

@@ -7,7 +7,7 @@ use Rattle.wb_program.specs.declared.status.Status.{Status}
 use Rattle.wb_program.specs.declared.status.Status.TheVariants.{Done, MoreSteps, OperationFault, TextStopped, TextTooLong}
 use Rattle.wb_program.specs.declared.status.Status.TheVariants.{TooLongToPrint}
 use Rattle.wb_program.specs.declared.status.Status.TheVariants.{UnknownAttribute}
-use Rattle.wb_program.specs.RunReport.{RunReport}
+use Rattle.wb_program.specs.Commands.Run.{RunReport}
 
 -- the status is that of what comes of a text and an attribute: a value, a stop, a fault, more steps, or a value that is too long to print;
 -- or no such attribute may be asked, or the text is too long

@@ -49,50 +49,56 @@ fn command_after(verb: Verb, words: &[String]) -> Option<Command<'_>>
 fn command_with<'a>(verb: Verb, values: &[Value<'a>], words: &'a [String]) -> Command<'a>
     ensures { asked_by result ≡ asked_of verb (map value_in values.now) (texts words.now) }
 {
+    let host = word_at(words, 0);
+    let extensions = words_after(words);
     match verb {
         Verb::Value => Command::Value {
-            host: word_at(words, 0),
+            host,
             term: word_at(words, 1),
             attribute: word_at(words, 2),
         },
-        Verb::Show => Command::Show {
-            file: word_at(words, 0),
-        },
-        Verb::Check => Command::Check {
-            host: word_at(words, 0),
-        },
-        Verb::Certify => Command::Certify {
-            host: word_at(words, 0),
-            extensions: words_after(words),
-        },
-        Verb::Compose => Command::Compose {
-            host: word_at(words, 0),
-            extensions: words_after(words),
-        },
+        Verb::Show => Command::Show { file: host },
+        Verb::Check => Command::Check { host },
+        Verb::Certify => Command::Certify { host, extensions },
+        Verb::Compose => Command::Compose { host, extensions },
         Verb::Tree => Command::Tree {
             text: text_at(values, 0),
-            host: word_at(words, 0),
-            extensions: words_after(words),
+            host,
+            extensions,
         },
-        Verb::Run => Command::Run {
-            text: text_at(values, 0),
-            attribute: text_at(values, 1),
-            steps: number_at(values, 2),
-            host: word_at(words, 0),
-            extensions: words_after(words),
-        },
-        Verb::Generate => Command::Generate {
-            number: number_at(values, 0),
-            size: number_at(values, 1),
-            attribute: text_at(values, 2),
-            host: word_at(words, 0),
-            extensions: words_after(words),
-        },
+        Verb::Run => run_with(values, words),
+        Verb::Generate => generate_with(values, words),
         Verb::Reading => Command::Reading {
             text: text_at(values, 0),
-            host: word_at(words, 0),
-            extensions: words_after(words),
+            host,
+            extensions,
         },
+    }
+}
+
+// That of `run`.
+fn run_with<'a>(values: &[Value<'a>], words: &'a [String]) -> Command<'a>
+    ensures { asked_by result ≡ asked_of Verb.Run (map value_in values.now) (texts words.now) }
+{
+    Command::Run {
+        text: text_at(values, 0),
+        attribute: text_at(values, 1),
+        steps: number_at(values, 2),
+        host: word_at(words, 0),
+        extensions: words_after(words),
+    }
+}
+
+// That of `generate`.
+fn generate_with<'a>(values: &[Value<'a>], words: &'a [String]) -> Command<'a>
+    ensures { asked_by result ≡ asked_of Verb.Generate (map value_in values.now) (texts words.now) }
+{
+    Command::Generate {
+        number: number_at(values, 0),
+        size: number_at(values, 1),
+        attribute: text_at(values, 2),
+        host: word_at(words, 0),
+        extensions: words_after(words),
     }
 }
 

@@ -11,7 +11,7 @@ use Rattle.wb_program.specs.Inner.Stopped.{Outside, Stopped}
 use Rattle.wb_program.specs.declared.answer.Answer.{Answer}
 use Rattle.wb_program.specs.declared.files.ReadFailure.{ReadFailure}
 use Rattle.wb_program.specs.declared.status.Status.{Status}
-use Rattle.wb_program.specs.CertifyReport.{ExtensionsReport, IsExtensionNamed}
+use Rattle.wb_program.specs.Commands.Certify.{ExtensionsReport, IsExtensionNamed}
 
 -- the report of a run that ends at an extension, whatever comes after it
 abbrev pub EndsAtExtension : List OperationSignature → Option Files → ResolvedParts → List ℕ → Report

@@ -12,8 +12,8 @@ use Rattle.wb_program.specs.Checks.{Report, Check}
 use Rattle.wb_program.specs.ExtensionChecks.{AreApart}
 use Rattle.wb_program.specs.Texts.{IsText, IsTooLongText}
 use Rattle.wb_program.specs.declared.status.Status.TheVariants.{TextTooLong}
-use Rattle.wb_program.specs.GenerateReport.{GenerateChecks, MadeReport}
-use Rattle.wb_program.specs.RunReport.{RunChecks}
+use Rattle.wb_program.specs.Commands.Generate.{GenerateChecks, MadeReport}
+use Rattle.wb_program.specs.Commands.Run.{RunChecks}
 use Rattle.wb_program.specs.Values.{TextValueReport}
 use Rattle.wb_program.specs.declared.asked.Asked.{Asked}
 use Rattle.wb_program.specs.declared.source.Source.{Source}

@@ -8,7 +8,7 @@ use Rattle.wb_report.specs.declared.outcome.Outcome.TheVariants as o
 use Rattle.wb_compose_texts.specs.Unions.{all_resolved}
 use Rattle.wb_program.specs.declared.status.Status.TheVariants.{NoSentence}
 use Rattle.wb_program.proofs.StopLemmas.{on_ok, on_both_ok}
-use Rattle.wb_program.specs.GenerateReport.{MadeReport, MadeTextReport, ShownMade}
+use Rattle.wb_program.specs.Commands.Generate.{MadeReport, MadeTextReport, ShownMade}
 use Rattle.wb_program.proofs.asked.made_answer.Goals as goal
 
 pub returns-in-Text : goal.returns-in-Text
