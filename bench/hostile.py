@@ -3,9 +3,10 @@
 
 usage: bench/hostile.py [NAME..] [--program PATH] [--seconds N] [--memory MB]
 
-NAMEs: groups, attributes, both, options, scanner, stars, long, keywords, levels, first; all of them where none is named. A row has the size
-of the files, the exit status, seconds of processor and the greatest memory. A run is ended after 60 seconds of processor or at 8,000 MB,
-unless said otherwise, and is then marked. The files are made in a temporary folder. The default program is the proved one.
+NAMEs: groups, attributes, both, options, scanner, stars, long, keywords, levels, first, envelope, prefixes; all of them where none is
+named. A row has the size of the files, the exit status, seconds of processor and the greatest memory. A run is ended after 60 seconds of
+processor or at 8,000 MB, unless said otherwise, and is then marked. The files are made in a temporary folder. The default program is the
+proved one.
 """
 import argparse
 import os
@@ -96,8 +97,31 @@ def first():
     return ["check"], {"h.spec": "\n".join(out) + "\n"}
 
 
+def envelope():
+    """An extension with a new kernel of the host's items, at which many empty productions end, each before a terminal of its own."""
+    count = 2000
+    out = ["format 1; host h; terminal X /x/; terminal Y /y/; terminal Q /q/; nonterminal Z; start Z; nonterminal S; nonterminal T;",
+           "nonterminal N; extensible N; concrete n : Z ::= n : N { } concrete q : N ::= q : Q { } concrete s : Z ::= s : S { }",
+           "concrete y : Z ::= x : X y : Y { } concrete t : S ::= x : X t : T { }"]
+    for k in range(count):
+        out += [f"nonterminal A{k}; terminal T{k} /t{k};/; concrete a{k} : A{k} ::= {{ }} concrete t{k} : T ::= a : A{k} t : T{k} {{ }}"]
+    marked = 'format 1; extension e for h; marking M /m/; concrete p : N ::= m : M s : S { forwards to q("q"); }\n'
+    return ["certify"], {"h.spec": "\n".join(out) + "\n", "e.spec": marked}
+
+
+def prefixes():
+    """Many extensions with many prefix operators, each before all of them."""
+    files = {"h.spec": HOST}
+    for e in range(64):
+        out = [f"format 1; extension e{e} for h;"]
+        out += [f"marking M{k} /m{e}_{k}_/; concrete p{k} : S ::= m : M{k} s : S {{ forwards to z(\"z\"); }}" for k in range(30)]
+        files[f"e{e}.spec"] = "\n".join(out) + "\n"
+    return ["compose"], files
+
+
 CASES = {"groups": groups, "attributes": attributes, "both": lambda: attributes(1000), "options": options, "scanner": scanner,
-         "stars": stars, "long": long, "keywords": keywords, "levels": levels, "first": first}
+         "stars": stars, "long": long, "keywords": keywords, "levels": levels, "first": first,
+         "envelope": envelope, "prefixes": prefixes}
 
 
 def run(name, arguments):
