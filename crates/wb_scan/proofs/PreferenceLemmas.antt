@@ -1,12 +1,14 @@
 -- What an index of pairs says of their list.
-use Rattle.std.proofs.Common.{◌≡◌, ◌<◌, ◌≤◌, ◌+◌, ℕ, Bool, true, false, List, [], ◌∷◌, ◌++◌, Contains, length, get_or, take, refl, sym, ◌∙◌, ap, subst, inl, inr, if◌then◌else◌, eqb-true, take_all}
+use Rattle.std.proofs.Common.{◌≡◌, ◌<◌, ◌≤◌, ◌+◌, ℕ, Bool, true, false, List, [], ◌∷◌, ◌++◌, Contains, length, get_or, take, refl, sym, ◌∙◌, ap, subst, inl, inr, not, eqb-true, take_all}
 use Rattle.std.specs.Prelude.{nat_eq, ◌↔◌, ◌&&◌}
 use Rattle.std.specs.List.{list_any}
-use Rattle.std.proofs.lemmas.Bool.{cases_Bool}
+use Rattle.std.specs.Bool.{MatchBool}
+use Rattle.std.specs.List.Sorted.{IsPermutation}
 use Rattle.std.proofs.lemmas.Cmp.{and_equiv, nat_eq_equiv, on_equiv}
 use Rattle.std.proofs.lemmas.List.{take_more}
 use Rattle.std.proofs.lemmas.Map.Views.{Contains-from_any, list_any-from_Contains}
-use Rattle.wb_lemmas.proofs.Members.{contains_push, push_contains, push_contains_last}
+use Rattle.std.proofs.lemmas.List.Sorted.{Contains-permutation, IsPermutation-sym}
+use Rattle.wb_lemmas.proofs.Members.{contains_cases, contains_first, contains_later, contains_push, push_contains, push_contains_last}
 use Rattle.wb_scan.specs.Inner.Preferred.{AreIndexed}
 
 -- equality of pairs, as it is tested
@@ -39,32 +41,37 @@ indexed_has pairs keys pair r (inr same) some e =
 abbrev pub AreIndexedTo : List (ℕ × ℕ) → ℕ → List (ℕ × ℕ) → Type 0
 AreIndexedTo pairs i keys = (pair : ℕ × ℕ) → Contains keys pair ↔ Contains (take i pairs) pair
 
-pub indexed_more : (pairs keys new : List (ℕ × ℕ)) (i : ℕ) (x : ℕ × ℕ) → i < length pairs → x ≡ get_or pairs i (0, 0) →
-    new ≡ (if list_any (same_pair x) keys then keys else keys ++ x ∷ []) → AreIndexedTo pairs i keys → AreIndexedTo pairs (i + 1) new
-indexed_more pairs keys new i x lt x_is new_is before pair =
+is_there : (b : Bool) → false ≡ not b → b ≡ true
+is_there true said = refl
+is_there false said = cc
+
+pub indexed_more : (pairs keys new : List (ℕ × ℕ)) (i : ℕ) (x : ℕ × ℕ) (added : Bool) → i < length pairs → x ≡ get_or pairs i (0, 0)
+    → added ≡ not (list_any (same_pair x) keys) → MatchBool added (IsPermutation (x ∷ keys) new) (new ≡ keys) → AreIndexedTo pairs i keys
+    → AreIndexedTo pairs (i + 1) new
+indexed_more pairs keys new i x false lt x_is said put before pair =
     let more : take (i + 1) pairs ≡ take i pairs ++ x ∷ [] =
     take_more pairs i (0, 0) lt ∙ ap (λ z. take i pairs ++ z ∷ []) (sym x_is) in
-    subst (λ z. Contains new pair ↔ Contains z pair) (sym more) (elim (cases_Bool (list_any (same_pair x) keys)) [
-      | inl on ↦ (let old : new ≡ keys = new_is ∙ ap (λ b. if b then keys else keys ++ x ∷ []) on in
-          subst (λ z. Contains z pair ↔ Contains (take i pairs ++ x ∷ []) pair) (sym old) (
-            (λ has. push_contains (take i pairs) x pair ((before pair).0 has)),
-            (λ has. elim (contains_push (take i pairs) x pair has) [
-              | inl there ↦ (before pair).1 there
-              | inr is ↦ subst (Contains keys) is (Contains-from_any equal x keys on)
-            ]),
-          ))
-      | inr off ↦ (let longer : new ≡ keys ++ x ∷ [] = new_is ∙ ap (λ b. if b then keys else keys ++ x ∷ []) off in
-          subst (λ z. Contains z pair ↔ Contains (take i pairs ++ x ∷ []) pair) (sym longer) (
-            (λ has. elim (contains_push keys x pair has) [
-              | inl there ↦ push_contains (take i pairs) x pair ((before pair).0 there)
-              | inr is ↦ subst (Contains (take i pairs ++ x ∷ [])) is (push_contains_last (take i pairs) x)
-            ]),
-            (λ has. elim (contains_push (take i pairs) x pair has) [
-              | inl there ↦ push_contains keys x pair ((before pair).1 there)
-              | inr is ↦ subst (Contains (keys ++ x ∷ [])) is (push_contains_last keys x)
-            ]),
-          ))
-    ])
+    let on : list_any (same_pair x) keys ≡ true = is_there (list_any (same_pair x) keys) said in
+    subst (λ z. Contains new pair ↔ Contains z pair) (sym more) (subst (λ z. Contains z pair ↔ Contains (take i pairs ++ x ∷ []) pair) (sym put) (
+      (λ has. push_contains (take i pairs) x pair ((before pair).0 has)),
+      (λ has. elim (contains_push (take i pairs) x pair has) [
+        | inl there ↦ (before pair).1 there
+        | inr is ↦ subst (Contains keys) is (Contains-from_any equal x keys on)
+      ]),
+    ))
+indexed_more pairs keys new i x true lt x_is said put before pair =
+    let more : take (i + 1) pairs ≡ take i pairs ++ x ∷ [] =
+    take_more pairs i (0, 0) lt ∙ ap (λ z. take i pairs ++ z ∷ []) (sym x_is) in
+    subst (λ z. Contains new pair ↔ Contains z pair) (sym more) (
+      (λ has. elim (contains_cases x pair keys (Contains-permutation new (x ∷ keys) pair (IsPermutation-sym (x ∷ keys) new put) has)) [
+        | inl is ↦ subst (Contains (take i pairs ++ x ∷ [])) is (push_contains_last (take i pairs) x)
+        | inr there ↦ push_contains (take i pairs) x pair ((before pair).0 there)
+      ]),
+      (λ has. Contains-permutation (x ∷ keys) new pair put (elim (contains_push (take i pairs) x pair has) [
+        | inl there ↦ contains_later x pair keys ((before pair).1 there)
+        | inr is ↦ subst (Contains (x ∷ keys)) is (contains_first x keys)
+      ])),
+    )
 
 pub indexed_all : (pairs keys : List (ℕ × ℕ)) (i : ℕ) → length pairs ≤ i → AreIndexedTo pairs i keys → AreIndexed pairs keys
 indexed_all pairs keys i le all = inr (λ pair. subst (λ z. Contains keys pair ↔ Contains z pair) (take_all i pairs le) (all pair))

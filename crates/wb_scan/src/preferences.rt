@@ -5,8 +5,8 @@
 ghost use Rattle.std.specs.Prelude.{◌≡◌, ◌↔◌, Contains, IsTrue};
 ghost use Rattle.wb_scan.specs.Inner.Preferred.{AreIndexed};
 
-use indexmap::IndexSet;
 use std::alloc::Global;
+use std::collections::HashSet;
 use std::marker::Model;
 use wb_lexical::prefers;
 
@@ -14,7 +14,7 @@ use wb_lexical::prefers;
 pub(crate) struct Preferences {
     pairs: Vec<(usize, usize)>,
     // The same pairs, or none where memory ran out.
-    index: IndexSet<(usize, usize)>,
+    index: HashSet<(usize, usize)>,
 }
 
 impl Model for Preferences {
@@ -56,14 +56,14 @@ impl Drop for Preferences {
 }
 
 // These pairs, or none where memory runs out.
-fn index_of(alloc: Global, pairs: &[(usize, usize)]) -> IndexSet<(usize, usize)>
+fn index_of(alloc: Global, pairs: &[(usize, usize)]) -> HashSet<(usize, usize)>
     ensures { AreIndexed pairs.now result.keys }
 {
-    let mut index = IndexSet::new(alloc);
+    let mut index = HashSet::new(alloc);
     'pairs: for pair in pairs {
-        match index.insert_full(*pair) {
+        match index.insert(*pair) {
             Ok(_) => {}
-            Err(_) => return IndexSet::new(alloc),
+            Err(_) => return HashSet::new(alloc),
         }
     }
     index
