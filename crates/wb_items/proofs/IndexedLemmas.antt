@@ -7,9 +7,10 @@ use Rattle.std.proofs.lemmas.Grind.{common_steps}
 use Rattle.std.proofs.lemmas.List.{append_assoc, reverse-append}
 use Rattle.wb_lemmas.proofs.Places.{at_push}
 use Rattle.wb_base.specs.declared.symbol.Symbol.{Symbol}
+use Rattle.wb_base.specs.declared.symbol.Symbol.TheVariants.{Terminal}
 use Rattle.wb_grammar_theory.specs.declared.item.Item.{Item}
 use Rattle.wb_items.specs.declared.kernel_index.Step.{Step}
-use Rattle.wb_items.specs.Index.{IndexView, prefixes_after, prefixes_of}
+use Rattle.wb_items.specs.Index.{GoesOn, IndexView, prefixes_after, prefixes_of}
 use Rattle.wb_items.specs.Inner.Steps.{IsKernelIndex, AreSteps}
 use Rattle.std.specs.List.{insert}
 use Rattle.wb_items.specs.Kernels.{AreInOrder}
@@ -88,6 +89,21 @@ pub step_back : (steps : List Step) (kernels : List (List Item)) (n : ℕ) (step
 step_back steps kernels n step h at =
     let e : n + 1 ≡ 1 + n = omega arith in
     ap (λ k. slice_index_or (prefixes_of steps) k []) e ∙ after_step ([] ∷ []) steps n step at (omega (arith, h.back n step at))
+
+-- the prefix of each number after the first goes on from that of a lower one
+pub goes_on : (steps : List Step) (kernels : List (List Item)) → AreSteps steps kernels → (n : ℕ) → suc n < length (prefixes_of steps) →
+    GoesOn (prefixes_of steps) (suc n)
+goes_on steps kernels h n lt =
+    let none : Step = record { from = 0; symbol = Terminal 0 } in
+    let step : Step = slice_index_or steps n none in
+    let at : slice_get steps n ≡ Some step = slice_get-get_or steps n none (let len = prefixes_len steps in omega (arith, len, lt)) in
+    let e : suc n ≡ n + 1 = omega arith in
+    record {
+      from = step.from;
+      symbol = step.symbol;
+      before = (let b = h.back n step at in omega (arith, b));
+      is = ap (λ k. slice_index_or (prefixes_of steps) k []) e ∙ step_back steps kernels n step h at;
+    }
 
 -- a walk back gathers one more symbol
 pub walk_more : (prefix before symbols : List Symbol) (x : Symbol) (whole : List Symbol) → whole ≡ prefix ++ reverse symbols →

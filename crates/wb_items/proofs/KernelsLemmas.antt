@@ -1,5 +1,5 @@
 -- What a table of kernels shows to callers.
-use Rattle.std.proofs.Common.{◌≡◌, ℕ, ◌<◌, List, [], ◌∷◌, ◌++◌, length, Option, Some, None, refl, sym, subst, inl, inr, arith}
+use Rattle.std.proofs.Common.{◌≡◌, ℕ, suc, ◌<◌, List, [], ◌∷◌, ◌++◌, length, Option, Some, None, refl, sym, subst, inl, inr, arith}
 use Rattle.std.specs.Prelude.{slice_get, slice_index_or, Contains, ◌↔◌, IfSome, IfNone, IsNone}
 use Rattle.std.proofs.lemmas.Option.{slice_get_within, slice_get-get_or}
 use Rattle.std.proofs.lemmas.Bool.{true≢false, cases_lt}
@@ -14,8 +14,8 @@ use Rattle.wb_grammar_theory.proofs.KernelLemmas.{kernel_decides, same_move}
 use Rattle.wb_grammar_theory.proofs.ValidLemmas.{before_last}
 use Rattle.wb_grammar_theory.proofs.FlowLemmas.{same_itself, same_back, same_then}
 use Rattle.wb_items.specs.declared.transitions.Move.{Move}
-use Rattle.wb_items.specs.Index.{IndexView}
-use Rattle.wb_items.specs.Kernels.{AreKernels, AreInOrder, ListsKernel, ListsItems, HasNoneBefore}
+use Rattle.wb_items.specs.Index.{GoesOn, IndexView}
+use Rattle.wb_items.specs.Kernels.{AreKernels, AreInOrder, IsLedTo, ListsKernel, ListsItems, HasNoneBefore}
 use Rattle.wb_items.specs.Table.{AreMovesInOrder, SameItems, IsTable, IsRow, Leads}
 use Rattle.wb_items.proofs.OrderLemmas.{order_nil}
 
@@ -113,6 +113,25 @@ whole g found closures rows h = record {
   closures = λ s lt. closure_is h s lt;
   in_order = λ s. closure_sorted h s;
 }
+
+-- where each prefix after the first goes on from one before it, its kernel is led to from that
+pub led_to : (g : GrammarView) (found : IndexView) (closures : List (List Item)) (rows : List (List Move)) →
+    IsTable g found closures rows → ((n : ℕ) → suc n < length found.prefixes → GoesOn found.prefixes (suc n)) →
+    (s : ℕ) → suc s < length found.prefixes → IsLedTo (record { grammar = g; prefixes = found.prefixes; closures = closures }) (suc s)
+led_to g found closures rows h steps s lt =
+    let on = steps s lt in
+    let b = on.before in
+    record {
+      from = on.from;
+      symbol = on.symbol;
+      before = on.before;
+      leads = (
+        (omega (arith, b, lt)),
+        lt,
+        subst (IsViablePrefix g) on.is (h.kernels.viable (suc s) (at found (suc s)) (prefix_there h (suc s) lt)),
+        subst (SameKernel g (at found (suc s))) on.is (same_itself g (at found (suc s))),
+      );
+    }
 
 -- the moves of a kernel are where its symbols lead
 pub moves_lead : (g : GrammarView) (found : IndexView) (closures : List (List Item)) (rows : List (List Move)) →

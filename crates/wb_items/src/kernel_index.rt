@@ -3,8 +3,9 @@
 //! The search is in `search.rt`, and the kernel to which a symbol led last in `cache.rt`.
 
 ghost use Rattle.std.specs.List.{insert};
-ghost use Rattle.std.specs.Prelude.{◌≡◌, ◌<◌, ◌≤◌, ◌++◌, ◌∷◌, [], ℕ, List, IfOk, IfSome, IfNone, OnErr, OnOk, Some, length, slice_get, slice_index_or};
+ghost use Rattle.std.specs.Prelude.{◌≡◌, ◌<◌, ◌≤◌, ◌++◌, ◌∷◌, [], ℕ, suc, List, IfOk, IfSome, IfNone, OnErr, OnOk, Some, length, slice_get, slice_index_or};
 ghost use Rattle.wb_grammar_theory.specs.declared.item.Item.{Item};
+ghost use Rattle.wb_items.specs.Index.{GoesOn};
 ghost use Rattle.wb_items.specs.Kernels.{AreInOrder};
 ghost use Rattle.wb_items.specs.Table.{SameItems};
 
@@ -69,6 +70,7 @@ impl KernelIndex {
     pub(crate) fn len(&self) -> usize
         ensures kernels { result ≡ length self.now.kernels }
         ensures prefixes { result ≡ length self.now.prefixes }
+        ensures steps { (n : ℕ) → suc n < length self.now.prefixes → GoesOn self.now.prefixes (suc n) }
     {
         self.kernels.len()
     }

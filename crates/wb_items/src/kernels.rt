@@ -10,7 +10,7 @@ ghost use Rattle.wb_recheck_theory.specs.KernelLists.{AreKernelsAndMoves};
 ghost use Rattle.wb_items.specs.Parts.{AreListed, IsReached};
 ghost use Rattle.wb_items.specs.Table.{AreMovesInOrder};
 ghost use Rattle.wb_items.specs.declared.transitions.Move.{Move};
-ghost use Rattle.wb_items.specs.Kernels.{AreKernels, AreInOrder, HasNoneBefore, LeadsTo, ListsItems, ListsKernel, closure_of, count_of, prefix_of};
+ghost use Rattle.wb_items.specs.Kernels.{AreKernels, AreInOrder, HasNoneBefore, IsLedTo, LeadsTo, ListsItems, ListsKernel, closure_of, count_of, prefix_of};
 
 use crate::item_list::ItemList;
 use crate::kernel_index::KernelIndex;
@@ -90,10 +90,11 @@ impl Kernels {
         })
     }
 
-    /// How many kernels there are.
+    /// How many kernels there are. Each after the first is led to by a symbol from one before it.
     pub fn count(&self) -> usize
         ensures count { result ≡ count_of self.now }
         ensures exact { AreKernels self.now }
+        ensures reached { (s : ℕ) → suc s < count_of self.now → IsLedTo self.now (suc s) }
     {
         self.found.len()
     }
