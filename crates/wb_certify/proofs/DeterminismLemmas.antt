@@ -10,7 +10,8 @@ use Rattle.wb_determinism_host.specs.declared.refusal.DeterminismRefusal.{Determ
 use Rattle.wb_determinism_host.specs.declared.refusal.DeterminismRefusal.TheVariants as d
 use Rattle.wb_determinism_host.specs.Hosts.{AreAcyclic}
 use Rattle.wb_syntax_resolved.specs.declared.resolved.ResolvedParts.{ResolvedParts}
-use Rattle.wb_certify.specs.Inner.Tests.{AreClearBeside, IsOfHost, IsReasonBeside, KeepMarkers}
+use Rattle.wb_certify.specs.Tests.{KeepMarkers}
+use Rattle.wb_certify.specs.Inner.Tests.{AreClearBeside, IsOfHost, IsReasonBeside}
 use Rattle.wb_certify.specs.Refusals.{IsReason}
 use Rattle.wb_certify.proofs.BesideLemmas.{for_some, with_some}
 

@@ -1,8 +1,8 @@
-mod BesideLemmas
+pub mod BesideLemmas
 mod MarkLemmas
 mod PreferenceLemmas
-mod ValueLemmas
-mod ExtensionLemmas
+pub mod ValueLemmas
+pub mod ExtensionLemmas
 mod AnswerLemmas
 mod NameLemmas
-mod DeterminismLemmas
+pub mod DeterminismLemmas

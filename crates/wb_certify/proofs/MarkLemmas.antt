@@ -12,7 +12,8 @@ use Rattle.wb_marking.specs.declared.refusal.MarkRefusal.{MarkRefusal}
 use Rattle.wb_syntax_resolved.specs.declared.resolved.ResolvedParts.{ResolvedParts}
 use Rattle.wb_certify.specs.Extensions.{AreMarkersKept}
 use Rattle.wb_certify.specs.Refusals.{IsReason}
-use Rattle.wb_certify.specs.Inner.Tests.{HaveBridges, IsMarkReason, KeepMarkers}
+use Rattle.wb_certify.specs.Tests.{IsMarkReason, KeepMarkers}
+use Rattle.wb_certify.specs.Inner.Tests.{HaveBridges}
 use Rattle.wb_certify.proofs.BesideLemmas.{with_some}
 
 module _ (r : ResolvedParts) where

@@ -20,8 +20,9 @@ use Rattle.wb_types.specs.Rules.{KindsOk}
 use Rattle.wb_certify.specs.Extensions.{IsCertifiedBeside}
 use Rattle.wb_certify.specs.Kept.{Extends, IsKept}
 use Rattle.wb_certify.specs.Refusals.{IsAttributeRefusal, IsBesideRefusal, IsReason}
-use Rattle.wb_certify.specs.Inner.Tests.{AreClearBeside, AttributesOk, IsAttributesReason, IsFound, IsLaterRefusal, IsMade}
-use Rattle.wb_certify.specs.Inner.Tests.{IsMadeCertified, IsOfHost, IsPlainMemory, IsReasonBeside}
+use Rattle.wb_certify.specs.Tests.{AttributesOk, IsAttributesReason}
+use Rattle.wb_certify.specs.Inner.Tests.{AreClearBeside, IsFound, IsLaterRefusal, IsMade, IsMadeCertified, IsOfHost, IsPlainMemory}
+use Rattle.wb_certify.specs.Inner.Tests.{IsReasonBeside}
 use Rattle.wb_certify.proofs.BesideLemmas.{for_some, has_start, host_beside}
 
 -- what is there

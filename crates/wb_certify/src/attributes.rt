@@ -2,7 +2,7 @@
 
 ghost use Rattle.std.specs.Prelude.{IfErr, IfOk};
 ghost use Rattle.wb_certify_host.specs.Refusals.{start_of};
-ghost use Rattle.wb_certify.specs.Inner.Tests.{AttributesOk};
+ghost use Rattle.wb_certify.specs.Tests.{AttributesOk};
 ghost use Rattle.wb_certify.specs.Refusals.{IsAttributeRefusal};
 
 use std::alloc::Global;

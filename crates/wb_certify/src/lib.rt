@@ -17,5 +17,6 @@ pub use both::certified_both;
 pub use certified::{CertifiedExtension, release_extensions};
 pub use extension::certify_extension;
 pub use laws::{names_law, one_answer_law};
-pub use value::certify_beside;
+pub use marks::test_marks;
+pub use value::{certify_beside, check_attributes};
 pub use wb_certify_host::{CertifiedHost, certify_host};

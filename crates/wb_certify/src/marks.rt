@@ -4,7 +4,8 @@
 
 ghost use Rattle.std.specs.Prelude.{◌≡◌, IfErr, IfOk, IsSome};
 ghost use Rattle.wb_determinism_host.specs.Hosts.{AreAcyclic};
-ghost use Rattle.wb_certify.specs.Inner.Tests.{HaveBridges, IsMarkReason, KeepMarkers};
+ghost use Rattle.wb_certify.specs.Tests.{IsMarkReason, KeepMarkers};
+ghost use Rattle.wb_certify.specs.Inner.Tests.{HaveBridges};
 
 use std::alloc::Global;
 use wb_base::Sequence;
@@ -13,8 +14,9 @@ use wb_lexical::preference_cycle;
 use wb_marking::{MarkRefusal, check_bridges, check_clashes};
 use wb_syntax_resolved::Resolved;
 
-// Whether markers keep their rules, and preferences form no cycle.
-pub(crate) fn test_marks(alloc: Global, resolved: &Resolved) -> Result<(), DeterminismRefusal>
+/// Whether markers keep their rules, and preferences form no cycle, or the first of these rules that fails: those on bridges, on
+/// preferences, on clashes of markers. The specification is that of a host with an extension.
+pub fn test_marks(alloc: Global, resolved: &Resolved) -> Result<(), DeterminismRefusal>
     requires { IsSome resolved.now.grammar }
     ensures ok { IfOk result (λ done. KeepMarkers resolved.now) }
     ensures acyclic { IfOk result (λ done. AreAcyclic resolved.now) }

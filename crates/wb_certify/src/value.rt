@@ -8,7 +8,8 @@ ghost use Rattle.wb_certify_host.specs.Refusals.{start_of};
 ghost use Rattle.wb_certify.specs.Extensions.{IsCertifiedBeside};
 ghost use Rattle.wb_certify.specs.Kept.{Extends};
 ghost use Rattle.wb_certify.specs.Refusals.{IsBesideRefusal};
-ghost use Rattle.wb_certify.specs.Inner.Tests.{AttributesOk, IsAttributesReason, IsLaterRefusal, IsMade, IsMadeCertified};
+ghost use Rattle.wb_certify.specs.Tests.{AttributesOk, IsAttributesReason};
+ghost use Rattle.wb_certify.specs.Inner.Tests.{IsLaterRefusal, IsMade, IsMadeCertified};
 
 use crate::CertifiedExtension;
 use crate::attributes::test_attributes;
@@ -133,8 +134,8 @@ fn check_determinism(
     }
 }
 
-// Whether attributes are well defined.
-fn check_attributes(alloc: Global, resolved: &Resolved) -> Result<(), CertifyRefusal>
+/// Whether attributes are well defined as those of a host with an extension, or the first rule of attributes that fails.
+pub fn check_attributes(alloc: Global, resolved: &Resolved) -> Result<(), CertifyRefusal>
     ensures ok { IfOk result (λ done. AttributesOk resolved.now.attributes (start_of resolved.now)) }
     ensures refused { IfErr result (IsAttributesReason resolved.now) }
 {

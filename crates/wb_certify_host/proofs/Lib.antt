@@ -1,3 +1,3 @@
-mod ValueLemmas
-mod HostLemmas
-mod RefusalLemmas
+pub mod ValueLemmas
+pub mod HostLemmas
+pub mod RefusalLemmas

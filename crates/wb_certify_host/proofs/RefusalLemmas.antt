@@ -17,7 +17,7 @@ use Rattle.wb_certify_host.specs.Refusals.{IsDeterminismOf, IsDeterministic, IsV
 use Rattle.wb_certify_host.specs.WellDefined.{HasWellDefinedAttributes, IsWellDefinedRefusal}
 use Rattle.wb_certify_host.specs.declared.refusal.CertifyRefusal.{CertifyRefusal}
 use Rattle.wb_certify_host.specs.declared.refusal.CertifyRefusal.TheVariants as c
-use Rattle.wb_certify_host.specs.Inner.Tests.{AreComplete, IsAttributesRefusal, IsGrammarRefusal, IsKindRefusal}
+use Rattle.wb_certify_host.specs.Tests.{AreComplete, IsAttributesRefusal, IsGrammarRefusal, IsKindRefusal}
 use Rattle.wb_certify_host.proofs.ValueLemmas.{well_defined}
 
 module _ (r : ResolvedParts) (operations : List OperationSignature) where

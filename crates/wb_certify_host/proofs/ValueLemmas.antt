@@ -18,7 +18,7 @@ use Rattle.wb_determinism_host.specs.declared.parts.HostParts.{HostParts}
 use Rattle.wb_certify_host.specs.Hosts.{IsCertified, IsCertifiedValue, IsOfText}
 use Rattle.wb_certify_host.specs.Refusals.{IsAttributeRefusal, IsDeterministic, start_of}
 use Rattle.wb_certify_host.specs.WellDefined.{HasWellDefinedAttributes}
-use Rattle.wb_certify_host.specs.Inner.Tests.{AreComplete}
+use Rattle.wb_certify_host.specs.Tests.{AreComplete}
 
 -- pairs that were listed are the preferences
 pub pairs_are : (r parts : ResolvedParts) (preferences : List Preference) (items edges : List (ℕ × ℕ)) → parts ≡ r

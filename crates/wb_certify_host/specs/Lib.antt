@@ -4,5 +4,7 @@ pub mod Hosts
 pub mod Refusals
 -- when the attributes of a resolved host are well defined, and why they aren't
 pub mod WellDefined
+-- what each test of a host tells
+pub mod Tests
 -- what only proofs need
 pub mod Inner

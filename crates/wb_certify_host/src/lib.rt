@@ -12,5 +12,5 @@ mod well_defined;
 pub use certified::CertifiedHost;
 pub use host::certify_host;
 pub use refusal::CertifyRefusal;
-pub use value::{certify_resolved, start};
+pub use value::{certify_resolved, check_attributes, check_kinds, start, without_start};
 pub use well_defined::check_well_defined;

@@ -5,7 +5,8 @@ ghost use Rattle.wb_flow.specs.Refusals.{FlowsOk};
 ghost use Rattle.wb_types.specs.Rules.{KindsOk};
 ghost use Rattle.wb_certify_host.specs.Hosts.{IsCertified, IsCertifiedValue, IsOfText};
 ghost use Rattle.wb_certify_host.specs.Refusals.{IsAttributeRefusal, IsValueRefusal, start_of};
-ghost use Rattle.wb_certify_host.specs.Inner.Tests.{AreComplete, IsAttributesRefusal, IsFound, IsGrammarRefusal, IsKindRefusal};
+ghost use Rattle.wb_certify_host.specs.Tests.{AreComplete, IsAttributesRefusal, IsGrammarRefusal, IsKindRefusal};
+ghost use Rattle.wb_certify_host.specs.Inner.Tests.{IsFound};
 
 use crate::{CertifiedHost, CertifyRefusal};
 use std::alloc::{AllocError, Global};
@@ -77,8 +78,8 @@ fn certified_parts<M: Meaning>(
     }
 }
 
-// Whether each expression is of its kind.
-pub(crate) fn check_kinds<M: Meaning>(
+/// Whether each expression is of its kind over a table of operations, or the first rule of kinds that fails.
+pub fn check_kinds<M: Meaning>(
     alloc: Global,
     resolved: &Resolved,
     operations: &OperationTable<M>,
@@ -108,8 +109,8 @@ fn determinism_of(alloc: Global, resolved: &Resolved) -> Result<HostParts, Certi
     }
 }
 
-// Why a host without a start isn't certified.
-fn without_start(alloc: Global, resolved: &Resolved) -> CertifyRefusal
+/// Why a host without a start isn't certified, if each expression is of its kind: preferences have a cycle, or it is for the start.
+pub fn without_start(alloc: Global, resolved: &Resolved) -> CertifyRefusal
     requires { resolved.now.grammar ≡ None }
     ensures { IsGrammarRefusal resolved.now result }
 {
@@ -129,8 +130,8 @@ fn without_start(alloc: Global, resolved: &Resolved) -> CertifyRefusal
     }
 }
 
-// Whether attributes are complete and keep to their flow types.
-pub(crate) fn check_attributes(alloc: Global, resolved: &Resolved) -> Result<(), CertifyRefusal>
+/// Whether the attributes of a host are complete and keep to their flow types, or the first rule of attributes that fails.
+pub fn check_attributes(alloc: Global, resolved: &Resolved) -> Result<(), CertifyRefusal>
     ensures ok { IfOk result (λ done. AreComplete resolved.now × FlowsOk resolved.now.attributes) }
     ensures refused { IfErr result (IsAttributesRefusal resolved.now) }
 {

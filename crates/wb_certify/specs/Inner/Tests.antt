@@ -1,40 +1,26 @@
 -- What each private test asks and tells of the specification of a host with an extension.
-use Rattle.std.specs.Prelude.{◌≡◌, ℕ, List, [], Some, Option}
-use Rattle.wb_flow_theory.specs.Modular.{ForwardEquationsReach}
+use Rattle.std.specs.Prelude.{◌≡◌, List, [], Some}
 use Rattle.wb_base.specs.Grammar.{GrammarView}
 use Rattle.wb_certify_host.specs.Hosts.{CertifiedView, IsCertified}
-use Rattle.wb_certify_host.specs.Refusals.{IsAttributeMemory, start_of}
 use Rattle.wb_certify_host.specs.declared.refusal.CertifyRefusal.{CertifyRefusal}
-use Rattle.wb_certify_host.specs.declared.refusal.CertifyRefusal.TheVariants as c
-use Rattle.wb_complete.specs.Refusals.{CompleteOk}
 use Rattle.wb_determinism_host.specs.Hosts.{AreHostParts, IsDeterministicHost}
 use Rattle.wb_determinism_host.specs.declared.parts.HostParts.{HostParts}
 use Rattle.wb_determinism_host.specs.declared.refusal.DeterminismRefusal.{DeterminismRefusal}
 use Rattle.wb_determinism_host.specs.declared.refusal.DeterminismRefusal.TheVariants as d
 use Rattle.wb_determinism.specs.Extensions.{IsDeterministicExtension}
-use Rattle.wb_flow.specs.Refusals.{FlowsOk}
 use Rattle.wb_marking.specs.Bridges.{AreBridges}
 use Rattle.wb_names.specs.Resolving.{ResolvesExtension}
 use Rattle.wb_operations.specs.Operations.{OperationSignature}
 use Rattle.wb_syntax.specs.SpecText.{SpecView}
-use Rattle.wb_syntax_resolved.specs.declared.attribution.AttributionParts.{AttributionParts}
 use Rattle.wb_syntax_resolved.specs.declared.resolved.ResolvedParts.{ResolvedParts}
 use Rattle.wb_syntax_resolved.specs.Resolved.{IsResolved}
 use Rattle.wb_types.specs.Rules.{KindsOk}
 use Rattle.wb_certify.specs.Extensions.{AreMarkersKept, IsCertifiedBeside, IsDeterministicBeside}
-use Rattle.wb_certify.specs.Refusals.{IsAttributeRefusal, IsBesideRefusal, IsReason}
+use Rattle.wb_certify.specs.Refusals.{IsBesideRefusal, IsReason}
 
 -- the rules on bridges hold in the grammar
 abbrev pub HaveBridges : ResolvedParts → Type 0
 HaveBridges r = (g : GrammarView) → r.grammar ≡ Some g → AreBridges r g
-
--- markers keep their rules in the grammar
-abbrev pub KeepMarkers : ResolvedParts → Type 0
-KeepMarkers r = (g : GrammarView) → r.grammar ≡ Some g → AreMarkersKept r g
-
--- the reason is true, whatever the host
-abbrev pub IsMarkReason : ResolvedParts → DeterminismRefusal → Type 0
-IsMarkReason r refusal = (g host : GrammarView) → r.grammar ≡ Some g → IsReason r g host refusal
 
 -- the reason is true beside this host's grammar with holes
 abbrev pub IsReasonBeside : ResolvedParts → GrammarView → DeterminismRefusal → Type 0
@@ -85,19 +71,7 @@ pub record IsMadeCertified (host : CertifiedView) (r : ResolvedParts) (operation
   pub host_certified : IsCertified host
   pub certified : IsCertifiedBeside host.resolved r operations
 
--- attributes are complete as an extension's, keep to their flow types, and so do equations for forwarded trees
-pub record AttributesOk (a : AttributionParts) (start : Option ℕ) : Type 0 where
-  pub complete : CompleteOk a start (Some 1)
-  pub flows : FlowsOk a
-  pub forwards : ForwardEquationsReach a 1
-
 -- where expressions are of their kinds over some operations, the refusal is true
 abbrev pub IsLaterRefusal : (host r : ResolvedParts) → CertifyRefusal → Type 0
 IsLaterRefusal host r refusal = (operations : List OperationSignature) → KindsOk r.attributes operations
     → IsBesideRefusal host r operations refusal
-
--- a rule of attributes fails for this reason; out of memory says nothing and is in no other reason
-abbrev pub IsAttributesReason : ResolvedParts → CertifyRefusal → Type 0
-IsAttributesReason r (c.Attributes refusal) = IsAttributeRefusal r.attributes (start_of r) refusal × ¬ IsAttributeMemory refusal
-IsAttributesReason r (c.NoMemory error) = Unit {0}
-IsAttributesReason r other = ⊥

@@ -5,7 +5,8 @@ use Rattle.wb_determinism.specs.Extensions.{IsDeterministicExtension}
 use Rattle.wb_determinism.specs.Refusals.{IsExtensionRefusal}
 use Rattle.wb_determinism_host.specs.declared.refusal.DeterminismRefusal.{DeterminismRefusal}
 use Rattle.wb_lemmas.proofs.Refusals.{handed_on}
-use Rattle.wb_certify.specs.Inner.Tests.{AreClearBeside, IsMarkReason, IsReasonBeside}
+use Rattle.wb_certify.specs.Tests.{IsMarkReason}
+use Rattle.wb_certify.specs.Inner.Tests.{AreClearBeside, IsReasonBeside}
 use Rattle.wb_certify.proofs.BesideLemmas.{with_some}
 use Rattle.wb_certify.proofs.DeterminismLemmas.{asked_beside, clear_beside, whole_reason}
 use Rattle.wb_certify.proofs.determinism.determinism_beside.Goals as goal

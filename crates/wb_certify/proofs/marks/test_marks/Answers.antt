@@ -1,6 +1,6 @@
 use Rattle.std.proofs.lemmas.Result.{IfOk-weaker}
 use Rattle.wb_determinism_host.specs.Hosts.{AreAcyclic}
-use Rattle.wb_certify.specs.Inner.Tests.{KeepMarkers}
+use Rattle.wb_certify.specs.Tests.{KeepMarkers}
 use Rattle.wb_certify.proofs.marks.test_marks.Goals as goal
 
 pub returns-clause-acyclic : goal.returns-clause-acyclic

@@ -1,6 +1,6 @@
 use Rattle.wb_lemmas.proofs.Refusals.{handed_on}
 use Rattle.wb_certify_host.specs.Refusals.{IsValueRefusal}
-use Rattle.wb_certify_host.specs.Inner.Tests.{IsGrammarRefusal, IsKindRefusal}
+use Rattle.wb_certify_host.specs.Tests.{IsGrammarRefusal, IsKindRefusal}
 use Rattle.wb_certify_host.proofs.RefusalLemmas.{attributes_refused, grammar_refused, kinds_refused}
 use Rattle.wb_certify_host.proofs.ValueLemmas.{certified}
 use Rattle.wb_certify_host.proofs.value.certified_parts.Goals as goal

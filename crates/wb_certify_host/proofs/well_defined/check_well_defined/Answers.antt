@@ -1,6 +1,6 @@
 use Rattle.wb_lemmas.proofs.Refusals.{handed_on}
 use Rattle.wb_certify_host.specs.WellDefined.{IsWellDefinedRefusal}
-use Rattle.wb_certify_host.specs.Inner.Tests.{IsKindRefusal}
+use Rattle.wb_certify_host.specs.Tests.{IsKindRefusal}
 use Rattle.wb_certify_host.proofs.RefusalLemmas.{attributes_ill_defined, attributes_well_defined, kinds_ill_defined}
 use Rattle.wb_certify_host.proofs.well_defined.check_well_defined.Goals as goal
 
