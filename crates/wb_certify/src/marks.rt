@@ -4,6 +4,7 @@
 
 ghost use Rattle.std.specs.Prelude.{◌≡◌, IfErr, IfOk, IsSome};
 ghost use Rattle.wb_determinism_host.specs.Hosts.{AreAcyclic};
+ghost use Rattle.wb_determinism_host.specs.Refusals.{IsBeforeConflict};
 ghost use Rattle.wb_certify.specs.Tests.{IsMarkReason, KeepMarkers};
 ghost use Rattle.wb_certify.specs.Inner.Tests.{HaveBridges};
 
@@ -21,6 +22,7 @@ pub fn test_marks(alloc: Global, resolved: &Resolved) -> Result<(), DeterminismR
     ensures ok { IfOk result (λ done. KeepMarkers resolved.now) }
     ensures acyclic { IfOk result (λ done. AreAcyclic resolved.now) }
     ensures refused { IfErr result (IsMarkReason resolved.now) }
+    ensures early { IfErr result IsBeforeConflict }
 {
     test_bridges(alloc, resolved)?;
     test_preferences(alloc, resolved)?;
@@ -32,6 +34,7 @@ fn test_bridges(alloc: Global, resolved: &Resolved) -> Result<(), DeterminismRef
     requires { IsSome resolved.now.grammar }
     ensures ok { IfOk result (λ done. HaveBridges resolved.now) }
     ensures refused { IfErr result (IsMarkReason resolved.now) }
+    ensures early { IfErr result IsBeforeConflict }
 {
     match check_bridges(alloc, resolved) {
         Ok(()) => Ok(()),
@@ -45,6 +48,7 @@ fn test_preferences(alloc: Global, resolved: &Resolved) -> Result<(), Determinis
     requires { HaveBridges resolved.now }
     ensures ok { IfOk result (λ done. AreAcyclic resolved.now) }
     ensures refused { IfErr result (IsMarkReason resolved.now) }
+    ensures early { IfErr result IsBeforeConflict }
 {
     let parts = resolved.parts();
     let pairs = pairs_of(alloc, parts.preferences.as_slice())?;
@@ -63,6 +67,7 @@ fn test_clashes(alloc: Global, resolved: &Resolved) -> Result<(), DeterminismRef
     requires acyclic { AreAcyclic resolved.now }
     ensures ok { IfOk result (λ done. KeepMarkers resolved.now) }
     ensures refused { IfErr result (IsMarkReason resolved.now) }
+    ensures early { IfErr result IsBeforeConflict }
 {
     match check_clashes(alloc, resolved) {
         Ok(()) => Ok(()),
