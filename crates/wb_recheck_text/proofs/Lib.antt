@@ -4,6 +4,7 @@ mod LawLemmas
 mod LineLemmas
 mod NameLemmas
 mod NumberLemmas
+mod OneLemmas
 mod PrintLemmas
 mod ProgressLemmas
 mod ReservedLemmas

@@ -23,7 +23,7 @@ abbrev pub certificate_of : Head → List Line → List Entry → Certificate
 certificate_of head lines entries = record { head = head; lines = lines; entries = entries }
 
 -- a certificate's text is that of its head and of its lines and entries
-certificate_parts : (c : Certificate) → certificate_text c ≡ top_text c.head ++ body_text c.lines c.entries
+pub certificate_parts : (c : Certificate) → certificate_text c ≡ top_text c.head ++ body_text c.lines c.entries
 certificate_parts c = sym (append_assoc (codes "certificate 1\n") (head_text c.head) (body_text c.lines c.entries))
 
 -- after the head
