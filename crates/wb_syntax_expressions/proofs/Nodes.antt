@@ -1,7 +1,6 @@
 -- How many nodes expressions have, and where they come after others.
-use Rattle.std.proofs.Common.{◌≡◌, ◌+◌, ◌-◌, ℕ, List, [], ◌∷◌, ◌++◌, refl, length, arith}
+use Rattle.std.proofs.Common.{◌≡◌, ◌+◌, ◌-◌, ℕ, [], ◌∷◌, ◌++◌, refl, length, arith}
 use Rattle.std.proofs.lemmas.List.{length-append}
-use Rattle.wb_syntax_expressions.specs.declared.node.Node.{Node}
 use Rattle.wb_syntax_expressions.specs.declared.node.Node.TheVariants as n
 use Rattle.wb_syntax_expressions.specs.Expression.{Expression, Expressions, Int, Text, Truth, Label, Read, Lexeme, Top, Forward, Build}
 use Rattle.wb_syntax_expressions.specs.Expression.{Call, If}

@@ -1,14 +1,14 @@
 -- The parts of each node of a whole expression are before it.
-use Rattle.std.proofs.Common.{◌≡◌, ◌<◌, ◌≤◌, ◌+◌, ◌-◌, ℕ, zero, suc, List, [], ◌∷◌, ◌++◌, refl, sym, subst, arith, get_or, length}
+use Rattle.std.proofs.Common.{◌≡◌, ◌<◌, ◌+◌, ◌-◌, ℕ, zero, suc, List, [], ◌∷◌, ◌++◌, sym, subst, arith, get_or, length}
 use Rattle.std.proofs.Common.{length-append, All}
 use Rattle.std.proofs.lemmas.List.Elements.{All-nil, All-cons, All-weaker}
 use Rattle.wb_syntax_expressions.specs.declared.node.Node.{Node}
 use Rattle.wb_syntax_expressions.specs.declared.node.Node.TheVariants as n
 use Rattle.wb_syntax_expressions.specs.Expression.{Expression, Expressions, Int, Text, Truth, Label, Read, Lexeme, Top, Forward, Build}
 use Rattle.wb_syntax_expressions.specs.Expression.{Call, If}
-use Rattle.wb_syntax_expressions.specs.Expression.{none, more, size, size_of_all, nodes_from, all_nodes_from, places_from, nodes_of}
+use Rattle.wb_syntax_expressions.specs.Expression.{none, more, size, size_of_all, nodes_from, all_nodes_from, places_from}
 use Rattle.wb_syntax_expressions.specs.Expression.{IsWhole}
-use Rattle.wb_syntax_expressions.specs.Places.{HasNode, HasPartsBefore, parts_of}
+use Rattle.wb_syntax_expressions.specs.Places.{HasPartsBefore, parts_of}
 use Rattle.wb_syntax_expressions.proofs.Nodes.{nodes_len, all_nodes_len}
 use Rattle.wb_syntax_expressions.proofs.PlaceLemmas.{size_some}
 

@@ -86,3 +86,23 @@ module _ {L A P O : Type 0} where
 -- the nodes are one whole expression
 abbrev pub IsWhole : {L A P O : Type 0} → List (Node L A P O) → Type 0
 IsWhole {L} {A} {P} {O} nodes = (e : Expression L A P O) × (nodes ≡ nodes_of e)
+
+module _ {L A P O : Type 0} where
+  -- the node names no label, attribute, production or operation
+  abbrev pub NamesNothing : Node L A P O → Type 0
+  NamesNothing (n.Label label) = ⊥
+  NamesNothing (n.Read label attribute) = ⊥
+  NamesNothing (n.Lexeme label) = ⊥
+  NamesNothing (n.Top attribute) = ⊥
+  NamesNothing (n.Forward attribute) = ⊥
+  NamesNothing (n.Build production children) = ⊥
+  NamesNothing (n.Call operation arguments) = ⊥
+  NamesNothing node = Unit {0}
+
+  -- the first node names nothing, and the second is the same among nodes whose names are given otherwise
+  abbrev pub IsSameNode : {M B Q N : Type 0} → Node L A P O → Node M B Q N → Type 0
+  IsSameNode (n.Int z) to = to ≡ n.Int z
+  IsSameNode (n.Text text) to = to ≡ n.Text text
+  IsSameNode (n.Bool truth) to = to ≡ n.Bool truth
+  IsSameNode (n.If condition holds fails) to = to ≡ n.If condition holds fails
+  IsSameNode node to = ⊥
