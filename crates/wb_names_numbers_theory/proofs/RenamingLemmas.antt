@@ -14,9 +14,6 @@ module _ {L M A B P Q O : Type 0} (R : L → M → Type 0) (S : A → B → Type
   pub one_node : ((l : L) (x y : M) → R l x → R l y → x ≡ y) → ((a : A) (x y : B) → S a x → S a y → x ≡ y)
       → ((p : P) (x y : Q) → T p x → T p y → x ≡ y)
       → (node : Node L A P O) (x y : Node M B Q O) → IsRenamedNode R S T node x → IsRenamedNode R S T node y → x ≡ y
-  one_node label attribute production (n.Int z) x y e f = e ∙ sym f
-  one_node label attribute production (n.Text s) x y e f = e ∙ sym f
-  one_node label attribute production (n.Bool b) x y e f = e ∙ sym f
   one_node label attribute production (n.Label l) x y e f = e.2 ∙ (ap n.Label (label l e.0 f.0 e.1 f.1) ∙ sym f.2)
   one_node label attribute production (n.Read l a) x y e f =
       e.4 ∙ (ap (λ k. n.Read k e.1) (label l e.0 f.0 e.2 f.2) ∙ (ap (λ k. n.Read f.0 k) (attribute a e.1 f.1 e.3 f.3) ∙ sym f.4))
@@ -25,8 +22,7 @@ module _ {L M A B P Q O : Type 0} (R : L → M → Type 0) (S : A → B → Type
   one_node label attribute production (n.Forward a) x y e f = e.2 ∙ (ap n.Forward (attribute a e.0 f.0 e.1 f.1) ∙ sym f.2)
   one_node label attribute production (n.Build p places) x y e f =
       e.2 ∙ (ap (λ k. n.Build k places) (production p e.0 f.0 e.1 f.1) ∙ sym f.2)
-  one_node label attribute production (n.Call o places) x y e f = e ∙ sym f
-  one_node label attribute production (n.If c h g) x y e f = e ∙ sym f
+  one_node label attribute production node x y e f = e ∙ sym f
 
   -- the one that a list of one is beside
   one_beside : (node : Node L A P O) (others : List (Node M B Q O)) → AreRenamedNodes R S T (node ∷ []) others
