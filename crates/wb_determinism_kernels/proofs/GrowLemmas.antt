@@ -2,6 +2,7 @@
 use Rattle.std.proofs.Common.{◌≡◌, ◌+◌, ◌<◌, ◌∙◌, ◌∷◌, ◌++◌, [], List, ℕ, Some, length, map, refl, sym, ap, subst, inl, inr, arith}
 use Rattle.std.proofs.Common.{length-append}
 use Rattle.std.specs.Prelude.{Contains, Option, slice_get}
+use Rattle.std.proofs.lemmas.Bool.{cases_lt}
 use Rattle.std.proofs.lemmas.Option.{slice_get_within}
 use Rattle.wb_lemmas.proofs.Places.{at_push, push_keeps, push_last}
 use Rattle.wb_base.specs.declared.symbol.Symbol.{Symbol}
@@ -20,7 +21,7 @@ use Rattle.wb_determinism_kernels.specs.declared.numbers.Numbers.{Numbers}
 use Rattle.wb_determinism_kernels.specs.Given.{IsGiven}
 use Rattle.wb_determinism_kernels.specs.NewKernels.{IndexView, prefix_beside, prefixes_beside}
 use Rattle.wb_determinism_kernels.specs.Numbers.{up_by}
-use Rattle.wb_determinism_kernels.specs.Inner.Growing.{AreFoundSoFar, Grows, IsAdded, IsHostNumber, IsNoHostKernel}
+use Rattle.wb_determinism_kernels.specs.Inner.Growing.{AreFoundSoFar, Grows, IsAdded, IsFollowing, IsHostNumber, IsNoHostKernel}
 use Rattle.wb_determinism_kernels.proofs.NumberLemmas.{contains_map, map_contains}
 use Rattle.wb_determinism_kernels.proofs.PrefixLemmas.{beside_at, beside_len, beside_push, host_at, host_is}
 
@@ -72,6 +73,7 @@ none_found {host} {k} {m} given = record {
   sorted = λ i kernel there. cc;
   foreign = λ i kernel there. cc;
   once = λ i j kernel other there there' same. cc;
+  following = λ i lt. absurd (omega (arith, lt));
 }
   where
     viable : (n : ℕ) (prefix : List Symbol) → slice_get (prefixes_beside (up_by m) host []) n ≡ Some prefix → IsViablePrefix k prefix
@@ -252,7 +254,30 @@ module _ {host : KernelsView} {k : GrammarView} {m : Numbers} {images : List (Op
           | inr last' ↦ last.0 ∙ sym last'.0
         ]
       ];
+      following = λ i lt. elim (cases_lt i (length old.steps)) [
+        | inl before ↦ still (count_of host + i) (so_far.following i before)
+        | inr past ↦
+            let e : length old.kernels ≡ i = (let f = so_far.len in
+            omega (arith, f, lt, past, length-append {A = Step} old.steps (step ∷ []))) in
+            subst (λ j. IsFollowing host k (up_by m) added (count_of host + j)) e last
+      ];
     }
+      where
+        still : (n : ℕ) → IsFollowing host k (up_by m) old n → IsFollowing host k (up_by m) added n
+        still n f = record {
+          from = f.from;
+          symbol = f.symbol;
+          before = f.before;
+          leads = leads_grows old added grows f.leads;
+        }
+
+        last : IsFollowing host k (up_by m) added (count_of host + length old.kernels)
+        last = record {
+          from = from;
+          symbol = x;
+          before = (let f = so_far.len in omega (arith, within, f));
+          leads = leads;
+        }
 
     -- the kernel is new
     pub leads_new : (new : IndexView) →

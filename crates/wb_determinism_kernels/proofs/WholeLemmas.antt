@@ -282,6 +282,12 @@ module _ {host : KernelsView} {k : GrammarView} {m : Numbers} {images : List (Op
               let same : n' ≡ n = once n' n (y'.1) (y.1) (same_then y'.3 (same_back y.3)) in
               subst (λ c. Contains row (record { symbol = x; state = c })) same in_row,
         );
+    reached = λ i lt. (let f = started.so_far.following i lt in record {
+      from = f.from;
+      symbol = f.symbol;
+      before = f.before;
+      leads = next f.leads;
+    });
     starts = started.starts_are;
     started = λ marker s below ne viable. start_for marker s below ne viable;
   }

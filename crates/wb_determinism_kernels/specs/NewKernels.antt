@@ -67,9 +67,15 @@ module _ (host : KernelsView) (k : GrammarView) (m : Numbers) (images : List (Op
   abbrev pub count_with : ℕ
   count_with = count_of host + length new.index.steps
 
+  -- some symbol leads to the number from a lower one
+  pub record IsLedToBeside (n : ℕ) : Type 0 where
+    pub from : ℕ
+    pub symbol : Symbol
+    pub before : from < n
+    pub leads : IsNext k count_with prefix_with from symbol n
+
   -- the numbers are those of the kernels of the host with the extension, the host's first; each new number has its kernel, its items and
-  -- its
-  -- moves; and there is a start for each marker that is somewhere after a prefix of the host
+  -- its moves, and is reached from a lower one; and there is a start for each marker that is somewhere after a prefix of the host
   pub record AreNewKernels : Type 0 where
     pub found : AreFound host.grammar k (up_by m) (phi_by m images) (count_of host) count_with prefix_with (prefix_of host)
     pub states : AreStates k count_with prefix_with (IsNext k count_with prefix_with)
@@ -82,6 +88,7 @@ module _ (host : KernelsView) (k : GrammarView) (m : Numbers) (images : List (Op
         ListsItems k (prefix_with (count_of host + i)) closure
     pub moves : (i : ℕ) (row : List Move) → slice_get new.moves i ≡ Some row → (x : Symbol) (next : ℕ) →
         Contains row (record { symbol = x; state = next }) ↔ IsNext k count_with prefix_with (count_of host + i) x next
+    pub reached : (i : ℕ) → i < length new.index.steps → IsLedToBeside (count_of host + i)
     pub starts : (i : ℕ) (start : Start) → slice_get new.starts i ≡ Some start →
         IsStart host k m images (prefixes_beside (up_by m) host new.index.steps) start
     pub started : (marker s : ℕ) → s < count_of host → phi_by m images marker ≢ marker →

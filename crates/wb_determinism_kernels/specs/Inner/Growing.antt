@@ -29,7 +29,15 @@ pub record IsHostNumber (host : KernelsView) (up : Renaming) (items : List Item)
   pub lists : ListsKernel host.grammar (prefix_of host n) own
 
 module _ (host : KernelsView) (k : GrammarView) (up : Renaming) where
-  -- each number has a viable prefix; each new one its kernel, in order, which is no kernel of the host; and no two have the same
+  -- some symbol leads to the number from a lower one
+  pub record IsFollowing (found : IndexView) (n : ℕ) : Type 0 where
+    pub from : ℕ
+    pub symbol : Symbol
+    pub before : from < n
+    pub leads : Leads k (prefixes_beside up host found.steps) from symbol n
+
+  -- each number has a viable prefix; each new one its kernel, in order, which is no kernel of the host; no two have the same;
+  -- and each is led to from a lower number
   pub record AreFoundSoFar (found : IndexView) : Type 0 where
     pub len : length found.kernels ≡ length found.steps
     pub viable : (n : ℕ) (prefix : List Symbol) → slice_get (prefixes_beside up host found.steps) n ≡ Some prefix → IsViablePrefix k prefix
@@ -40,6 +48,7 @@ module _ (host : KernelsView) (k : GrammarView) (up : Renaming) where
     pub foreign : (i : ℕ) (kernel : List Item) → slice_get found.kernels i ≡ Some kernel → IsNoHostKernel host up kernel
     pub once : (i j : ℕ) (kernel other : List Item) → slice_get found.kernels i ≡ Some kernel → slice_get found.kernels j ≡ Some other →
         SameItems kernel other → i ≡ j
+    pub following : (i : ℕ) → i < length found.steps → IsFollowing found (count_of host + i)
 
   -- prefixes and kernels are where they were
   pub record Grows (old new : IndexView) : Type 0 where
