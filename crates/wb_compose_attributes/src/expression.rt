@@ -70,9 +70,6 @@ fn new_node(alloc: Global, numbers: &Numbers, node: &Node) -> Result<Node, Alloc
     ensures { IfOk result (λ made. made ≡ rows.new_node (map_of numbers.now) 0 node.now) }
 {
     match node {
-        Node::Int(number) => Ok(Node::Int(*number)),
-        Node::Text(text) => Ok(Node::Text(text.copy()?)),
-        Node::Bool(truth) => Ok(Node::Bool(*truth)),
         Node::Label(label) => Ok(Node::Label(new_place(numbers, *label)?)),
         Node::Read { label, attribute } => {
             let label = new_place(numbers, *label)?;
@@ -103,15 +100,7 @@ fn new_node(alloc: Global, numbers: &Numbers, node: &Node) -> Result<Node, Alloc
                 arguments,
             })
         }
-        Node::If {
-            condition,
-            holds,
-            fails,
-        } => Ok(Node::If {
-            condition: *condition,
-            holds: *holds,
-            fails: *fails,
-        }),
+        _ => node.without_names(),
     }
 }
 

@@ -79,9 +79,6 @@ fn moved_node(alloc: Global, moves: &Moves, node: &Node) -> Result<Node, AllocEr
     ensures { IfOk result (IsNodeNow moves.now node.now) }
 {
     match node {
-        Node::Int(number) => Ok(Node::Int(*number)),
-        Node::Text(text) => Ok(Node::Text(text.copy()?)),
-        Node::Bool(truth) => Ok(Node::Bool(*truth)),
         Node::Label(place) => Ok(Node::Label(*place)),
         Node::Read { label, attribute } => Ok(Node::Read {
             label: *label,
@@ -98,15 +95,7 @@ fn moved_node(alloc: Global, moves: &Moves, node: &Node) -> Result<Node, AllocEr
             operation,
             arguments,
         } => called(alloc, operation, arguments.as_slice()),
-        Node::If {
-            condition,
-            holds,
-            fails,
-        } => Ok(Node::If {
-            condition: *condition,
-            holds: *holds,
-            fails: *fails,
-        }),
+        _ => node.without_names(),
     }
 }
 

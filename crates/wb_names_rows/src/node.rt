@@ -42,9 +42,6 @@ fn written_node(
     ensures { IfOk result (IsFoundNode scope.now labels.now node.now) }
 {
     match node {
-        Written::Int(number) => Ok(Node::Int(*number)),
-        Written::Text(text) => Ok(Node::Text(text.copy()?)),
-        Written::Bool(truth) => Ok(Node::Bool(*truth)),
         Written::Label(label) => Ok(Node::Label(place_of(labels, label.as_slice()))),
         Written::Read { label, attribute } => Ok(Node::Read {
             label: place_of(labels, label.as_slice()),
@@ -64,15 +61,7 @@ fn written_node(
             operation,
             arguments,
         } => called(alloc, operation, arguments.as_slice()),
-        Written::If {
-            condition,
-            holds,
-            fails,
-        } => Ok(Node::If {
-            condition: *condition,
-            holds: *holds,
-            fails: *fails,
-        }),
+        _ => node.without_names(),
     }
 }
 
