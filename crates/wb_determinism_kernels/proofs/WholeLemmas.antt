@@ -270,6 +270,7 @@ module _ {host : KernelsView} {k : GrammarView} {m : Numbers} {images : List (Op
     moves_len = followed.len ∙ (all ∙ started.so_far.len);
     kernels = λ i kernel there. started.so_far.exact i (prefix (own + i)) kernel (at (own + i)
         (let w = slice_get_within new.index.kernels i kernel there in let e = started.so_far.len in omega (arith, w, e))) there;
+    in_order = started.so_far.sorted;
     closures = λ i closure there. followed.exact i (prefix (own + i)) closure (at (own + i)
         (let w = slice_get_within new.closures i closure there in let e = started.so_far.len in omega (arith, w, e, all))) there;
     moves = λ i row there x n.

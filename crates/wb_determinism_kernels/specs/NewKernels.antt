@@ -9,7 +9,7 @@ use Rattle.wb_grammar_theory.specs.Items.{HasItem, IsViablePrefix, initial_item}
 use Rattle.wb_grammar_theory.specs.Productions.{IsProduction}
 use Rattle.wb_grammar_theory.specs.States.{AreStates, IsNext}
 use Rattle.wb_items.specs.declared.transitions.Move.{Move}
-use Rattle.wb_items.specs.Kernels.{KernelsView, ListsItems, ListsKernel, count_of, prefix_of}
+use Rattle.wb_items.specs.Kernels.{AreInOrder, KernelsView, ListsItems, ListsKernel, count_of, prefix_of}
 use Rattle.wb_items.specs.Table.{Leads}
 use Rattle.wb_compose_theory.specs.Renamings.{Renaming, renamed}
 use Rattle.wb_determinism_theory.specs.Beside.{AreFound}
@@ -74,8 +74,8 @@ module _ (host : KernelsView) (k : GrammarView) (m : Numbers) (images : List (Op
     pub before : from < n
     pub leads : IsNext k count_with prefix_with from symbol n
 
-  -- the numbers are those of the kernels of the host with the extension, the host's first; each new number has its kernel, its items and
-  -- its moves, and is reached from a lower one; and there is a start for each marker that is somewhere after a prefix of the host
+  -- the numbers are those of the kernels of the host with the extension, the host's first; each new number has its kernel, in order, its
+  -- items and its moves, and is reached from a lower one; and there is a start for each marker that is somewhere after a prefix of the host
   pub record AreNewKernels : Type 0 where
     pub found : AreFound host.grammar k (up_by m) (phi_by m images) (count_of host) count_with prefix_with (prefix_of host)
     pub states : AreStates k count_with prefix_with (IsNext k count_with prefix_with)
@@ -84,6 +84,7 @@ module _ (host : KernelsView) (k : GrammarView) (m : Numbers) (images : List (Op
     pub moves_len : length new.moves ≡ length new.index.steps
     pub kernels : (i : ℕ) (kernel : List Item) → slice_get new.index.kernels i ≡ Some kernel →
         ListsKernel k (prefix_with (count_of host + i)) kernel
+    pub in_order : (i : ℕ) (kernel : List Item) → slice_get new.index.kernels i ≡ Some kernel → AreInOrder kernel
     pub closures : (i : ℕ) (closure : List Item) → slice_get new.closures i ≡ Some closure →
         ListsItems k (prefix_with (count_of host + i)) closure
     pub moves : (i : ℕ) (row : List Move) → slice_get new.moves i ≡ Some row → (x : Symbol) (next : ℕ) →
