@@ -1,5 +1,5 @@
 -- The lines of a command that comes to its end.
-use Rattle.std.specs.Prelude.{ℕ, List, ◌++◌}
+use Rattle.std.specs.Prelude.{ℕ, List, Option, Some, None, ◌++◌}
 use Rattle.std.specs.List.{flat_map}
 use Rattle.std.specs.Fmt.{decimal}
 use lib.Chars.{codes}
@@ -22,6 +22,11 @@ prefix_lines markers = flat_map (λ marker. codes "prefix " ++ marker ++ codes "
 abbrev pub marker_line : List ℕ → ℕ → List ℕ
 marker_line marker place = codes "marker " ++ marker ++ codes " at " ++ decimal place ++ codes "\n"
 
+-- a host that is certified by a certificate, and an extension that is too
+abbrev pub rechecked_lines : List ℕ → Option (List ℕ) → List ℕ
+rechecked_lines host None = codes "rechecked host " ++ host ++ codes "\n"
+rechecked_lines host (Some name) = codes "rechecked host " ++ host ++ codes "\nrechecked extension " ++ name ++ codes "\n"
+
 -- the report of what a command shows that comes to its end
 abbrev pub done_lines : Done → List ℕ
 done_lines (d.Value attribute value) = value_line attribute value
@@ -32,5 +37,6 @@ done_lines (d.Composed host extensions prefixed) =
 done_lines (d.Tree text) = text ++ codes "\n"
 done_lines (d.Generated leaves bytes attribute value) =
     codes "leaves " ++ decimal leaves ++ codes "\nbytes " ++ decimal bytes ++ codes "\n" ++ value_line attribute value
+done_lines (d.Rechecked host extension) = rechecked_lines host extension
 done_lines d.HostReading = codes "host reading\n"
 done_lines (d.MarkerAt marker place) = marker_line marker place

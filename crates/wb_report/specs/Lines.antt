@@ -8,14 +8,9 @@ use Rattle.wb_report.specs.Done.{done_lines}
 use Rattle.wb_report.specs.Parts.{stop_text}
 use Rattle.wb_report.specs.Reasons.{refusal_text}
 
--- for words that are no command
-abbrev pub usage_line : List ℕ
-usage_line = codes "usage: workbench value|show|check|certify|compose|tree|run|generate|reading ARGUMENTS\n"
-
 -- the lines of an outcome
 abbrev pub report_of : Outcome → List ℕ
 report_of (o.Done done) = done_lines done
-report_of o.Usage = usage_line
 report_of (o.Refused file refusal) = codes "refused " ++ file ++ codes " " ++ refusal_text refusal ++ codes "\n"
 report_of (o.Stopped place stop) = codes "stopped at " ++ decimal place ++ codes " " ++ stop_text stop ++ codes "\n"
 report_of (o.Fault operation code) = codes "fault " ++ operation ++ codes " " ++ decimal code ++ codes "\n"

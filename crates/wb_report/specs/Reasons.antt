@@ -4,6 +4,8 @@ use Rattle.std.specs.Fmt.{decimal}
 use lib.Chars.{codes}
 use Rattle.wb_report.specs.declared.attribute_reason.AttributeReason.{AttributeReason}
 use Rattle.wb_report.specs.declared.attribute_reason.AttributeReason.TheVariants as a
+use Rattle.wb_report.specs.declared.certificate_reason.CertificateReason.{CertificateReason}
+use Rattle.wb_report.specs.declared.certificate_reason.CertificateReason.TheVariants as k
 use Rattle.wb_report.specs.declared.extension_reason.ExtensionReason.{ExtensionReason}
 use Rattle.wb_report.specs.declared.extension_reason.ExtensionReason.TheVariants as e
 use Rattle.wb_report.specs.declared.grammar_reason.GrammarReason.{GrammarReason}
@@ -78,6 +80,13 @@ term_text (t.Syntax offset) = codes "T1 at " ++ decimal offset
 term_text (t.Unknown offset) = codes "T2 at " ++ decimal offset
 term_text (t.WrongChild offset) = codes "T3 at " ++ decimal offset
 
+-- the rules of certificates
+abbrev pub certificate_text : CertificateReason → List ℕ
+certificate_text (k.Syntax offset) = codes "K1 at " ++ decimal offset
+certificate_text (k.WrongLine line) = codes "K2 line " ++ decimal line
+certificate_text (k.Missing kernel) = codes "K3 kernel " ++ decimal kernel
+certificate_text k.TooLong = codes "K4"
+
 -- why a file is refused
 abbrev pub refusal_text : Refusal → List ℕ
 refusal_text (r.Specification reason) = spec_text reason
@@ -85,3 +94,4 @@ refusal_text (r.Grammar reason) = grammar_text reason
 refusal_text (r.Extension reason) = extension_text reason
 refusal_text (r.Attributes reason) = attribute_text reason
 refusal_text (r.Term reason) = term_text reason
+refusal_text (r.Certificate reason) = certificate_text reason

@@ -3,7 +3,7 @@
 ghost use Rattle.std.specs.Prelude.{◌≡◌, ◌++◌, OnOk};
 ghost use Rattle.std.specs.Fmt.{decimal};
 ghost use lib.Chars.{codes};
-ghost use Rattle.wb_report.specs.Done.{done_lines, extension_lines, marker_line, prefix_lines, value_line};
+ghost use Rattle.wb_report.specs.Done.{done_lines, extension_lines, marker_line, prefix_lines, rechecked_lines, value_line};
 
 use crate::pieces::{Piece, push_line, push_pieces};
 use std::alloc::AllocError;
@@ -38,6 +38,11 @@ pub enum Done {
         bytes: usize,
         attribute: Bytes,
         value: Sequence<u8>,
+    },
+    /// A host is certified by a certificate, and so is this extension.
+    Rechecked {
+        host: Bytes,
+        extension: Option<Bytes>,
     },
     /// A text means to a host with extensions what it means to the host.
     HostReading,
@@ -80,6 +85,7 @@ pub(crate) fn push_done(out: &mut Vec<u8>, done: &Done) -> Result<(), AllocError
             push_size(out, *leaves, *bytes)?;
             push_value(out, attribute, value)
         }
+        Done::Rechecked { host, extension } => push_rechecked(out, host, extension),
         Done::HostReading => out.extend_from_slice(b"host reading\n"),
         Done::MarkerAt { marker, at } => push_marker(out, marker, *at),
     }
@@ -138,6 +144,29 @@ fn push_composed(out: &mut Vec<u8>, host: &Bytes, extensions: usize) -> Result<(
             Piece::Plain(b" extensions\n"),
         ],
     )
+}
+
+// Appends a line for a host that is certified by a certificate, and one for an extension.
+fn push_rechecked<'a>(
+    out: &mut Vec<u8>,
+    host: &'a Bytes,
+    extension: &'a Option<Bytes>,
+) -> Result<(), AllocError>
+    ensures { OnOk result (out.new.items ≡ out.old.items ++ rechecked_lines host.now extension.now) }
+{
+    match extension {
+        None => push_line(out, b"rechecked host ", host),
+        Some(name) => push_pieces(
+            out,
+            &[
+                Piece::Plain(b"rechecked host "),
+                Piece::Plain(host.as_slice()),
+                Piece::Plain(b"\nrechecked extension "),
+                Piece::Plain(name.as_slice()),
+                Piece::Plain(b"\n"),
+            ],
+        ),
+    }
 }
 
 // Appends the line of a marker at a place.

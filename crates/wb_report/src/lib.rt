@@ -4,6 +4,7 @@
 #![tactic(auto)]
 
 mod attribute_reason;
+mod certificate_reason;
 mod done;
 mod extension_reason;
 mod grammar_reason;
@@ -15,6 +16,7 @@ mod shown;
 mod spec_reason;
 
 pub use attribute_reason::AttributeReason;
+pub use certificate_reason::CertificateReason;
 pub use done::Done;
 pub use extension_reason::ExtensionReason;
 pub use grammar_reason::GrammarReason;

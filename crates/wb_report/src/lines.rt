@@ -32,9 +32,6 @@ fn push_outcome(out: &mut Vec<u8>, outcome: &Outcome) -> Result<(), AllocError>
 {
     match outcome {
         Outcome::Done(done) => push_done(out, done),
-        Outcome::Usage => out.extend_from_slice(
-            b"usage: workbench value|show|check|certify|compose|tree|run|generate|reading ARGUMENTS\n",
-        ),
         Outcome::Refused { file, refusal } => push_refused(out, file, refusal),
         Outcome::Stopped { at, stop } => push_stopped(out, *at, stop),
         Outcome::Fault { operation, code } => push_fault(out, operation, *code),

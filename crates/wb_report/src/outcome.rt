@@ -8,8 +8,6 @@ use wb_base::Bytes;
 pub enum Outcome {
     /// It comes to its end.
     Done(Done),
-    /// The words are no command.
-    Usage,
     /// A file is refused.
     Refused { file: Bytes, refusal: Refusal },
     /// A text stops at a place, in bytes from its beginning.

@@ -187,7 +187,7 @@ pub(crate) fn push_name(out: &mut Vec<u8>, text: &[u8], name: &Bytes) -> Result<
     out.extend_from_slice(name.as_slice())
 }
 
-// Appends a text and an offset.
+// Appends a text and a number.
 pub(crate) fn push_offset(out: &mut Vec<u8>, text: &[u8], offset: usize) -> Result<(), AllocError>
     ensures { OnOk result (out.new.items ≡ out.old.items ++ (text.now ++ decimal offset)) }
 {

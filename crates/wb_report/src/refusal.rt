@@ -4,10 +4,13 @@ ghost use Rattle.std.specs.Prelude.{◌≡◌, ◌++◌, OnOk};
 ghost use Rattle.wb_report.specs.Reasons.{refusal_text};
 
 use crate::attribute_reason::push_attribute_reason;
+use crate::certificate_reason::push_certificate_reason;
 use crate::extension_reason::push_extension_reason;
 use crate::grammar_reason::push_grammar_reason;
 use crate::spec_reason::{push_spec_reason, push_term_reason};
-use crate::{AttributeReason, ExtensionReason, GrammarReason, SpecReason, TermReason};
+use crate::{
+    AttributeReason, CertificateReason, ExtensionReason, GrammarReason, SpecReason, TermReason,
+};
 use std::alloc::AllocError;
 
 /// Why a file is refused, by what its rule speaks of.
@@ -23,6 +26,8 @@ pub enum Refusal {
     Attributes(AttributeReason),
     /// Terms.
     Term(TermReason),
+    /// Certificates.
+    Certificate(CertificateReason),
 }
 
 // Appends why a file is refused.
@@ -35,5 +40,6 @@ pub(crate) fn push_refusal(out: &mut Vec<u8>, refusal: &Refusal) -> Result<(), A
         Refusal::Extension(reason) => push_extension_reason(out, reason),
         Refusal::Attributes(reason) => push_attribute_reason(out, reason),
         Refusal::Term(reason) => push_term_reason(out, reason),
+        Refusal::Certificate(reason) => push_certificate_reason(out, reason),
     }
 }
