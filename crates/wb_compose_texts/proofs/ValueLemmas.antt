@@ -1,15 +1,18 @@
 -- An attribute of the host has at the root of a text without markers what it has by the host alone.
 use Rattle.std.proofs.Common.{◌≡◌, ◌∙◌, [], ℕ, Bool, List, map, refl, sym, subst}
 use Rattle.wb_base.specs.Different.{Differ}
+use Rattle.wb_eval_theory.specs.Answers.{HasAnswer}
+use Rattle.wb_eval_theory.specs.Instances.{root, synthesized_at}
+use Rattle.wb_eval_theory.specs.Needed.{NeedsMoreThan}
 use Rattle.wb_eval_theory.specs.Walks.{Outcome}
 use Rattle.wb_operations.specs.Operations.{Operations}
 use Rattle.wb_scan_theory.specs.Languages.{LanguageView}
 use Rattle.wb_syntax_resolved.specs.Attribution.{IsAttribution}
 use Rattle.wb_syntax_resolved.specs.declared.attribution.AttributionParts.{AttributionParts}
 use Rattle.wb_syntax_resolved.specs.declared.resolved.ResolvedParts.{ResolvedParts}
-use Rattle.wb_values.specs.Tree.{Tree}
+use Rattle.wb_terms.specs.Printed.{printed_value}
+use Rattle.wb_values.specs.Tree.{Tree, Value}
 use Rattle.wb_compose_theory_attributes.specs.Numbers.{NumberMap}
-use Rattle.wb_compose_theory_attribute_order.specs.Values.{renamed_outcome, renamed_value}
 use Rattle.wb_compose.specs.Written.{name_in}
 use Rattle.wb_eval_root.specs.Values.{ComesTo, HasPrintedValue, IsTreeValue}
 use Rattle.wb_eval_root.specs.declared.value.TreeValue.{TreeValue}
@@ -35,20 +38,21 @@ use Rattle.wb_compose_texts.proofs.UnionLemmas.{are_attribution, host_attributio
 module _ {s a : AttributionParts} {t : NumberMap} (is : IsAttribution s) (ok : IsAttribution a) (extends : ExtendsAttribution s a t)
     (alone : s.extensions ≡ []) where
   module _ (operations : Operations) (top : Tree) (same : HasSameAttributes s a t operations top) (y steps : ℕ) where
-    comes_there : (o : Outcome) → ComesTo s operations top y steps o →
-        ComesTo a operations top (t.attribute y) steps (renamed_outcome t o)
-    comes_there o comes = record {
-      has = (same.answers y o).0 comes.has;
-      within = λ needed. comes.within ((same.needs y steps).1 needed);
-    }
+    -- no more instances are needed by the other than there are steps
+    within_there : ¬ NeedsMoreThan s operations top (synthesized_at root y) steps →
+        ¬ NeedsMoreThan a operations top (synthesized_at root (t.attribute y)) steps
+    within_there within needed = within ((same.needs y steps).1 needed)
+
+    -- the value that the other has is printed so
+    printed_as : {given : Value} (printed : List ℕ) → HasAnswer a operations top (synthesized_at root (t.attribute y)) (Outcome.value given) →
+        ¬ NeedsMoreThan a operations top (synthesized_at root (t.attribute y)) steps → printed ≡ printed_value a.signatures given →
+        HasPrintedValue a operations top (t.attribute y) steps printed
+    printed_as {given} printed has within is = record { given = given; comes = record { has = has; within = within }; is = is }
 
     printed_there : (printed : List ℕ) → HasPrintedValue s operations top y steps printed →
         HasPrintedValue a operations top (t.attribute y) steps printed
-    printed_there printed has = record {
-      given = renamed_value t has.given;
-      comes = comes_there (Outcome.value has.given) has.comes;
-      is = has.is ∙ sym (value_alike is ok extends alone has.given);
-    }
+    printed_there printed has = printed_as printed ((same.answers y (Outcome.value has.given)).0 has.comes.has)
+        (within_there has.comes.within) (has.is ∙ sym (value_alike is ok extends alone has.given))
 
     -- and what comes of it
     pub value_there : (value : TreeValue) → IsTreeValue s operations top y steps value →
@@ -56,7 +60,10 @@ module _ {s a : AttributionParts} {t : NumberMap} (is : IsAttribution s) (ok : I
     value_there (v.Value printed) has = (printed_there printed has.0, has.1)
     value_there v.TooLong has = record { printed = has.printed; has = printed_there has.printed has.has; long = has.long }
     value_there (v.Fault operation code) has =
-        record { number = has.number; comes = comes_there (Outcome.fault has.number code) has.comes; is = has.is }
+        let comes : ComesTo a operations top (t.attribute y) steps (Outcome.fault has.number code) = record {
+          has = (same.answers y (Outcome.fault has.number code)).0 has.comes.has;
+          within = within_there has.comes.within;
+        } in record { number = has.number; comes = comes; is = has.is }
     value_there v.MoreSteps needed = (same.needs y steps).0 needed
 
 module _ (host : ResolvedParts) (operations : Operations) (extensions : List ResolvedParts) (differ : Differ (map name_in extensions))

@@ -1,12 +1,13 @@
--- A certified host by itself and with certified extensions, as both are composed.
+-- A certified host by itself and with certified extensions, as both are composed; and the words of `wb_compose` that callers speak of.
 use Rattle.std.specs.Prelude.{ℕ, Bool, List, [], map}
 use Rattle.wb_base.specs.Different.{Differ}
 use Rattle.wb_scan_theory.specs.Languages.{LanguageView}
 use Rattle.wb_syntax_resolved.specs.declared.attribution.AttributionParts.{AttributionParts}
 use Rattle.wb_certify.specs.Kept.{ExtensionView}
 use Rattle.wb_certify_host.specs.Hosts.{CertifiedView}
-use Rattle.wb_compose.specs.Composed.{IsComposed, name_of}
-use Rattle.wb_compose.specs.United.{IsOfUnion}
+pub use Rattle.wb_compose.specs.Composed.{IsComposed, IsWith, name_of}
+pub use Rattle.wb_compose.specs.United.{IsOfUnion}
+pub use Rattle.wb_compose.specs.Written.{name_in}
 use Rattle.wb_compose_texts.specs.Unions.{all_resolved}
 use Rattle.wb_compose_texts.specs.UnionMarkers.{AreUnionMarkers}
 

@@ -22,7 +22,7 @@ pub mod Values
 pub mod Generated
 -- which terminals of a union are markers
 pub mod UnionMarkers
--- a host by itself and with extensions, as both are composed
+-- a host by itself and with extensions, as both are composed, with the words of `wb_compose`
 pub mod Composed
 -- a text without markers in the language of a host with extensions
 pub mod HostReadings

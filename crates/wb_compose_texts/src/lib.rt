@@ -1,8 +1,8 @@
 //! Texts in the language of a certified host with certified extensions: the tree of a text, the values at its root, whether it means what it
 //! means to the host alone, and the text that a number makes.
 //!
-//! The language and its attributes are made in `wb_compose`; here their numbers get the names that reports show, the host's and then each
-//! extension's. Values of attributes of a tree are in `wb_eval_root`.
+//! The language and its attributes are made in `wb_compose`, whose calls are passed on; here their numbers get the names that reports show,
+//! the host's and then each extension's. Values of attributes of a tree are in `wb_eval_root`.
 #![tactic(auto)]
 
 mod expression_rows;
@@ -39,4 +39,5 @@ pub use text_reading::TextReading;
 pub use text_values::text_value;
 pub use trees::{united_name, united_stop, united_text_answer};
 pub use value::TextValue;
+pub use wb_compose::{Composed, compose, composed_attributes};
 pub use withdrawn::withdrawn_names;

@@ -12,8 +12,7 @@ use Rattle.wb_lemmas.proofs.Places.{at_push}
 use Rattle.wb_base.specs.Different.{Differ}
 use Rattle.wb_certify.specs.Kept.{ExtensionView}
 use Rattle.wb_certify_host.specs.Hosts.{CertifiedView}
-use Rattle.wb_compose.specs.Composed.{IsWith, name_of}
-use Rattle.wb_compose.specs.Written.{name_in}
+use Rattle.wb_compose_texts.specs.Composed.{IsWith, name_of, name_in}
 use Rattle.wb_certify_files.specs.ExtensionContents.{IsExtensionText}
 use Rattle.wb_certify_files.specs.Specifications.{IsHeaderRefusal, IsSpecFor}
 use Rattle.wb_certify_files.specs.declared.extension_refusal.FileRefusal.TheVariants as f

@@ -11,7 +11,7 @@ use Rattle.wb_world.specs.Shelf.{Files}
 use Rattle.wb_base.specs.Different.{Differ}
 use Rattle.wb_certify.specs.Kept.{ExtensionView}
 use Rattle.wb_certify_host.specs.Hosts.{CertifiedView}
-use Rattle.wb_compose.specs.Composed.{IsWith, name_of}
+use Rattle.wb_compose_texts.specs.Composed.{IsWith, name_of}
 use Rattle.wb_program.specs.Checks.{Report, Ends}
 use Rattle.wb_program.specs.Files.{KnownFile}
 use Rattle.wb_program.specs.declared.status.Status.TheVariants.{SpecRefused, NotCertified, WrongHost}

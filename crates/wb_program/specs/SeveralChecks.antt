@@ -1,6 +1,6 @@
 -- The checks of several extensions of a host, of which no two have one name, with which commands go on that compose them.
 use Rattle.std.specs.Prelude.{◌≡◌, ◌≤◌, ◌⊎◌, ◌++◌, ℕ, Option, List, [], ◌∷◌, Contains, length, map}
-use Rattle.wb_compose.specs.Written.{name_in}
+use Rattle.wb_compose_texts.specs.Composed.{name_in}
 use Rattle.wb_certify_files.specs.ExtensionContents.{IsExtensionText, IsExtensionRefusal}
 use Rattle.wb_certify_files.specs.Specifications.{IsHeaderRefusal, IsSpecFor}
 use Rattle.wb_certify_files.specs.declared.extension_refusal.FileRefusal.{FileRefusal}

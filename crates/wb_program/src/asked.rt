@@ -3,7 +3,7 @@
 //! The text's value, and the text that a number makes, are found by `wb_compose_texts`.
 
 ghost use Rattle.std.specs.Prelude.{◌≡◌, ◌≤◌, IfOk, ℕ, List, None, Some, length};
-ghost use Rattle.wb_compose.specs.Composed.{IsComposed};
+ghost use Rattle.wb_compose_texts.specs.Composed.{IsComposed};
 ghost use Rattle.wb_operations.specs.Kept.{IsKept};
 ghost use Rattle.wb_compose_texts.specs.Unions.{all_resolved};
 ghost use Rattle.wb_program.specs.Checks.{Check};
@@ -23,8 +23,7 @@ use std::alloc::{AllocError, Global};
 use wb_base::FILE_LIMIT;
 use wb_certify::CertifiedExtension;
 use wb_certify_host::CertifiedHost;
-use wb_compose::Composed;
-use wb_compose_texts::{Question, generated_text, text_value};
+use wb_compose_texts::{Composed, Question, generated_text, text_value};
 use wb_generate::Generated;
 use wb_operations::{Meaning, OperationRefusal, OperationTable};
 use wb_report::Outcome;

@@ -3,8 +3,7 @@
 //! The host comes first, then the extensions, then the attribute among those of their union, and then the text.
 
 ghost use Rattle.std.specs.Prelude.{◌≡◌, IfOk};
-ghost use Rattle.wb_compose.specs.United.{IsOfUnion};
-ghost use Rattle.wb_compose.specs.Composed.{IsComposed};
+ghost use Rattle.wb_compose_texts.specs.Composed.{IsComposed, IsOfUnion};
 ghost use Rattle.wb_operations.specs.Kept.{IsKept};
 ghost use Rattle.wb_report.specs.Lines.{report_of};
 ghost use Rattle.wb_compose_texts.specs.Unions.{all_resolved};
@@ -26,8 +25,7 @@ use std::alloc::{AllocError, Global};
 use wb_base::Bytes;
 use wb_certify::CertifiedExtension;
 use wb_certify_host::CertifiedHost;
-use wb_compose::{Composed, compose, composed_attributes};
-use wb_compose_texts::root_attribute;
+use wb_compose_texts::{Composed, compose, composed_attributes, root_attribute};
 use wb_operations::{Meaning, OperationRefusal, OperationTable};
 use wb_report::Outcome;
 use wb_syntax_resolved::Attribution;

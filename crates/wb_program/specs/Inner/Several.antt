@@ -2,7 +2,7 @@
 use Rattle.std.specs.Prelude.{◌≡◌, ℕ, List, Option, [], Contains, drop}
 use Rattle.wb_certify.specs.Kept.{ExtensionView}
 use Rattle.wb_certify_host.specs.Hosts.{CertifiedView}
-use Rattle.wb_compose.specs.Composed.{IsWith, name_of}
+use Rattle.wb_compose_texts.specs.Composed.{IsWith, name_of}
 use Rattle.wb_certify_files.specs.Specifications.{IsHeaderRefusal, IsSpecFor}
 use Rattle.wb_certify_files.specs.declared.extension_refusal.FileRefusal.TheVariants as f
 use Rattle.wb_operations.specs.Operations.{OperationSignature}

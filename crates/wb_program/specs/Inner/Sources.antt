@@ -1,6 +1,6 @@
 -- Where the text of a run comes from, what is asked of it, and what is reported.
 use Rattle.std.specs.Prelude.{◌≡◌, ◌≤◌, ℕ, Option, Some, None, List}
-use Rattle.wb_compose.specs.United.{IsOfUnion}
+use Rattle.wb_compose_texts.specs.Composed.{IsOfUnion}
 use Rattle.wb_operations.specs.Operations.{Operations, OperationSignature}
 use Rattle.wb_report.specs.declared.done.Done.{Done}
 use Rattle.wb_report.specs.declared.done.Done.TheVariants as done

@@ -3,7 +3,7 @@
 //! The host and the extensions come first, by the checks of `composable`, and then the language that `wb_compose` composes of them.
 
 ghost use Rattle.std.specs.Prelude.{IfOk};
-ghost use Rattle.wb_compose.specs.Composed.{IsComposed};
+ghost use Rattle.wb_compose_texts.specs.Composed.{IsComposed};
 ghost use Rattle.wb_compose_texts.specs.Unions.{all_resolved};
 ghost use Rattle.wb_program_words.specs.Asked.{texts};
 ghost use Rattle.wb_program.specs.Checks.{Ends};
@@ -21,8 +21,7 @@ use std::alloc::{AllocError, Global};
 use wb_base::Bytes;
 use wb_certify::CertifiedExtension;
 use wb_certify_host::CertifiedHost;
-use wb_compose::{Composed, compose};
-use wb_compose_texts::withdrawn_names;
+use wb_compose_texts::{Composed, compose, withdrawn_names};
 use wb_operations::{Meaning, OperationTable};
 use wb_report::{Done, Outcome};
 use wb_world::Shelf;

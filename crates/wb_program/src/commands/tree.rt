@@ -1,7 +1,7 @@
 //! What does `tree --text FILE HOST EXT..` answer for a text in the language of a host with its extensions?
 
 ghost use Rattle.std.specs.Prelude.{◌≡◌, IfOk};
-ghost use Rattle.wb_compose.specs.Composed.{IsComposed};
+ghost use Rattle.wb_compose_texts.specs.Composed.{IsComposed};
 ghost use Rattle.wb_compose_texts.specs.Unions.{all_resolved};
 ghost use Rattle.wb_program.specs.ExtensionChecks.{AreApart};
 ghost use Rattle.wb_program.specs.Commands.Tree.{ShownText, TextReport};
@@ -11,8 +11,7 @@ use crate::status::Status;
 use std::alloc::{AllocError, Global};
 use wb_certify::CertifiedExtension;
 use wb_certify_host::CertifiedHost;
-use wb_compose::{Composed, compose};
-use wb_compose_texts::{TextAnswer, united_text_answer};
+use wb_compose_texts::{Composed, TextAnswer, compose, united_text_answer};
 use wb_report::{Done, Outcome};
 
 // The tree of a text, or its stop, as an answer.

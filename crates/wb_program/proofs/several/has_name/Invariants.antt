@@ -1,7 +1,7 @@
 -- None of the extensions before has the name.
 use Rattle.std.proofs.Common.{◌≡◌, ◌≢◌, ◌<◌, ◌≤◌, ◌-◌, ℕ, Some, length, slice_get}
 use Rattle.wb_certify.specs.Kept.{ExtensionView}
-use Rattle.wb_compose.specs.Composed.{name_of}
+use Rattle.wb_compose_texts.specs.Composed.{name_of}
 use Rattle.wb_program.proofs.several.has_name.Given as goal
 
 abbrev pub invariant-extensions : goal.invariant-extensions

@@ -1,6 +1,6 @@
 -- An extension with another name than those before it is apart from them; one that is refused has another name too.
 use Rattle.std.proofs.Common.{ℕ, List, Contains, refl, subst}
-use Rattle.wb_compose.specs.Composed.{IsWith}
+use Rattle.wb_compose_texts.specs.Composed.{IsWith}
 use Rattle.wb_certify_files.specs.ExtensionContents.{IsExtensionText, IsExtensionRefusal}
 use Rattle.wb_operations.specs.Operations.{OperationSignature}
 use Rattle.wb_compose_texts.specs.Unions.{all_resolved}
