@@ -4,20 +4,22 @@ use Rattle.std.proofs.Common.{length, map, slice_get, ap, refl, sym, subst, arit
 use Rattle.std.proofs.lemmas.List.{length-drop, length-map, length-append}
 use Rattle.std.proofs.lemmas.List.Elements.{All-head, All-tail}
 use Rattle.std.proofs.lemmas.Option.{same_Some, slice_get_within}
+use Rattle.std.specs.Prelude.{IfSome}
+use Rattle.wb_base.specs.declared.symbol.Kind.TheVariants as kind
 use Rattle.wb_base.specs.declared.symbol.Symbol.{Symbol}
 use Rattle.wb_base.specs.declared.symbol.Symbol.TheVariants as symbol
 use Rattle.wb_base.specs.Grammar.{GrammarView, Production}
 use Rattle.wb_certify.specs.Kept.{AreCertifiedBoth}
 use Rattle.wb_compose.specs.Joined.{Extended}
 use Rattle.wb_compose.specs.Written.{written_in}
-use Rattle.wb_determinism_beside.proofs.InRange.{child_terminal, child_tree, row_of_plain}
 use Rattle.wb_scan_theory.specs.Shown.{AgreesWith, kind_of}
 use Rattle.wb_lemmas.proofs.Places.{append_after, append_keeps, at_append, at_take, at_within}
 use Rattle.wb_operations.specs.Operations.{OperationSignature}
 use Rattle.wb_syntax_resolved.specs.declared.production.Child.{Child}
 use Rattle.wb_syntax_resolved.specs.declared.production.ChildKind.{ChildKind}
+use Rattle.wb_syntax_resolved.specs.declared.production.ChildKind.TheVariants as child
 use Rattle.wb_syntax_resolved.specs.declared.resolved.ResolvedParts.{ResolvedParts}
-use Rattle.wb_syntax_resolved.specs.Grammar.{symbol_of}
+use Rattle.wb_syntax_resolved.specs.Grammar.{IsGrammarOf, symbol_of}
 use Rattle.wb_syntax_resolved.specs.Numbered.{signature_of, value_kind}
 use Rattle.wb_syntax_resolved.specs.Resolved.{IsResolved}
 use Rattle.wb_certify_shown.specs.Names.{productions_in}
@@ -96,8 +98,11 @@ of_renamed r ss rules all = record {
 
 -- the kinds of children are those of their symbols
 kind_is : (k : ChildKind) (x : Symbol) → symbol_of k ≡ Some x → value_kind k ≡ kind_of x
-kind_is k (symbol.Terminal t) e = ap value_kind (child_terminal k t e)
-kind_is k (symbol.Nonterminal a) e = ap value_kind (child_tree k a e)
+kind_is (child.Terminal t) x e = ap kind_of (same_Some (symbol.Terminal t) x e)
+kind_is (child.Value kind.Int) x e = absurd (cc e)
+kind_is (child.Value kind.Bool) x e = absurd (cc e)
+kind_is (child.Value kind.Text) x e = absurd (cc e)
+kind_is (child.Value (kind.Tree a)) x e = ap kind_of (same_Some (symbol.Nonterminal a) x e)
 
 kinds_are : (right : List Symbol) (children : List Child) →
     map (λ (s : Symbol). Some s) right ≡ map (λ (c : Child). symbol_of c.kind) children →
@@ -117,22 +122,27 @@ of_grammar r g whole start = record { len = count; each = one }
     count : length (grammar_signatures r) ≡ length g.productions
     count = signatures_len r whole ∙ ap productions_in start
 
+    its : IsGrammarOf r g
+    its = subst (λ k. IfSome k (IsGrammarOf r)) start whole.numbered.grammar
+
     one : (p : ℕ) (rule : Production) → slice_get g.productions p ≡ Some rule →
         (s : Signature) × (slice_get (grammar_signatures r) p ≡ Some s) × IsOf s rule
     one p rule at =
-        let w = row_of_plain r g whole start p rule at in
         let within = slice_get_within g.productions p rule at in
+        let few = its.productions_len in
+        let (row, row_at) = at_within r.attributes.productions p (omega (arith, within, few)) in
+        let row_is = its.productions_are p row rule row_at at in
         let (s, there) = at_within (grammar_signatures r) p (omega (arith, within, count)) in
-        let known : slice_get r.attributes.signatures p ≡ Some (signature_of r.attributes.extensions w.row) =
+        let known : slice_get r.attributes.signatures p ≡ Some (signature_of r.attributes.extensions row) =
         ap (λ z. slice_get z p) whole.attributes.numbered.signatures ∙
-        at_map (signature_of r.attributes.extensions) r.attributes.productions p w.row w.at in
-        let same : s ≡ signature_of r.attributes.extensions w.row = same_Some s (signature_of r.attributes.extensions w.row)
+        at_map (signature_of r.attributes.extensions) r.attributes.productions p row row_at in
+        let same : s ≡ signature_of r.attributes.extensions row = same_Some s (signature_of r.attributes.extensions row)
         (sym (at_take r.attributes.signatures (productions_in r.grammar) p s there).1 ∙ known) in (
           s,
           there,
           record {
-            left = ap (λ (z : Signature). z.left) same ∙ sym w.is.left;
-            children = ap (λ (z : Signature). z.children) same ∙ kinds_are rule.1 w.row.children w.is.right;
+            left = ap (λ (z : Signature). z.left) same ∙ sym row_is.left;
+            children = ap (λ (z : Signature). z.children) same ∙ kinds_are rule.1 row.children row_is.right;
           },
         )
 

@@ -1,5 +1,5 @@
 -- The markers of a union by number are its marking terminals.
-use Rattle.std.proofs.Common.{◌≡◌, ◌≤◌, ◌<◌, ◌+◌, ◌-◌, ◌∙◌, ◌∷◌, [], ℕ, Bool, true, false, List, Option, Some, All, inl, inr, drop, length}
+use Rattle.std.proofs.Common.{◌≡◌, ◌≤◌, ◌<◌, ◌+◌, ◌-◌, ◌∙◌, ◌∷◌, [], ℕ, Bool, true, false, List, Option, None, Some, All, inl, inr, drop, length}
 use Rattle.std.proofs.Common.{map}
 use Rattle.std.proofs.Common.{replicate, slice_get, take, ap, refl, sym, subst, arith}
 use Rattle.std.specs.Prelude.{IsTrue}
@@ -28,13 +28,11 @@ use Rattle.wb_compose_theory_order.specs.Names.{all_of}
 use Rattle.wb_determinism.specs.Images.{is_marker_row, is_marking}
 use Rattle.wb_determinism_host.specs.Lexicons.{lexicon_of}
 use Rattle.wb_certify.specs.Kept.{AreCertifiedBoth}
-use Rattle.wb_determinism_beside.specs.Pieces.{is_marker_in}
 use Rattle.wb_compose.specs.Joined.{AreCertifiedApart, Extended}
 use Rattle.wb_compose.specs.Written.{written_in, written_with}
 use Rattle.wb_compose.proofs.BridgedLemmas.{certified_is_bridged}
 use Rattle.wb_compose.proofs.ImageLemmas.{bridge_listed}
 use Rattle.wb_compose.proofs.JoinedLemmas.{markers_are}
-use Rattle.wb_determinism_beside.proofs.MarkerLemmas.{row_marker}
 use Rattle.wb_certify_shown.specs.Names.{terminals_in}
 use Rattle.wb_certify_shown.proofs.HoleLemmas.{few_terminals}
 use Rattle.wb_compose_texts.proofs.NameLemmas.{resolved_in}
@@ -42,23 +40,29 @@ use Rattle.wb_reading_theory.specs.MarkingTerminals.{AreMarking, IsMarking}
 use Rattle.wb_compose_texts.specs.UnionMarkers.{AreUnionMarkers, added_markers, grammar_markers, union_markers}
 use Rattle.wb_compose_texts.proofs.BlockLemmas.{at_flag, block_at, flag_at, in_block, take_keeps}
 
+-- whether a terminal is a marker
+abbrev is_marker_at : ResolvedParts → ℕ → Bool
+is_marker_at r n = is_marker_row (slice_get r.terminals n)
+
 -- there is a flag for each terminal of a grammar
 flags_len : (r : ResolvedParts) → IsResolved r → length (grammar_markers r) ≡ terminals_in r.grammar
 flags_len r whole = length-map (take (terminals_in r.grammar) r.terminals) (λ (t : Terminal). is_marking t.kind) ∙
     length-take-le (terminals_in r.grammar) r.terminals (few_terminals r whole)
 
 -- a flag is that of the terminal of its number
-flag_row : (r : ResolvedParts) (n : ℕ) → slice_get (grammar_markers r) n ≡ Some true → IsTrue (is_marker_in r n)
+flag_row : (r : ResolvedParts) (n : ℕ) → slice_get (grammar_markers r) n ≡ Some true → IsTrue (is_marker_at r n)
 flag_row r n at =
     let (row, there, is) = map_at (λ (t : Terminal). is_marking t.kind) (take (terminals_in r.grammar) r.terminals) n true at in
     ap is_marker_row (at_take r.terminals (terminals_in r.grammar) n row there).1 ∙ sym is
 
-row_flag : (r : ResolvedParts) (n : ℕ) → n < terminals_in r.grammar → IsTrue (is_marker_in r n) →
-    slice_get (grammar_markers r) n ≡ Some true
-row_flag r n within marks =
-    let m = row_marker r n marks in
-    at_map (λ (t : Terminal). is_marking t.kind) (take (terminals_in r.grammar) r.terminals) n m.terminal
-    (take_keeps r.terminals (terminals_in r.grammar) n m.terminal within m.is) ∙ ap Some (ap is_marking m.marking)
+row_flag : (r : ResolvedParts) (n : ℕ) → n < terminals_in r.grammar → IsTrue (is_marker_at r n) → slice_get (grammar_markers r) n ≡ Some true
+row_flag r n within is_marker = go (slice_get r.terminals n) refl is_marker
+  where
+    go : (o : Option Terminal) → slice_get r.terminals n ≡ o → is_marker_row o ≡ true → slice_get (grammar_markers r) n ≡ Some true
+    go None is e = absurd (cc e)
+    go (Some row) is e =
+        at_map (λ (t : Terminal). is_marking t.kind) (take (terminals_in r.grammar) r.terminals) n row
+        (take_keeps r.terminals (terminals_in r.grammar) n row within is) ∙ ap Some e
 
 -- what is marked is a marker
 marked_true : (b : Bool) (o : Option (ℕ × ℕ)) (a : ℕ) → mark_by b o ≡ on a → IsTrue b
@@ -71,16 +75,16 @@ module _ (host : ResolvedParts) (h : GrammarView) (operations : List OperationSi
 
   -- a marker of a certified extension has its mark, and nothing else has one
   module _ (e : Extended) (both : Both e) where
-    marker_to : (n : ℕ) → IsTrue (is_marker_in e.resolved n) →
+    marker_to : (n : ℕ) → IsTrue (is_marker_at e.resolved n) →
         IsMarkerRow h host.extensible (lexicon_of host h) (written_with e.resolved e.grammar) n
-    marker_to n marks =
+    marker_to n is_marker =
         let (p, a, is, listed) = bridge_listed host e.resolved h e.grammar operations
-        (certified_is_bridged host e.resolved h e.grammar operations both) n marks in
-        (a, ap (λ z. mark_by z (bridge_in_list 0 n e.grammar.productions)) marks ∙ ap (mark_by true) is)
+        (certified_is_bridged host e.resolved h e.grammar operations both) n is_marker in
+        (a, ap (λ z. mark_by z (bridge_in_list 0 n e.grammar.productions)) is_marker ∙ ap (mark_by true) is)
 
     marker_from : (n : ℕ) → IsMarkerRow h host.extensible (lexicon_of host h) (written_with e.resolved e.grammar) n →
-        IsTrue (is_marker_in e.resolved n)
-    marker_from n (a, is) = marked_true (is_marker_in e.resolved n) (bridge_in_list 0 n e.grammar.productions) a is
+        IsTrue (is_marker_at e.resolved n)
+    marker_from n (a, is) = marked_true (is_marker_at e.resolved n) (bridge_in_list 0 n e.grammar.productions) a is
 
   module _ (start : host.grammar ≡ Some h) where
     -- each extension has a flag for each terminal that it adds

@@ -1,5 +1,7 @@
 -- The language and the attributes of a host with extensions extend those of the host alone.
-use Rattle.std.proofs.Common.{◌≡◌, ◌<◌, ◌+◌, ◌∙◌, [], ℕ, Bool, List, All, length, map, sym, ap, subst, arith}
+use Rattle.std.proofs.Common.{◌≡◌, ◌<◌, ◌+◌, ◌∙◌, inl, [], ℕ, Bool, List, All, length, map, sym, ap, subst, arith}
+use Rattle.std.specs.Prelude.{IfSome, option_map}
+use Rattle.std.proofs.lemmas.List.{length-take-le}
 use Rattle.std.proofs.lemmas.List.Elements.{All-map, All-nil}
 use Rattle.std.proofs.lemmas.Simd.{map-map}
 use Rattle.wb_base.specs.Different.{Differ}
@@ -10,6 +12,7 @@ use Rattle.wb_scan_theory.specs.Languages.{LanguageView}
 use Rattle.wb_syntax_resolved.specs.Attribution.{IsAttribution}
 use Rattle.wb_syntax_resolved.specs.declared.attribution.AttributionParts.{AttributionParts}
 use Rattle.wb_syntax_resolved.specs.declared.resolved.ResolvedParts.{ResolvedParts}
+use Rattle.wb_syntax_resolved.specs.Grammar.{IsGrammarOf}
 use Rattle.wb_compose_theory_attributes.specs.Numbers.{NumberMap}
 use Rattle.wb_compose_theory_grammar.specs.UnitedWorlds.{united}
 use Rattle.wb_compose_theory_language.specs.Languages.{IsUnitedLanguage}
@@ -27,8 +30,6 @@ use Rattle.wb_compose.specs.Attributes.{addition_of, additions_of, attributes_of
 use Rattle.wb_compose.specs.Joined.{AreCertifiedApart, Extended}
 use Rattle.wb_compose.specs.Written.{name_in, written_in}
 use Rattle.wb_compose.proofs.AdditionLemmas.{is_addition_of}
-use Rattle.wb_determinism_beside.proofs.RowLemmas.{length-take_within}
-use Rattle.wb_determinism_beside.proofs.InRange.{grammar_of, in_range}
 use Rattle.wb_compose.proofs.LawLemmas.{is_attribution}
 use Rattle.wb_compose.proofs.WrittenApart.{all_apart, all_certified}
 use Rattle.wb_compose_texts.specs.Roots.{attributes_in}
@@ -96,11 +97,14 @@ module _ (host : ResolvedParts) (operations : List OperationSignature) (extensio
   pub attributes_extend : ExtendsAttribution (united_attribution rows []) (attributes_in host operations extensions all) numbers
   attributes_extend = extends rows added are_added are_attribution
 
+  -- the grammar is that of the host
+  of_host : IsGrammarOf host g
+  of_host = subst (λ k. IfSome k (IsGrammarOf host)) all.certified.host_start all.certified.host_resolved.numbered.grammar
+
   -- productions of the grammar keep their numbers
   pub concrete_stay : (p : ℕ) → p < length g.productions → numbers.production p ≡ p
   concrete_stay p less =
-      let few = (grammar_of host g all.certified.host_resolved all.certified.host_start).productions_len in
-      let len = length-take_within (length g.productions) host.attributes.productions few in
+      let len = length-take-le (length g.productions) host.attributes.productions of_host.productions_len in
       concrete rows added p (omega (arith, less, len))
 
   -- and the start keeps its
@@ -108,9 +112,9 @@ module _ (host : ResolvedParts) (operations : List OperationSignature) (extensio
   start_stays =
       let lead : Block = block_of rows added (λ (y : Addition). length y.rows.nonterminals) 0 nothing in
       let follow : Block = block_of rows added (λ (y : Addition). length y.rows.abstract_nonterminals) 0 nothing in
-      let below = (in_range host g all.certified.host_resolved all.certified.host_start).start_below in
-      let few = (grammar_of host g all.certified.host_resolved all.certified.host_start).nonterminals_len in
-      let count = length-take_within g.nonterminals host.attributes.nonterminals few in
+      let below : g.start < g.nonterminals =
+      (of_host.nonterminals g.start).1 (inl (ap (option_map (λ (k : GrammarView). k.start)) all.certified.host_start)) in
+      let count = length-take-le g.nonterminals host.attributes.nonterminals of_host.nonterminals_len in
       let less : g.start < length rows.nonterminals = omega (arith, below, count) in
       ap (place_after (length rows.nonterminals + lead.total + length rows.abstract_nonterminals) follow)
       (after_below (length rows.nonterminals) lead g.start less) ∙

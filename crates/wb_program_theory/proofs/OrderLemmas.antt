@@ -1,5 +1,6 @@
 -- What comes of a text with extensions comes of it with these in another order.
-use Rattle.std.proofs.Common.{◌≡◌, ◌∙◌, ◌<◌, ◌+◌, ◌∷◌, [], ℕ, List, length, map, refl, sym, ap, subst, arith}
+use Rattle.std.proofs.Common.{◌≡◌, ◌∙◌, ◌<◌, ◌+◌, ◌∷◌, inl, [], ℕ, List, length, map, refl, sym, ap, subst, arith}
+use Rattle.std.specs.Prelude.{IfSome, option_map}
 use Rattle.std.proofs.lemmas.List.{length-take-le}
 use Rattle.std.proofs.lemmas.List.Elements.{All-map}
 use Rattle.std.proofs.lemmas.Simd.{map-map}
@@ -14,7 +15,6 @@ use Rattle.wb_grammar_theory.specs.Trees.{IsDerived}
 use Rattle.wb_certify.specs.Kept.{AreCertifiedBoth}
 use Rattle.wb_compose.specs.Joined.{AreCertifiedApart, Extended}
 use Rattle.wb_compose.specs.Written.{name_in}
-use Rattle.wb_determinism_beside.proofs.InRange.{grammar_of, in_range}
 use Rattle.wb_scan_theory.specs.declared.stop_kind.StopKind.{StopKind}
 use Rattle.wb_scan_theory.specs.Languages.{LanguageView}
 use Rattle.wb_scan_theory.specs.Texts.{StopsAt}
@@ -32,6 +32,7 @@ use Rattle.wb_compose_theory_order.specs.Orders.{IsReordering}
 use Rattle.wb_compose_theory_order.proofs.NumberLemmas.{reordering_back, reordering_map, to_host}
 use Rattle.wb_report.specs.declared.shown.ShownStop.{ShownStop}
 use Rattle.wb_syntax_resolved.specs.declared.resolved.ResolvedParts.{ResolvedParts}
+use Rattle.wb_syntax_resolved.specs.Grammar.{IsGrammarOf}
 use Rattle.wb_eval_root.specs.Asked.{IsAskedOn}
 use Rattle.wb_eval_root.specs.declared.value.TreeValue.{TreeValue}
 use Rattle.wb_compose_texts.specs.declared.text_answer.TextAnswer.TheVariants as a
@@ -86,9 +87,10 @@ module _ (host : ResolvedParts) (g : GrammarView) (operations : List OperationSi
   start_stays : (reordered_numbers rows (additions_of host g xs) (additions_of host g ys) to).nonterminal g.start ≡ g.start
   start_stays =
       let additions_re = reordering_map (addition_of host g) re in
-      let below = (in_range host g one.host_resolved one.host_start).start_below in
-      let count = length-take-le g.nonterminals host.attributes.nonterminals
-      (grammar_of host g one.host_resolved one.host_start).nonterminals_len in
+      let its : IsGrammarOf host g = subst (λ z. IfSome z (IsGrammarOf host)) one.host_start one.host_resolved.numbered.grammar in
+      let below : g.start < g.nonterminals =
+      (its.nonterminals g.start).1 (inl (ap (option_map (λ (k : GrammarView). k.start)) one.host_start)) in
+      let count = length-take-le g.nonterminals host.attributes.nonterminals its.nonterminals_len in
       let less : g.start < length rows.nonterminals = omega (arith, below, count) in
       let own = length rows.nonterminals + total_of (map leading (additions_of host g xs)) + length rows.abstract_nonterminals in
       ap (moved rows (additions_of host g xs) (additions_of host g ys) to own following)

@@ -1,5 +1,6 @@
 -- Productions of a text's tree have the same new numbers as productions of the attributes, so trees become the same values.
-use Rattle.std.proofs.Common.{◌≡◌, ◌∙◌, ◌<◌, ◌+◌, ◌∷◌, [], ℕ, List, Some, All, length, map, take, refl, sym, ap, arith}
+use Rattle.std.proofs.Common.{◌≡◌, ◌∙◌, ◌<◌, ◌+◌, ◌∷◌, [], ℕ, List, Some, All, length, map, take, refl, sym, ap, subst, arith}
+use Rattle.std.specs.Prelude.{IfSome}
 use Rattle.std.proofs.lemmas.List.{length-drop, length-take-le}
 use Rattle.std.proofs.lemmas.List.Elements.{All-head, All-tail}
 use Rattle.wb_compose_theory_lists.specs.Hosts.{rows_of}
@@ -10,7 +11,6 @@ use Rattle.wb_grammar_theory.proofs.ProductionLemmas.{production_within}
 use Rattle.wb_certify.specs.Kept.{AreCertifiedBoth}
 use Rattle.wb_compose.specs.Joined.{Extended}
 use Rattle.wb_compose.specs.Written.{written_in}
-use Rattle.wb_determinism_beside.proofs.InRange.{grammar_of}
 use Rattle.wb_scan_theory.specs.Shown.{Shows, values_of}
 use Rattle.wb_compose_theory_lists.specs.Additions.{Rows}
 use Rattle.wb_operations.specs.Operations.{OperationSignature}
@@ -23,6 +23,7 @@ use Rattle.wb_compose_theory_order.specs.Orders.{IsReordering, number_to}
 use Rattle.wb_compose_theory_order.specs.Unions.{names_to}
 use Rattle.wb_compose_theory_order.proofs.NumberLemmas.{reordering_map, to_below, to_host}
 use Rattle.wb_syntax_resolved.specs.declared.resolved.ResolvedParts.{ResolvedParts}
+use Rattle.wb_syntax_resolved.specs.Grammar.{IsGrammarOf}
 use Rattle.wb_syntax_resolved.specs.Resolved.{IsResolved}
 use Rattle.wb_compose_theory.specs.Renamings.{Renaming}
 use Rattle.wb_compose_theory_grammar.specs.Places.{total_of}
@@ -38,7 +39,8 @@ use Rattle.wb_values.specs.Tree as values
 taken : (r : ResolvedParts) (k : GrammarView) → IsResolved r → r.grammar ≡ Some k
     → length (take (length k.productions) r.attributes.productions) ≡ length k.productions
 taken r k whole start =
-    length-take-le (length k.productions) r.attributes.productions (grammar_of r k whole start).productions_len
+    let its : IsGrammarOf r k = subst (λ z. IfSome z (IsGrammarOf r)) start whole.numbered.grammar in
+    length-take-le (length k.productions) r.attributes.productions its.productions_len
 
 module _ (host : ResolvedParts) (g : GrammarView) (operations : List OperationSignature) where
   abbrev Both : Extended → Type 0
