@@ -2,11 +2,10 @@
 
 ghost use Rattle.std.specs.Prelude.{ℕ, List};
 ghost use Rattle.wb_operations.specs.Operations.{OperationSignature, Operations};
-ghost use Rattle.wb_program_theory.specs.Certified.{AreCertified, HaveNoRefusal, HaveOneValue};
-ghost use Rattle.wb_program_theory.specs.Completeness.{HaveEnoughSteps, RunComesToValue, WriteAsReported};
+ghost use Rattle.wb_program_theory.specs.Certified as certified;
+ghost use Rattle.wb_program_theory.specs.Completeness as complete;
 ghost use Rattle.wb_program_theory.specs.Existence.{ComesToAnswer};
-ghost use Rattle.wb_program_theory.specs.Reported.{HaveCertifyReport, HaveCheckReport, HaveComposeReport, HaveReports};
-ghost use Rattle.wb_program_theory.specs.Reported.{HaveGenerateReport, HaveRunReport, HaveTreeReport};
+ghost use Rattle.wb_program_theory.specs.Reported as reported;
 ghost use Rattle.wb_syntax_resolved.specs.declared.resolved.ResolvedParts.{ResolvedParts};
 ghost use Rattle.wb_world.specs.Shelf.{Files};
 
@@ -17,8 +16,8 @@ use wb_program::{one_status_law, one_text_law};
 /// `generate` and `reading` refuse nothing: no report of theirs has status 3, 4, 14, 15 or 16. What they report is what comes after these
 /// checks, of the one host and the extensions that the files hold.
 pub fn no_refusal_law()
-    ensures accepted { (operations : Operations) (files : Files) (host : List ℕ) (extensions : List (List ℕ)) (r : ResolvedParts) (values : List ResolvedParts) → AreCertified operations.signatures files host extensions r values → HaveNoRefusal operations files host extensions r values }
-    ensures one { (operations : List OperationSignature) (files : Files) (host : List ℕ) (extensions : List (List ℕ)) (r : ResolvedParts) (values : List ResolvedParts) → AreCertified operations files host extensions r values → HaveOneValue operations files host extensions r values }
+    ensures accepted { (operations : Operations) (files : Files) (host : List ℕ) (extensions : List (List ℕ)) (r : ResolvedParts) (values : List ResolvedParts) → certified.AreCertified operations.signatures files host extensions r values → certified.HaveNoRefusal operations files host extensions r values }
+    ensures one { (operations : List OperationSignature) (files : Files) (host : List ℕ) (extensions : List (List ℕ)) (r : ResolvedParts) (values : List ResolvedParts) → certified.AreCertified operations files host extensions r values → certified.HaveOneValue operations files host extensions r values }
 {
     one_extension_answer_law();
     header_law();
@@ -26,13 +25,13 @@ pub fn no_refusal_law()
 
 /// Such files have a language, in which each text has a tree or a stop: that there is none can't be.
 pub fn text_answer_law()
-    ensures { (operations : List OperationSignature) (files : Files) (host : List ℕ) (extensions : List (List ℕ)) (r : ResolvedParts) (values : List ResolvedParts) → AreCertified operations files host extensions r values → (text : List ℕ) → ¬ ¬ ComesToAnswer operations r values text }
+    ensures { (operations : List OperationSignature) (files : Files) (host : List ℕ) (extensions : List (List ℕ)) (r : ResolvedParts) (values : List ResolvedParts) → certified.AreCertified operations files host extensions r values → (text : List ℕ) → ¬ ¬ ComesToAnswer operations r values text }
 {}
 
 /// Where words and known files have a report that refuses no specification, a run writes it and ends with its status. Else a write fails,
 /// and a part of it is written, or nothing is, where the run ends at a file or out of memory.
 pub fn written_law()
-    ensures { WriteAsReported }
+    ensures { complete.WriteAsReported }
 {
     one_status_law();
     one_text_law();
@@ -41,7 +40,7 @@ pub fn written_law()
 /// On such files, `run` ends with 0 and writes the value of the attribute, where the text has a tree, the attribute has a value at its root
 /// that isn't too long to print, and the steps are enough for it. Else the run ends at a file, at the output or out of memory.
 pub fn run_comes_law()
-    ensures { RunComesToValue }
+    ensures { complete.RunComesToValue }
 {
     one_extension_answer_law();
     header_law();
@@ -51,13 +50,13 @@ pub fn run_comes_law()
 
 /// Where the text has a tree and the attribute such a value, some number of steps is enough for it, and so is each greater one.
 pub fn enough_steps_law()
-    ensures { HaveEnoughSteps }
+    ensures { complete.HaveEnoughSteps }
 {}
 
 /// Where words ask for `tree` of such files, and the text's file is known and not too long, they have a report of the text's answer: its
 /// printed tree, its stop, or that the tree is too long to print. That they have none can't be.
 pub fn tree_report_law()
-    ensures { HaveTreeReport }
+    ensures { reported.HaveTreeReport }
 {
     one_extension_answer_law();
     header_law();
@@ -66,9 +65,9 @@ pub fn tree_report_law()
 /// Where words ask for `check` and the file holds a certified host, they have a report with status 0; and so have words that ask for
 /// `certify` or `compose` where files are certified. Of `compose` it is said that they have none can't be.
 pub fn line_report_law()
-    ensures check { HaveCheckReport }
-    ensures certify { HaveCertifyReport }
-    ensures compose { HaveComposeReport }
+    ensures check { reported.HaveCheckReport }
+    ensures certify { reported.HaveCertifyReport }
+    ensures compose { reported.HaveComposeReport }
 {
     one_extension_answer_law();
     header_law();
@@ -78,7 +77,7 @@ pub fn line_report_law()
 /// report of what comes of the text and the attribute: that the attribute may not be asked, that the text is too long, the text's stop, the
 /// attribute's value, a value too long to print, a fault, or that more steps are needed. That they have none can't be.
 pub fn run_report_law()
-    ensures { HaveRunReport }
+    ensures { reported.HaveRunReport }
 {
     one_extension_answer_law();
     header_law();
@@ -88,7 +87,7 @@ pub fn run_report_law()
 /// their kinds, they have a report: that the attribute may not be asked, that each text has more leaves, that the text is too long, or what
 /// comes of the text and the attribute. That they have none can't be.
 pub fn generate_report_law()
-    ensures { HaveGenerateReport }
+    ensures { reported.HaveGenerateReport }
 {
     one_extension_answer_law();
     header_law();
@@ -97,7 +96,7 @@ pub fn generate_report_law()
 /// So words that ask for `check`, `certify`, `compose`, `tree`, `run`, `generate` or `reading` of certified files have a report, where a
 /// text's file is there, or each terminal matches some text: that they have none can't be.
 pub fn report_law()
-    ensures { HaveReports }
+    ensures { reported.HaveReports }
 {
     one_extension_answer_law();
     header_law();

@@ -1,7 +1,7 @@
 //! Laws of texts that mean to a host with extensions what they mean to the host. There is nothing to run.
 
-ghost use Rattle.wb_program_theory.specs.ReadingLaws.{HaveHostRun, HaveHostTree};
-ghost use Rattle.wb_program_theory.specs.ReadingWords.{HaveHostRunOfWords, HaveHostTreeOfWords};
+ghost use Rattle.wb_program_theory.specs.ReadingLaws as laws;
+ghost use Rattle.wb_program_theory.specs.ReadingWords as words;
 ghost use Rattle.wb_program_theory.specs.Reported.{HaveReadingReport};
 
 use wb_certify_files::{header_law, one_extension_answer_law};
@@ -10,8 +10,8 @@ use wb_program::{one_status_law, one_text_law};
 /// Where `reading` reports `host reading`, `tree` reports with the extensions what it reports with none: the same status, and the same
 /// bytes. So does `run`, of each attribute of the host and for every number of steps.
 pub fn reading_law()
-    ensures tree { HaveHostTree }
-    ensures run { HaveHostRun }
+    ensures tree { laws.HaveHostTree }
+    ensures run { laws.HaveHostRun }
 {
     one_extension_answer_law();
     header_law();
@@ -29,8 +29,8 @@ pub fn reading_report_law()
 /// So what words report that ask for `tree` with the extensions is what words report that ask for it with none: the same status, and the
 /// same bytes. And so it is with `run`, of each attribute of the host and for every number of steps.
 pub fn reading_words_law()
-    ensures tree { HaveHostTreeOfWords }
-    ensures run { HaveHostRunOfWords }
+    ensures tree { words.HaveHostTreeOfWords }
+    ensures run { words.HaveHostRunOfWords }
 {
     one_extension_answer_law();
     header_law();
