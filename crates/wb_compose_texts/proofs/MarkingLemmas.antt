@@ -1,6 +1,6 @@
 -- The markers of a union by number are its marking terminals.
-use Rattle.std.proofs.Common.{◌≡◌, ◌≤◌, ◌<◌, ◌+◌, ◌-◌, ◌∙◌, ◌∷◌, [], ℕ, Bool, true, false, List, Option, None, Some, All, inl, inr, drop, length}
-use Rattle.std.proofs.Common.{map}
+use Rattle.std.proofs.Common.{◌≡◌, ◌≤◌, ◌<◌, ◌+◌, ◌-◌, ◌∙◌, ◌∷◌, [], ℕ, Bool, true, false, List, Option, Some, All, inl, inr, drop, length}
+use Rattle.std.proofs.Common.{None, map}
 use Rattle.std.proofs.Common.{replicate, slice_get, take, ap, refl, sym, subst, arith}
 use Rattle.std.specs.Prelude.{IsTrue}
 use Rattle.std.proofs.lemmas.List.{length-drop, length-map, length-replicate, length-take-le}
@@ -55,7 +55,8 @@ flag_row r n at =
     let (row, there, is) = map_at (λ (t : Terminal). is_marking t.kind) (take (terminals_in r.grammar) r.terminals) n true at in
     ap is_marker_row (at_take r.terminals (terminals_in r.grammar) n row there).1 ∙ sym is
 
-row_flag : (r : ResolvedParts) (n : ℕ) → n < terminals_in r.grammar → IsTrue (is_marker_at r n) → slice_get (grammar_markers r) n ≡ Some true
+row_flag : (r : ResolvedParts) (n : ℕ) → n < terminals_in r.grammar → IsTrue (is_marker_at r n) →
+    slice_get (grammar_markers r) n ≡ Some true
 row_flag r n within is_marker = go (slice_get r.terminals n) refl is_marker
   where
     go : (o : Option Terminal) → slice_get r.terminals n ≡ o → is_marker_row o ≡ true → slice_get (grammar_markers r) n ≡ Some true

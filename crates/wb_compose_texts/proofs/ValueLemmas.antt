@@ -44,7 +44,8 @@ module _ {s a : AttributionParts} {t : NumberMap} (is : IsAttribution s) (ok : I
     within_there within needed = within ((same.needs y steps).1 needed)
 
     -- the value that the other has is printed so
-    printed_as : {given : Value} (printed : List ℕ) → HasAnswer a operations top (synthesized_at root (t.attribute y)) (Outcome.value given) →
+    printed_as : {given : Value} (printed : List ℕ) →
+        HasAnswer a operations top (synthesized_at root (t.attribute y)) (Outcome.value given) →
         ¬ NeedsMoreThan a operations top (synthesized_at root (t.attribute y)) steps → printed ≡ printed_value a.signatures given →
         HasPrintedValue a operations top (t.attribute y) steps printed
     printed_as {given} printed has within is = record { given = given; comes = record { has = has; within = within }; is = is }
