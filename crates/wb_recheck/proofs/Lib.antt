@@ -1,0 +1,5 @@
+mod AnswerLemmas
+mod ExtensionLemmas
+mod FaultLemmas
+mod HandedLemmas
+mod HostLemmas

@@ -1,0 +1,20 @@
+use Rattle.std.proofs.Common.{◌∙◌, ap}
+use Rattle.wb_syntax_resolved.specs.declared.resolved.ResolvedParts.{ResolvedParts}
+use Rattle.wb_recheck.proofs.HostLemmas.{certificate_told, facts_are, fault_told}
+use Rattle.wb_recheck.proofs.value.looked_by.Goals as goal
+
+pub lookaheads_by_text-requires : goal.lookaheads_by_text-requires
+lookaheads_by_text-requires c =
+    facts_are c.args.resolved.now c.args.grammar.now c.args.facts.now c.requires.grammar c.requires.facts
+
+pub returns-clause-certificate : goal.returns-clause-certificate
+returns-clause-certificate c =
+    certificate_told c.args.resolved.now c.args.grammar.now c.args.facts.now c.requires.grammar c.requires.facts c.args.certificate.now
+    c.as_slice-name.result.now (c.as_slice-name.ensures ∙ ap (λ (p : ResolvedParts). p.host) c.parts.ensures.parts)
+    c.lookaheads_by_text.result c.lookaheads_by_text.ensures.certificate
+
+pub returns-clause-refused : goal.returns-clause-refused
+returns-clause-refused c =
+    fault_told c.args.resolved.now c.args.grammar.now c.args.facts.now c.requires.grammar c.requires.facts c.args.certificate.now
+    c.as_slice-name.result.now (c.as_slice-name.ensures ∙ ap (λ (p : ResolvedParts). p.host) c.parts.ensures.parts)
+    c.lookaheads_by_text.result c.lookaheads_by_text.ensures.refused
