@@ -20,6 +20,8 @@ mod lookaheads;
 #[cfg(test)]
 mod parts;
 #[cfg(test)]
+mod recheck;
+#[cfg(test)]
 mod recheck_files;
 #[cfg(test)]
 mod shown;
