@@ -1,0 +1,10 @@
+-- sessions as callers see them, and why an edit is refused
+pub mod Sessions
+-- linked stacks: where a link leads, and the trees that it stands for
+pub mod Stacks
+-- the stacks that a session keeps
+pub mod Kept
+-- what a session shows of its fields, and what holds of them
+pub mod Views
+-- words of private functions, and what loops keep
+pub mod Inner

@@ -1,0 +1,143 @@
+//! How is the leaf at a checkpoint taken? As the parser takes it: it is scanned at the state on top, and shifted after the reductions that it
+//! asks for.
+
+ghost use Rattle.std.specs.Prelude.{◌≡◌, ◌<◌, ◌≤◌, ◌-◌, ℕ, List, [], IfOk, Some, length, slice_get};
+ghost use Rattle.wb_scan_theory.specs.Tokens.{over};
+ghost use Rattle.wb_scan_theory.specs.Examined.{Scans};
+ghost use Rattle.wb_grammar_theory.specs.Trees.{Forest, nothing, symbols};
+ghost use Rattle.wb_values.specs.declared.value.TreeId.{TreeId};
+ghost use Rattle.wb_values.specs.declared.value.Value.TheVariants.{Tree as Stored};
+ghost use Rattle.wb_parser.specs.declared.parsed.Parsed.TheVariants.{Tree};
+ghost use Rattle.wb_parser.specs.Parses.{IsParsed};
+ghost use Rattle.wb_parser_states.specs.Rules.{AreRules};
+ghost use Rattle.wb_session_theory.specs.Runs.{Reads};
+ghost use Rattle.wb_session.specs.Stacks.{roots_of, IsSound, IsStack};
+ghost use Rattle.wb_session.specs.Kept.{IsKept};
+ghost use Rattle.wb_session.specs.Inner.Steps.{Grows};
+ghost use Rattle.wb_session.specs.Inner.Rounds.{IsRound, GoesFurther};
+
+use crate::checkpoint::Checkpoint;
+use crate::stacks::{Entry, Stacks, push_lexeme, state_at};
+use crate::step::reduce_all;
+use std::alloc::AllocError;
+use wb_parser::{Parsed, StopKind};
+use wb_parser_states::{Outcome, Rule};
+use wb_scan::{Language, Scanned, scan_examined};
+
+// What became of one leaf.
+#[derive(Clone, Copy)]
+pub(crate) enum Round {
+    // It was shifted, and the text goes on at this checkpoint.
+    Goes(Checkpoint),
+    // The text was read, or stops.
+    Done(Parsed),
+}
+
+// Takes the leaf at a checkpoint.
+pub(crate) fn take_leaf(
+    language: &Language,
+    rules: &[Rule],
+    text: &[u8],
+    stacks: &mut Stacks,
+    from: Checkpoint,
+) -> Result<Round, AllocError>
+    requires rules { AreRules language.now.language.grammar rules.now }
+    requires sound { IsSound language.now (roots_of stacks.old) }
+    requires link { from.link ≤ length stacks.old.entries.items }
+    requires at { from.at ≤ length text.now }
+    ensures round { IfOk result (λ round. IsKept language.now text.now (roots_of stacks.old) from → IsRound language.now text.now (roots_of stacks.new) round) }
+    ensures grows { Grows language.now (roots_of stacks.old) (roots_of stacks.new) }
+    ensures further { IfOk result (GoesFurther from) }
+{
+    let _tables = language.tables();
+    let ahead = scan_examined(
+        language,
+        state_at(&stacks.entries, from.link),
+        text,
+        from.at,
+    );
+    let reach = later(from.reach, ahead.examined);
+    match ahead.scanned {
+        Scanned::NoToken { at } => Ok(Round::Done(Parsed::Stopped {
+            at,
+            kind: StopKind::NoToken,
+        })),
+        Scanned::End { at } => {
+            let parsed = finish(language, rules, stacks, from.link, at)?;
+            Ok(Round::Done(parsed))
+        }
+        Scanned::Token {
+            terminal,
+            at,
+            lexeme,
+            end,
+        } => {
+            let settled = reduce_all(language, rules, stacks, from.link, terminal)?;
+            match settled.outcome {
+                Outcome::Shifts(state) => {
+                    let below = settled.link;
+                    let link = push_lexeme(stacks, Entry { state, below }, &text[lexeme..end])?;
+                    let further = later(reach, end);
+                    Ok(Round::Goes(Checkpoint {
+                        at: end,
+                        reach: further,
+                        link,
+                    }))
+                }
+                _ => Ok(Round::Done(Parsed::Stopped {
+                    at,
+                    kind: StopKind::Unexpected(terminal),
+                })),
+            }
+        }
+    }
+}
+
+// The later of two places.
+fn later(one: usize, other: usize) -> usize
+    ensures one { one ≤ result }
+    ensures other { other ≤ result }
+{
+    if one < other { other } else { one }
+}
+
+// What the text is at its end, where this place is: whole, or stopped there.
+fn finish(
+    language: &Language,
+    rules: &[Rule],
+    stacks: &mut Stacks,
+    link: usize,
+    place: usize,
+) -> Result<Parsed, AllocError>
+    requires rules { AreRules language.now.language.grammar rules.now }
+    requires sound { IsSound language.now (roots_of stacks.old) }
+    requires link { link ≤ length stacks.old.entries.items }
+    ensures parsed { IfOk result (λ parsed. (text : List ℕ) (e at : ℕ) (stack : Forest) → IsStack language.now (roots_of stacks.old) link stack → Reads language.now.language text e [] nothing 0 stack at → Scans language.now.language text (symbols stack) e at (over place) → IsParsed language.now.language text stacks.new.store parsed) }
+    ensures grows { Grows language.now (roots_of stacks.old) (roots_of stacks.new) }
+{
+    let end = language.grammar().terminals();
+    let settled = reduce_all(language, rules, stacks, link, end)?;
+    let stopped = Parsed::Stopped {
+        at: place,
+        kind: StopKind::Unexpected(end),
+    };
+    match settled.outcome {
+        Outcome::Accepts => Ok(whole(stacks, settled.link, stopped)),
+        _ => Ok(stopped),
+    }
+}
+
+// The tree on top of a stack, and something else where there is none.
+fn whole(stacks: &Stacks, link: usize, other: Parsed) -> Parsed
+    requires same { length stacks.now.values ≡ length stacks.now.entries.items }
+    requires link { link ≤ length stacks.now.entries.items }
+    ensures { (id : TreeId) → 0 < link → slice_get stacks.now.values (link - 1) ≡ Some (Stored id) → result ≡ Tree id }
+{
+    if link == 0 {
+        return other;
+    }
+    match stacks.values.tree(link - 1) {
+        Some(tree) => Parsed::Tree(tree),
+        None => other,
+    }
+}

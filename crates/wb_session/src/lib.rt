@@ -1,0 +1,19 @@
+//! Editing sessions: a text is kept with its answer while it is edited.
+//!
+//! The parser's stack before each token is kept. After an edit the parser goes on before the first token for which what was edited was
+//! looked at. Why such a stack is that of the new text, too, is in `wb_session_theory`.
+#![tactic(auto)]
+
+mod checkpoint;
+mod edited_text;
+mod going_on;
+mod leaf;
+mod memory;
+mod reduce;
+mod refusal;
+mod session;
+mod stacks;
+mod step;
+
+pub use refusal::EditRefusal;
+pub use session::{Edited, Session};

@@ -1,0 +1,142 @@
+//! What does a session have in memory? Its text, and the stack before each of its tokens.
+
+ghost use Rattle.std.specs.Prelude.{◌≡◌, ◌≤◌, ◌+◌, [], IfOk, OnErr, OnOk, length};
+ghost use Rattle.wb_parser.specs.Parses.{Extends, IsParsed};
+ghost use Rattle.wb_session_theory.specs.Edits.{edited};
+ghost use Rattle.wb_session.specs.Kept.{IsMemory};
+ghost use Rattle.wb_session.specs.Inner.Memories.{IsNew};
+
+use crate::Edited;
+use crate::checkpoint::Checkpoint;
+use crate::edited_text::make_edited;
+use crate::going_on::{go_back, go_on};
+use crate::stacks::Stacks;
+use std::alloc::{AllocError, Global};
+use std::mem::swap;
+use wb_base::push;
+use wb_parser::Parsed;
+use wb_parser_states::{Rule, rules_of};
+use wb_scan::Language;
+
+// The left sides and widths of productions; a text, and room for the next one; and checkpoints with their stacks.
+pub(crate) struct Memory {
+    pub(crate) rules: Vec<Rule>,
+    pub(crate) text: Vec<u8>,
+    pub(crate) spare: Vec<u8>,
+    pub(crate) checkpoints: Vec<Checkpoint>,
+    pub(crate) stacks: Stacks,
+}
+
+impl Drop for Memory {
+    fn drop(self) {
+        let Memory {
+            rules,
+            text,
+            spare,
+            checkpoints,
+            stacks,
+        } = self;
+        drop(rules);
+        drop(text);
+        drop(spare);
+        drop(checkpoints);
+        drop(stacks);
+    }
+}
+
+impl Memory {
+    // Nothing yet.
+    pub(crate) fn new(alloc: Global) -> Memory
+        ensures { IsNew result }
+    {
+        Memory {
+            rules: Vec::new(alloc),
+            text: Vec::new(alloc),
+            spare: Vec::new(alloc),
+            checkpoints: Vec::new(alloc),
+            stacks: Stacks::new(alloc),
+        }
+    }
+}
+
+// Reads a text from its beginning on.
+pub(crate) fn read_text(
+    alloc: Global,
+    language: &Language,
+    memory: &mut Memory,
+    text: &[u8],
+) -> Result<Parsed, AllocError>
+    requires { IsNew memory.old }
+    ensures text { OnOk result (memory.new.text.items ≡ text.now) }
+    ensures memory { OnOk result (IsMemory language.now memory.new) }
+    ensures parsed { IfOk result (IsParsed language.now.language text.now memory.new.stacks.store) }
+{
+    memory.rules = rules_of(alloc, language.grammar())?;
+    memory.text.extend_from_slice(text)?;
+    push(
+        &mut memory.checkpoints,
+        Checkpoint {
+            at: 0,
+            reach: 0,
+            link: 0,
+        },
+    )?;
+    go_on(
+        language,
+        &memory.rules,
+        &memory.text,
+        &mut memory.checkpoints,
+        &mut memory.stacks,
+    )
+}
+
+// The answer after an edit, and what was done for it.
+#[derive(Clone, Copy)]
+pub(crate) struct Reread {
+    pub(crate) parsed: Parsed,
+    pub(crate) edited: Edited,
+}
+
+// Edits the text, and reads it from the last checkpoint on up to which nothing that is edited was looked at. If memory runs out, the text is
+// as before.
+pub(crate) fn reread_text(
+    language: &Language,
+    memory: &mut Memory,
+    from: usize,
+    to: usize,
+    with: &[u8],
+) -> Result<Reread, AllocError>
+    requires memory { IsMemory language.now memory.old }
+    requires order { from ≤ to }
+    requires within { to ≤ length memory.old.text.items }
+    ensures text { OnOk result (memory.new.text.items ≡ edited memory.old.text.items from to with.now) }
+    ensures err { OnErr result (memory.new.text.items ≡ memory.old.text.items) }
+    ensures memory { IsMemory language.now memory.new }
+    ensures parsed { IfOk result (λ reread. IsParsed language.now.language memory.new.text.items memory.new.stacks.store reread.parsed) }
+    ensures store { Extends memory.old.stacks.store memory.new.stacks.store }
+    ensures built { IfOk result (λ reread. length memory.new.stacks.store ≡ length memory.old.stacks.store + reread.edited.built) }
+{
+    make_edited(&memory.text, &mut memory.spare, from, to, with)?;
+    let before = memory.stacks.store.len();
+    let point = go_back(&mut memory.checkpoints, &mut memory.stacks, from);
+    let count = memory.checkpoints.len();
+    let parsed = go_on(
+        language,
+        &memory.rules,
+        &memory.spare,
+        &mut memory.checkpoints,
+        &mut memory.stacks,
+    )?;
+    swap(&mut memory.text, &mut memory.spare);
+    let edited = Edited {
+        from: point.at,
+        to: memory.text.len(),
+        scanned: memory
+            .checkpoints
+            .len()
+            .saturating_sub(count)
+            .saturating_add(1),
+        built: memory.stacks.store.len() - before,
+    };
+    Ok(Reread { parsed, edited })
+}
