@@ -17,7 +17,7 @@ use Rattle.wb_compose_theory_grammar.proofs.FactLemmas.{map_at}
 use Rattle.wb_compose.specs.Written.{name_in}
 use Rattle.wb_eval_root.specs.Asked.{IsAskedOn, IsPrintedAs}
 use Rattle.wb_eval_root.proofs.PrintedNames.{one_attribute}
-use Rattle.wb_compose_texts.specs.Roots.{HasNoRootAttribute, IsAskedIn, IsRootAttribute, attributes_in}
+use Rattle.wb_compose_texts.specs.Roots.{HasNoRootAttribute, IsAskedIn, attributes_in}
 use Rattle.wb_compose_texts.specs.Unions.{Union}
 use Rattle.wb_compose_texts.proofs.OneUnion.{asked_there}
 use Rattle.wb_reading_theory.specs.Attributions.{ExtendsAttribution}

@@ -1,7 +1,7 @@
 -- What lists have that come one after another, and what sets by flags have.
 use Rattle.std.proofs.Common.{◌≡◌, ◌<◌, ◌+◌, ◌∙◌, ◌∷◌, ◌++◌, [], ℕ, zero, suc, Bool, true, false, List, Some, inl, inr, length, map}
 use Rattle.std.proofs.Common.{slice_get}
-use Rattle.std.proofs.Common.{ap, refl, sym, take, arith}
+use Rattle.std.proofs.Common.{ap, refl, take, arith}
 use Rattle.std.proofs.lemmas.Grind.{common_steps}
 use Rattle.std.proofs.lemmas.Option.{gets}
 use Rattle.wb_termset.specs.Sets.{IsMember}

@@ -1,15 +1,12 @@
 -- Flags of the terminals of a union as they are listed, and the set of them.
-use Rattle.std.proofs.Common.{◌≡◌, ◌<◌, ◌≤◌, ◌+◌, ◌-◌, ◌↔◌, ◌++◌, ◌∷◌, ◌∙◌, ◌⊎◌, inl, inr, [], ℕ, Bool, true}
+use Rattle.std.proofs.Common.{◌≡◌, ◌<◌, ◌≤◌, ◌+◌, ◌-◌, ◌↔◌, ◌++◌, ◌∷◌, ◌∙◌, [], ℕ, Bool}
 use Rattle.std.proofs.Common.{false, List, Some, drop, get_or, length}
-use Rattle.std.proofs.Common.{map, replicate, set, slice_get, take, ap, refl, subst, sym, arith}
+use Rattle.std.proofs.Common.{map, replicate, slice_get, take, ap, subst, sym, arith}
 use Rattle.std.specs.Prelude.{option_map}
-use Rattle.std.proofs.lemmas.Bool.Decides.{eqb_tells}
-use Rattle.std.proofs.lemmas.Bool.{true≢false}
 use Rattle.std.proofs.lemmas.List.{length-map, length-replicate, length-take-le, map-append}
-use Rattle.std.proofs.lemmas.List.{length-set}
 use Rattle.std.proofs.lemmas.Option.{slice_get-map}
 use Rattle.wb_termset.specs.Sets.{IsMember}
-use Rattle.wb_termset.proofs.CallerLemmas.{IsEmpty-replicate, IsMember-insert, IsMember-insert_same, IsSubset-insert, has_below}
+use Rattle.wb_termset.proofs.CallerLemmas.{IsEmpty-replicate, has_below}
 use Rattle.wb_lemmas.proofs.Parts.{append_assoc}
 use Rattle.wb_lemmas.proofs.Places.{at_take, at_within}
 use Rattle.wb_certify.specs.Kept.{ExtensionView}

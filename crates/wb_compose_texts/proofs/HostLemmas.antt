@@ -1,5 +1,5 @@
 -- What a text is in the language of a host by itself it is in the union of the host and no extensions.
-use Rattle.std.proofs.Common.{◌≡◌, ◌<◌, ◌∙◌, ◌++◌, [], ◌∷◌, ℕ, zero, suc, List, Some, length, map, take, refl, sym, ap, subst, arith}
+use Rattle.std.proofs.Common.{◌≡◌, ◌<◌, ◌∙◌, [], ◌∷◌, ℕ, zero, suc, List, Some, length, take, refl, sym, ap, subst, arith}
 use Rattle.std.specs.Prelude.{◌↔◌}
 use Rattle.std.proofs.lemmas.List.{append-nil}
 use Rattle.std.proofs.lemmas.Option.{same_Some, slice_get_within}
@@ -34,7 +34,7 @@ use Rattle.wb_compose.proofs.HostLanguageLemmas.{apart_alone, none_extended, of_
 use Rattle.wb_compose.proofs.WrittenApart.{all_certified}
 use Rattle.wb_compose_texts.specs.declared.text_answer.TextAnswer.{TextAnswer}
 use Rattle.wb_compose_texts.specs.declared.text_answer.TextAnswer.TheVariants as a
-use Rattle.wb_compose_texts.specs.Answers.{HasPrintedTree, IsAnswerIn, IsUnitedTextAnswer, StopsShown}
+use Rattle.wb_compose_texts.specs.Answers.{HasPrintedTree, IsAnswerIn, IsUnitedTextAnswer}
 use Rattle.wb_compose_texts.specs.HostTexts.{HaveSameTexts, IsHostTextAnswer}
 use Rattle.wb_compose_texts.specs.Names.{stop_shown, terminals_of}
 use Rattle.wb_compose_texts.specs.Signatures.{grammar_signatures, signatures_of}

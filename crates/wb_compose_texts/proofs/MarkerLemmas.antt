@@ -1,8 +1,7 @@
 -- The first marker of a text by other sets of the same markers, and in other languages of one union.
-use Rattle.std.proofs.Common.{◌≡◌, ◌↔◌, ◌++◌, ◌∷◌, ◌∙◌, [], ℕ, Bool, List, map, ap, subst, sym}
+use Rattle.std.proofs.Common.{◌≡◌, ◌↔◌, ◌∷◌, ◌∙◌, [], ℕ, Bool, List, map, ap, subst}
 use Rattle.std.proofs.lemmas.List.{map-append}
 use Rattle.wb_base.specs.Grammar.{GrammarView}
-use Rattle.wb_base.specs.declared.symbol.Symbol.{Symbol}
 use Rattle.wb_compose_theory.specs.Renamings.{renamed}
 use Rattle.wb_compose_theory_grammar.specs.Pieces.{ArePieces}
 use Rattle.wb_compose_theory_language.specs.Languages.{IsUnitedLanguage}
@@ -13,10 +12,9 @@ use Rattle.wb_compose_theory_order.proofs.LanguageLemmas.{same_union}
 use Rattle.wb_compose_theory_order.proofs.TextLemmas.{derivation_there, leaves_there, next_there, on_text_there, renamed_leaf}
 use Rattle.wb_compose_texts.proofs.SameLanguage.{same_number, still}
 use Rattle.wb_determinism_contexts.specs.Considered.{LexiconView}
-use Rattle.wb_grammar_theory.specs.Trees.{Leaf, leaves}
+use Rattle.wb_grammar_theory.specs.Trees.{Leaf}
 use Rattle.wb_reading_theory.specs.Markers.{HasNoMarker, IsMarkerAt, IsPlain}
 use Rattle.wb_scan_theory.specs.Languages.{LanguageView}
-use Rattle.wb_scan_theory.specs.Readings.{AreOnText}
 use Rattle.wb_scan_theory.specs.Tokens.{NextToken, token}
 use Rattle.wb_termset.specs.Sets.{IsMember}
 

@@ -1,5 +1,5 @@
 -- The markers of a union by number are its marking terminals.
-use Rattle.std.proofs.Common.{◌≡◌, ◌≤◌, ◌<◌, ◌+◌, ◌-◌, ◌∙◌, ◌∷◌, [], ℕ, Bool, true, false, List, Option, Some, All, inl, inr, drop, length}
+use Rattle.std.proofs.Common.{◌≡◌, ◌<◌, ◌+◌, ◌-◌, ◌∙◌, ◌∷◌, [], ℕ, Bool, true, false, List, Option, Some, All, inl, inr, length}
 use Rattle.std.proofs.Common.{None, map}
 use Rattle.std.proofs.Common.{replicate, slice_get, take, ap, refl, sym, subst, arith}
 use Rattle.std.specs.Prelude.{IsTrue}
@@ -23,12 +23,12 @@ use Rattle.wb_compose_theory_grammar.proofs.FactLemmas.{at_map, map_at}
 use Rattle.wb_compose_theory_grammar.proofs.PlaceLemmas.{lift_past}
 use Rattle.wb_compose_theory_grammar.proofs.ProductionLemmas.{drop_at}
 use Rattle.wb_compose_theory_language.specs.Apart.{IsMarkerRow}
-use Rattle.wb_compose_theory_language.specs.Written.{WrittenPiece, pieces_of}
+use Rattle.wb_compose_theory_language.specs.Written.{pieces_of}
 use Rattle.wb_compose_theory_order.specs.Names.{all_of}
 use Rattle.wb_determinism.specs.Images.{is_marker_row, is_marking}
 use Rattle.wb_determinism_host.specs.Lexicons.{lexicon_of}
 use Rattle.wb_certify.specs.Kept.{AreCertifiedBoth}
-use Rattle.wb_compose.specs.Joined.{AreCertifiedApart, Extended}
+use Rattle.wb_compose.specs.Joined.{Extended}
 use Rattle.wb_compose.specs.Written.{written_in, written_with}
 use Rattle.wb_compose.proofs.BridgedLemmas.{certified_is_bridged}
 use Rattle.wb_compose.proofs.ImageLemmas.{bridge_listed}

@@ -1,19 +1,16 @@
 -- A text has one reading to a host with extensions.
-use Rattle.std.proofs.Common.{◌≡◌, ◌∙◌, ℕ, Bool, List, ap, refl, sym, subst}
-use Rattle.wb_base.specs.Grammar.{GrammarView}
+use Rattle.std.proofs.Common.{◌≡◌, ◌∙◌, ℕ, Bool, List, ap, refl, sym}
 use Rattle.wb_compose.proofs.WrittenApart.{all_certified}
 use Rattle.wb_compose.specs.Written.{written_in}
 use Rattle.wb_compose_texts.specs.Names.{name_at, terminals_of}
 use Rattle.wb_compose_texts.specs.Unions.{IsLanguageOf, Union}
 use Rattle.wb_compose_texts.proofs.OneUnion.{language_there}
-use Rattle.wb_compose_theory_grammar.specs.Pieces.{ArePieces}
-use Rattle.wb_compose_theory_language.specs.Written.{pieces_of}
 use Rattle.wb_determinism_host.specs.Lexicons.{lexicon_of}
 use Rattle.wb_operations.specs.Operations.{OperationSignature}
 use Rattle.wb_reading_theory.specs.Markers.{IsMarkerAt}
 use Rattle.wb_reading_theory.proofs.MarkerLemmas.{one_marker}
 use Rattle.wb_compose_texts.specs.UnionMarkers.{union_markers}
-use Rattle.wb_compose_texts.specs.Readings.{HasFirstMarker, HasOneReading, IsReadingIn, IsUnionReading}
+use Rattle.wb_compose_texts.specs.Readings.{HasFirstMarker, HasOneReading, IsReadingIn}
 use Rattle.wb_compose_texts.specs.declared.text_reading.TextReading.{TextReading}
 use Rattle.wb_compose_texts.specs.declared.text_reading.TextReading.TheVariants.{Host, MarkerAt}
 use Rattle.wb_compose_texts.proofs.MarkerLemmas.{marker_in_union}

@@ -1,5 +1,5 @@
 -- A text without markers has the answer that it has in the language of the host alone.
-use Rattle.std.proofs.Common.{◌≡◌, ◌∙◌, [], ℕ, Bool, List, map, sym}
+use Rattle.std.proofs.Common.{◌∙◌, [], ℕ, Bool, List, map, sym}
 use Rattle.wb_base.specs.Different.{Differ}
 use Rattle.wb_operations.specs.Operations.{OperationSignature}
 use Rattle.wb_report.specs.declared.shown.ShownStop.{ShownStop}

@@ -1,5 +1,5 @@
 -- What is the host's is shown by the same names with extensions: terminals, the end of a text, and productions.
-use Rattle.std.proofs.Common.{◌≡◌, ◌<◌, ◌≤◌, ◌+◌, ◌-◌, ◌∙◌, ◌++◌, ◌∷◌, [], ℕ, zero, suc, List, None, All, inl, inr, length, map, slice_get}
+use Rattle.std.proofs.Common.{◌≡◌, ◌<◌, ◌+◌, ◌-◌, ◌∙◌, ◌++◌, ◌∷◌, [], ℕ, zero, suc, List, None, inl, inr, length, map, slice_get}
 use Rattle.std.proofs.Common.{ap, refl, sym, subst, arith}
 use Rattle.std.proofs.lemmas.Bool.{cases_lt}
 use Rattle.std.proofs.lemmas.List.{length-append}
@@ -26,7 +26,6 @@ use Rattle.wb_compose_theory_order.specs.Answers.{renamed_forest}
 use Rattle.wb_compose_theory_order.specs.Laws.{HasSameNames}
 use Rattle.wb_compose_theory_order.specs.Names.{all_of, in_turn}
 use Rattle.wb_compose_theory_order.proofs.PrintedLemmas.{printed_alike}
-use Rattle.wb_compose.specs.Joined.{Extended}
 use Rattle.wb_compose.specs.Written.{written_in}
 use Rattle.wb_certify_shown.specs.Names.{grammar_terminals, or_end, productions_in}
 use Rattle.wb_compose_texts.specs.Names.{added_names, name_at, stop_shown, terminals_of}

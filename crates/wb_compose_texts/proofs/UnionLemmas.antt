@@ -1,8 +1,8 @@
 -- The language and the attributes of a host with extensions extend those of the host alone.
-use Rattle.std.proofs.Common.{◌≡◌, ◌<◌, ◌+◌, ◌∙◌, inl, [], ℕ, Bool, List, All, length, map, sym, ap, subst, arith}
+use Rattle.std.proofs.Common.{◌≡◌, ◌<◌, ◌+◌, ◌∙◌, inl, [], ℕ, Bool, List, length, map, sym, ap, subst, arith}
 use Rattle.std.specs.Prelude.{IfSome, option_map}
 use Rattle.std.proofs.lemmas.List.{length-take-le}
-use Rattle.std.proofs.lemmas.List.Elements.{All-map, All-nil}
+use Rattle.std.proofs.lemmas.List.Elements.{All-map}
 use Rattle.std.proofs.lemmas.Simd.{map-map}
 use Rattle.wb_base.specs.Different.{Differ}
 use Rattle.wb_base.specs.Grammar.{GrammarView}
@@ -10,11 +10,9 @@ use Rattle.wb_lemmas.proofs.Elements.{all_weaker}
 use Rattle.wb_operations.specs.Operations.{OperationSignature}
 use Rattle.wb_scan_theory.specs.Languages.{LanguageView}
 use Rattle.wb_syntax_resolved.specs.Attribution.{IsAttribution}
-use Rattle.wb_syntax_resolved.specs.declared.attribution.AttributionParts.{AttributionParts}
 use Rattle.wb_syntax_resolved.specs.declared.resolved.ResolvedParts.{ResolvedParts}
 use Rattle.wb_syntax_resolved.specs.Grammar.{IsGrammarOf}
 use Rattle.wb_compose_theory_attributes.specs.Numbers.{NumberMap}
-use Rattle.wb_compose_theory_grammar.specs.UnitedWorlds.{united}
 use Rattle.wb_compose_theory_language.specs.Languages.{IsUnitedLanguage}
 use Rattle.wb_compose_theory_lists.specs.Additions.{Addition, IsAddition, Rows, nothing}
 use Rattle.wb_compose_theory_lists.specs.Hosts.{IsOfRows, rows_of}
@@ -26,15 +24,14 @@ use Rattle.wb_compose_theory_lists.proofs.LawLemmas.{is_of_rows}
 use Rattle.wb_compose_theory_lists.proofs.PlacedLemmas.{after_below}
 use Rattle.wb_determinism_host.specs.Lexicons.{lexicon_of}
 use Rattle.wb_certify.specs.Kept.{AreCertifiedBoth}
-use Rattle.wb_compose.specs.Attributes.{addition_of, additions_of, attributes_of}
-use Rattle.wb_compose.specs.Joined.{AreCertifiedApart, Extended}
+use Rattle.wb_compose.specs.Attributes.{addition_of, additions_of}
+use Rattle.wb_compose.specs.Joined.{Extended}
 use Rattle.wb_compose.specs.Written.{name_in, written_in}
 use Rattle.wb_compose.proofs.AdditionLemmas.{is_addition_of}
 use Rattle.wb_compose.proofs.LawLemmas.{is_attribution}
 use Rattle.wb_compose.proofs.WrittenApart.{all_apart, all_certified}
 use Rattle.wb_compose_texts.specs.Roots.{attributes_in}
 use Rattle.wb_compose_texts.specs.Unions.{Union}
-use Rattle.wb_compose_texts.proofs.NameLemmas.{resolved_in}
 use Rattle.wb_reading_theory.specs.Attributions.{ExtendsAttribution}
 use Rattle.wb_reading_theory.specs.Extends.{Extends}
 use Rattle.wb_reading_theory.specs.Languages.{ExtendsLanguage}

@@ -1,5 +1,5 @@
 -- What is composed of a host by itself and with extensions, and the first marker of a text there, by number.
-use Rattle.std.specs.Prelude.{◌≡◌, [], ℕ, Bool, List, All, map}
+use Rattle.std.specs.Prelude.{[], ℕ, Bool, List, All, map}
 use Rattle.wb_base.specs.Different.{Differ}
 use Rattle.wb_compose.specs.Composed.{IsComposed, IsWith, name_of}
 use Rattle.wb_compose_texts.specs.Unions.{all_resolved}

@@ -1,7 +1,6 @@
 -- A reading by number is one in the union, with the marker's name.
 use Rattle.std.proofs.Common.{subst}
 use Rattle.wb_compose_texts.specs.Unions.{all_resolved}
-use Rattle.wb_reading.specs.declared.reading.HostReading.{HostReading}
 use Rattle.wb_compose_texts.specs.UnionMarkers.{union_markers}
 use Rattle.wb_compose_texts.specs.Inner.Pairs.{IsMarkerFound}
 use Rattle.wb_compose_texts.specs.declared.text_reading.TextReading.TheVariants.{Host, MarkerAt}
