@@ -1,4 +1,5 @@
 -- The report of what is asked has the laws of a report, whatever is asked.
+mod CertificateLaws
 mod CertifyLaws
 mod CheckLaws
 mod ComposeLaws
@@ -11,6 +12,7 @@ mod ValueLaws
 use Rattle.wb_operations.specs.Operations.{Operations}
 use Rattle.wb_program_words.specs.Asked.{Asked}
 use Rattle.wb_program_words.specs.Asked as a
+use Rattle.wb_program.proofs.AllReports.CertificateLaws.{certificate_laws}
 use Rattle.wb_program.proofs.AllReports.CertifyLaws.{certify_laws}
 use Rattle.wb_program.proofs.AllReports.CheckLaws.{check_laws}
 use Rattle.wb_program.proofs.AllReports.ComposeLaws.{compose_laws}
@@ -31,4 +33,5 @@ has_laws operations (a.compose host extensions) = compose_laws operations host e
 has_laws operations (a.tree text host extensions) = tree_laws operations text host extensions
 has_laws operations (a.run text attribute steps host extensions) = run_laws operations text attribute steps host extensions
 has_laws operations (a.generate number size attribute host extensions) = generate_laws operations number size attribute host extensions
+has_laws operations (a.certificate host extensions) = certificate_laws operations host extensions
 has_laws operations (a.reading text host extensions) = reading_laws operations text host extensions

@@ -5,8 +5,7 @@ use Rattle.wb_program.specs.declared.status.Status.{Status}
 use Rattle.wb_program.specs.declared.status.Status.TheVariants.{Absent, NoMemory, ReadFault, Usage, WriteFault}
 use Rattle.wb_program.proofs.WrittenWhole.{IsReported, differs}
 use Rattle.wb_operations.specs.Operations.{Operations}
-use Rattle.wb_report.specs.Lines.{report_of}
-use Rattle.wb_report.specs.declared.outcome.Outcome.TheVariants as o
+use Rattle.wb_program_words.specs.Usage.{usage_line}
 use Rattle.wb_program_words.specs.Asked.{Asked}
 use Rattle.wb_program_words.specs.Words.{Asks}
 use Rattle.wb_world.specs.Shelf.{Files}
@@ -44,7 +43,7 @@ usage_writes s usage (inr (inr same)) = absurd (cc (usage, same))
 
 -- and where they ask for none it is the usage line
 pub replies_usage : (operations : Operations) (words : List (List ℕ)) (known : Option Files) (answer : Answer) → ¬ InCommandSet words
-    → answer.status ≡ Usage → answer.report.items ≡ report_of o.Usage → Replies operations words known answer
+    → answer.status ≡ Usage → answer.report.items ≡ usage_line → Replies operations words known answer
 replies_usage operations words known answer none_asked usage line = record {
   report = inl (record { usage = usage; none_asked = none_asked; line = line });
   usage = λ same. none_asked;

@@ -3,6 +3,7 @@ mod AnswerLemmas
 mod Answering
 mod AttributeLemmas
 mod CauseLemmas
+mod CertificateLemmas
 pub mod ComposeLemmas
 pub mod Excludes
 mod ExtensionLemmas

@@ -9,11 +9,13 @@ pub mod Reading
 pub mod Value
 pub mod Run
 pub mod Generate
+pub mod Certificate
 use Rattle.std.specs.Prelude.{◌≤◌, ℕ, Option, List, [], ◌∷◌, length, map}
 use Rattle.wb_operations.specs.Operations.{Operations, OperationSignature}
 use Rattle.wb_program_words.specs.Asked.{Asked}
 use Rattle.wb_program_words.specs.Asked as a
 use Rattle.wb_world.specs.Shelf.{Files}
+use Rattle.wb_program.specs.Commands.Certificate.{CertificateReport}
 use Rattle.wb_program.specs.Commands.Certify.{CertifyReport}
 use Rattle.wb_program.specs.Commands.Check.{CheckReport}
 use Rattle.wb_program.specs.Commands.Compose.{ComposeReport}
@@ -40,6 +42,8 @@ IsReportOf operations known status bytes (a.run text attribute steps host extens
     RunReport operations known text attribute steps host extensions status bytes
 IsReportOf operations known status bytes (a.generate number size attribute host extensions) =
     GenerateReport operations known number size attribute host extensions status bytes
+IsReportOf operations known status bytes (a.certificate host extensions) =
+    CertificateReport operations.signatures known host extensions status bytes
 IsReportOf operations known status bytes (a.reading text host extensions) =
     ReadingReport operations.signatures known text host extensions status bytes
 
@@ -55,4 +59,5 @@ ReadsTo operations known (a.tree text host extensions) P = StopsComposed operati
 ReadsTo operations known (a.run text attribute steps host extensions) P = RunStops operations known text attribute host extensions P
 ReadsTo operations known (a.generate number size attribute host extensions) P =
     StopsComposed operations known host extensions P (λ r values. ⊥)
+ReadsTo operations known (a.certificate host extensions) P = StopsComposed operations known host extensions P (λ r values. ⊥)
 ReadsTo operations known (a.reading text host extensions) P = StopsComposed operations known host extensions P (λ r values. P text)

@@ -2,9 +2,8 @@
 use Rattle.std.specs.Prelude.{◌≡◌, ◌⊎◌, ℕ, Option, List}
 use Rattle.wb_world.specs.Shelf.{Files}
 use Rattle.wb_operations.specs.Operations.{Operations}
-use Rattle.wb_report.specs.Lines.{report_of}
-use Rattle.wb_report.specs.declared.outcome.Outcome.TheVariants as o
 use Rattle.wb_program_words.specs.Asked.{Asked}
+use Rattle.wb_program_words.specs.Usage.{usage_line}
 use Rattle.wb_program_words.specs.Words.{Asks}
 use Rattle.wb_program.specs.Commands.{IsReportOf}
 use Rattle.wb_program.specs.declared.status.Status.{Status}
@@ -19,7 +18,7 @@ pub record InCommandSet (words : List (List ℕ)) : Type 0 where
 pub record IsUsage (words : List (List ℕ)) (status : Status) (bytes : List ℕ) : Type 0 where
   pub usage : status ≡ Usage
   pub none_asked : ¬ InCommandSet words
-  pub line : bytes ≡ report_of o.Usage
+  pub line : bytes ≡ usage_line
 
 -- the words ask for a command, and this is its report
 pub record IsAnswered (operations : Operations) (words : List (List ℕ)) (known : Option Files) (status : Status) (bytes : List ℕ)

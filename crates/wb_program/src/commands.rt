@@ -10,6 +10,7 @@ ghost use Rattle.wb_program.specs.Inner.Makes.{Answers};
 ghost use Rattle.wb_program.specs.Inner.OfTexts.{IsOnText};
 ghost use Rattle.wb_program.specs.Commands.{IsReportOf, ReadsTo};
 
+mod certificate;
 mod certify;
 mod check;
 mod compose;
@@ -23,6 +24,7 @@ mod value;
 use crate::answer::Answer;
 use crate::files::ReadFailure;
 use crate::texts::{OfText, answer_of_text};
+use certificate::answer_certificate;
 use certify::answer_certify;
 use check::answer_check;
 use compose::answer_compose;
@@ -64,6 +66,9 @@ pub(crate) fn answer_to<S: Shelf, M: Meaning>(
         }
         Command::Compose { host, extensions } => {
             answer_compose(alloc, shelf, host, extensions, operations)
+        }
+        Command::Certificate { host, extensions } => {
+            answer_certificate(alloc, shelf, host, extensions, operations)
         }
         on_text => answer_on_text(alloc, shelf, on_text, operations),
     }

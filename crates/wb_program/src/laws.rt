@@ -50,4 +50,5 @@ fn laws_below()
     one_root_law();
     one_value_law();
     wb_compose_texts::generated_laws::one_text_law();
+    wb_recheck_files::laws::one_text_law();
 }

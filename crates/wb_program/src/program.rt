@@ -5,8 +5,8 @@
 ghost use Rattle.std.specs.Prelude.{◌≡◌, ◌⊎◌, ◌≤◌, IfOk, IfErr};
 ghost use Rattle.wb_world.specs.Cause.{NeverFalls, Rose};
 ghost use Rattle.wb_operations.specs.Kept.{IsKept};
-ghost use Rattle.wb_report.specs.Lines.{report_of};
 ghost use Rattle.wb_program_words.specs.Asked.{texts};
+ghost use Rattle.wb_program_words.specs.Usage.{usage_line};
 ghost use Rattle.wb_program.specs.Inner.Stopped.{outside};
 ghost use Rattle.wb_program.specs.Inner.Makes.{Makes};
 ghost use Rattle.wb_program.specs.Reads.{AbsentCause, FaultCause, ComesTo};
@@ -14,15 +14,14 @@ ghost use Rattle.wb_program.specs.Report.{InCommandSet, IsReport};
 ghost use Rattle.wb_program.specs.Written.{Wrote};
 ghost use Rattle.wb_program.specs.Inner.Answered.{Replies};
 
-use crate::answer::{Answer, reported};
+use crate::answer::Answer;
 use crate::commands::answer_to;
 use crate::files::ReadFailure;
 use crate::status::Status;
 use crate::writing::write_report;
 use std::alloc::{AllocError, Global};
 use wb_operations::{Meaning, OperationRefusal, OperationTable};
-use wb_program_words::command_of;
-use wb_report::Outcome;
+use wb_program_words::{command_of, usage_line};
 use wb_values::Value;
 use wb_world::{Shelf, Sink};
 
@@ -98,7 +97,10 @@ fn answer<S: Shelf, M: Meaning>(
 // The answer for words that are no command.
 fn usage(alloc: Global) -> Result<Answer, AllocError>
     ensures status { IfOk result (λ answer. answer.status ≡ Status.Usage) }
-    ensures report { IfOk result (λ answer. answer.report.items ≡ report_of Outcome.Usage) }
+    ensures report { IfOk result (λ answer. answer.report.items ≡ usage_line) }
 {
-    reported(alloc, Status::Usage, Outcome::Usage)
+    Ok(Answer {
+        status: Status::Usage,
+        report: Vec::from_slice(alloc, usage_line().as_bytes())?,
+    })
 }

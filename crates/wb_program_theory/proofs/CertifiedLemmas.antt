@@ -26,6 +26,7 @@ use Rattle.wb_program.specs.Inner.Below.{ExcludesExtensions, ExcludesHeaders}
 use Rattle.wb_program.proofs.Excludes.{not_few}
 use Rattle.wb_program.proofs.OneCheck.{on_file}
 use Rattle.wb_program.proofs.OneSeveralReport.{one_values, refused_or_all}
+use Rattle.wb_program.specs.Commands.Certificate.{CertificateChecks}
 use Rattle.wb_program.specs.Commands.Generate.{GenerateChecks, ShownMade}
 use Rattle.wb_program.specs.Commands.Run.{RunChecks}
 use Rattle.wb_program.specs.Values.{ShownTextValue, ShownTreeValue}
@@ -114,7 +115,12 @@ module _ (operations : Operations) (files : Files) (r : ResolvedParts) (values :
   pub compose_well : (s : Status) (bytes : List ℕ) → ComposeChecks operations.signatures r values s bytes → ¬ IsRefusalStatus s
   compose_well s bytes (ends, lines) refused = subst IsRefusalStatus ends refused
 
-  -- nor those of `tree`
+  -- nor a certificate
+  pub certificate_well : (s : Status) (bytes : List ℕ) → CertificateChecks r values s bytes → ¬ IsRefusalStatus s
+  certificate_well s bytes (inl (ends, line)) refused = subst IsRefusalStatus ends refused
+  certificate_well s bytes (inr (ends, text)) refused = subst IsRefusalStatus ends refused
+
+  -- nor the lines of `tree`
   pub tree_well : (text : List ℕ) (s : Status) (bytes : List ℕ) → TreeChecks operations.signatures (Some files) text r values s bytes
       → ¬ IsRefusalStatus s
   tree_well text s bytes (inl (ends, x)) refused = subst IsRefusalStatus ends refused
@@ -160,6 +166,7 @@ no_refusal extensions headers operations files host all r values are = record {
       (run_well operations files r values text name steps);
   generate = λ number size name. rest_of (GenerateChecks operations number size name)
       (generate_well operations files r values number size name);
+  certificate = rest_of CertificateChecks (certificate_well operations files r values);
   reading = λ text. rest_of (ReadingChecks operations.signatures (Some files) text) (reading_well operations files r values text);
 }
   where

@@ -15,6 +15,7 @@ use Rattle.wb_program.specs.Inner.Below.{ExcludesExtensions, ExcludesHeaders}
 use Rattle.wb_program.specs.Checks.{Ends}
 use Rattle.wb_program.specs.declared.status.Status.{Status}
 use Rattle.wb_program.specs.declared.status.Status.TheVariants as st
+use Rattle.wb_program.specs.Commands.Certificate.{CertificateChecks}
 use Rattle.wb_program.specs.Commands.Generate.{GenerateChecks}
 use Rattle.wb_program.specs.Commands.Run.{RunChecks}
 use Rattle.wb_program_words.proofs.OneAsked.{one_asked}
@@ -27,7 +28,7 @@ use Rattle.wb_program.specs.Commands.Value.{RootReport, ValueReport}
 use Rattle.wb_program_theory.specs.Certified.{ComposeChecks, IsRefusalStatus, ReadingChecks, TreeChecks}
 use Rattle.wb_program_theory.specs.Codes.{HaveOneCode, IsCodeStatus, ShowOneCode}
 use Rattle.wb_program_theory.proofs.AlikeLemmas.{IsTold, told_alike, written_alike}
-use Rattle.wb_program_theory.proofs.CertifiedLemmas.{compose_well, generate_well, reading_well, run_well, tree_well}
+use Rattle.wb_program_theory.proofs.CertifiedLemmas.{certificate_well, compose_well, generate_well, reading_well, run_well, tree_well}
 use Rattle.wb_program_theory.proofs.FileLemmas.{file_is}
 use Rattle.wb_program_theory.proofs.HostCodes.{IsWellDefinedShown, attributes_shown, well_defined_alike, written_shown}
 use Rattle.wb_program_theory.proofs.MarkerCodes.{RefusalsExclude}
@@ -135,6 +136,12 @@ module _ (extensions : ExcludesExtensions) (headers : ExcludesHeaders) (marks : 
           (several_refused extensions headers marks operations.signatures files t others code' host all
           (GenerateChecks operations number size name)
           (λ r values report. generate_well operations files r values number size name t others report (refuses t code')) y)
+      asked_code (a.certificate host all) x y =
+          one_file_code extensions headers marks operations.signatures files host all bytes others
+          (several_refused extensions headers marks operations.signatures files s bytes code host all CertificateChecks
+          (λ r values report. certificate_well operations files r values s bytes report (refuses s code)) x)
+          (several_refused extensions headers marks operations.signatures files t others code' host all CertificateChecks
+          (λ r values report. certificate_well operations files r values t others report (refuses t code')) y)
       asked_code (a.reading text host all) x y =
           one_file_code extensions headers marks operations.signatures files host all bytes others
           (several_refused extensions headers marks operations.signatures files s bytes code host all

@@ -1,5 +1,6 @@
--- Words that ask for `check`, `certify` or `compose` have a report, where files are certified.
-use Rattle.std.proofs.Common.{◌++◌, ◌∷◌, [], ℕ, List, Some, inr, length, refl}
+-- Words that ask for `check`, `certify`, `compose` or `certificate` have a report, where files are certified.
+use Rattle.std.proofs.Common.{◌<◌, ◌≤◌, ◌⊎◌, ◌++◌, ◌∷◌, [], ℕ, List, Some, inl, inr, length, refl}
+use Rattle.std.proofs.lemmas.Bool.{cases_lt}
 use Rattle.wb_certify.specs.Extensions.{IsOneExtension}
 use Rattle.wb_certify_files.specs.ExtensionContents.{IsExtensionText}
 use Rattle.wb_lemmas.proofs.NotNot.{follows}
@@ -11,11 +12,14 @@ use Rattle.wb_syntax_resolved.specs.declared.resolved.ResolvedParts.{ResolvedPar
 use Rattle.wb_world.specs.Shelf.{Files}
 use Rattle.wb_program.specs.Inner.Below.{ExcludesExtensions, ExcludesHeaders}
 use Rattle.wb_program.specs.SeveralChecks.{AreEach, IsNextText}
-use Rattle.wb_program.specs.declared.status.Status.TheVariants.{Done}
+use Rattle.wb_program.specs.declared.status.Status.{Status}
+use Rattle.wb_program.specs.declared.status.Status.TheVariants.{Done, TooLongToPrint}
 use Rattle.wb_program_words.specs.Asked as a
+use Rattle.wb_program.specs.Commands.Certificate.{CertificateChecks, IsCertificateOf}
 use Rattle.wb_program.specs.Commands.Certify.{ExtensionsReport}
 use Rattle.wb_program_theory.specs.Certified.{ComposeChecks}
-use Rattle.wb_program_theory.specs.Reported.{HaveCertifyReport, HaveCheckReport, HaveComposeReport, IsDone, IsReported}
+use Rattle.wb_program_theory.specs.Reported.{HaveCertificateReport, HaveCertifyReport, HaveCheckReport, HaveComposeReport, IsDone}
+use Rattle.wb_program_theory.specs.Reported.{IsPrintStatus, IsReported}
 use Rattle.wb_program_theory.proofs.CertifiedLemmas.{reports}
 use Rattle.wb_program_theory.proofs.ExistenceLemmas.{from_file, has_withdrawn}
 use Rattle.wb_program_theory.proofs.FileLemmas.{file_is}
@@ -84,5 +88,36 @@ have_compose_report excludes headers operations words files host all r values as
         report = reports excludes headers operations.signatures files host all r values are
             (ComposeChecks operations.signatures) Done line
             (refl, record { names = names; withdrawn = withdrawn; lines = refl });
+      });
+    })
+
+-- what is reported of a certificate: it is short enough, or each is too long
+checked : (r : ResolvedParts) (values : List ResolvedParts) → ¬ ¬ IsReported (CertificateChecks r values) IsPrintStatus
+checked r values none =
+    let long : (text : List ℕ) → IsCertificateOf r values text → 16777216 < length text =
+    λ text is. long_unless text is (cases_lt 16777216 (length text)) in
+    none (record {
+      status = TooLongToPrint;
+      bytes = report_of o.TooLongToPrint;
+      such = tt;
+      is = inl (refl, record { long = long; line = refl });
+    })
+  where
+    long_unless : (text : List ℕ) → IsCertificateOf r values text → (16777216 < length text) ⊎ (length text ≤ 16777216)
+        → 16777216 < length text
+    long_unless text is (inl long) = long
+    long_unless text is (inr short) =
+        absurd (none (record { status = Done; bytes = text; such = tt; is = inr (refl, record { is = is; short = short }) }))
+
+pub have_certificate_report : ExcludesExtensions → ExcludesHeaders → HaveCertificateReport
+have_certificate_report excludes headers operations words files host all r values asks are =
+    follows (checked r values) (λ x. record {
+      status = x.status;
+      bytes = x.bytes;
+      such = x.such;
+      is = inr (record {
+        asked = a.certificate host all;
+        asks = asks;
+        report = reports excludes headers operations.signatures files host all r values are CertificateChecks x.status x.bytes x.is;
       });
     })

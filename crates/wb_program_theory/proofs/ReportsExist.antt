@@ -13,11 +13,11 @@ use Rattle.wb_program.specs.declared.status.Status.TheVariants.{TextTooLong}
 use Rattle.wb_program_words.specs.Asked as a
 use Rattle.wb_program_words.specs.Words.{Asks}
 use Rattle.wb_program_theory.specs.Certified.{AreCertified, TreeChecks}
-use Rattle.wb_program_theory.specs.Reported.{HaveReport, HaveReports, IsAny, of_certify, of_check, of_compose, of_generate, of_run}
-use Rattle.wb_program_theory.specs.Reported.{of_reading, of_tree}
+use Rattle.wb_program_theory.specs.Reported.{HaveReport, HaveReports, IsAny, of_certificate, of_certify, of_check, of_compose}
+use Rattle.wb_program_theory.specs.Reported.{of_generate, of_reading, of_run, of_tree}
 use Rattle.wb_program_theory.proofs.CertifiedLemmas.{reports}
 use Rattle.wb_program_theory.proofs.GenerateReports.{have_generate_report}
-use Rattle.wb_program_theory.proofs.LineReports.{have_certify_report, have_check_report, have_compose_report}
+use Rattle.wb_program_theory.proofs.LineReports.{have_certificate_report, have_certify_report, have_check_report, have_compose_report}
 use Rattle.wb_program_theory.proofs.ReadingReports.{reading_reported}
 use Rattle.wb_program_theory.proofs.RunReports.{have_run_report}
 use Rattle.wb_program_theory.proofs.TreeReports.{have_tree_report}
@@ -57,6 +57,9 @@ module _ (excludes : ExcludesExtensions) (headers : ExcludesHeaders) where
       certain (record { status = x.status; bytes = x.bytes; such = tt; is = x.is })
   have_reports operations words files host all r values asked ops are of_compose asks =
       follows (have_compose_report excludes headers operations words files host all r values asks are)
+      (λ x. record { status = x.status; bytes = x.bytes; such = tt; is = x.is })
+  have_reports operations words files host all r values asked ops are of_certificate asks =
+      follows (have_certificate_report excludes headers operations words files host all r values asks are)
       (λ x. record { status = x.status; bytes = x.bytes; such = tt; is = x.is })
   have_reports operations words files host all r values asked ops are (of_tree {text = text} (contents, there)) asks =
       tree_reported operations words files text host all r values are asks contents there (cases_lt 1048576 (length contents))

@@ -14,6 +14,7 @@ use Rattle.wb_program.specs.declared.status.Status.TheVariants.{Done, DuplicateE
 use Rattle.wb_program.specs.declared.status.Status.TheVariants.{TooManyExtensions, WrongHost}
 use Rattle.wb_program.specs.Commands.Generate.{GenerateChecks, GenerateReport}
 use Rattle.wb_program.specs.Commands.Run.{RunChecks, RunReport}
+use Rattle.wb_program.specs.Commands.Certificate.{CertificateChecks, CertificateReport}
 use Rattle.wb_program.specs.Commands.Compose.{ComposeReport, ComposedLines}
 use Rattle.wb_program.specs.Commands.Reading.{ReadingReport, TextReadingReport}
 use Rattle.wb_program.specs.Commands.Tree.{TextReport, TreeReport}
@@ -54,8 +55,8 @@ pub record IsItsRest (whole rest : Report) : Type 0 where
   pub same : (status : Status) (bytes : List ℕ) → whole status bytes ↔ rest status bytes
   pub accepted : (status : Status) (bytes : List ℕ) → whole status bytes → ¬ IsRefusalStatus status
 
--- each command that composes reports of the files what comes after their checks, of the host and extensions of these values, and no
--- refusal
+-- each command that composes, and `certificate`, reports of the files what comes after their checks, of the host and extensions of these
+-- values, and no refusal
 pub record HaveNoRefusal (operations : Operations) (files : Files) (host : List ℕ) (extensions : List (List ℕ)) (r : ResolvedParts)
     (values : List ResolvedParts) : Type 0 where
   pub compose : IsItsRest (ComposeReport operations.signatures (Some files) host extensions) (ComposeChecks operations.signatures r values)
@@ -68,6 +69,7 @@ pub record HaveNoRefusal (operations : Operations) (files : Files) (host : List 
   pub generate : (number size : ℕ) (name : List ℕ)
       → IsItsRest (GenerateReport operations (Some files) number size name host extensions)
       (GenerateChecks operations number size name r values)
+  pub certificate : IsItsRest (CertificateReport operations.signatures (Some files) host extensions) (CertificateChecks r values)
   pub reading : (text : List ℕ)
       → IsItsRest (ReadingReport operations.signatures (Some files) text host extensions)
       (ReadingChecks operations.signatures (Some files) text r values)

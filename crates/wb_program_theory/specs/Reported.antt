@@ -12,7 +12,7 @@ use Rattle.wb_program.specs.Checks.{Report}
 use Rattle.wb_program.specs.Files.{KnownFile}
 use Rattle.wb_program.specs.Texts.{IsText}
 use Rattle.wb_program.specs.declared.status.Status.{Status}
-use Rattle.wb_program.specs.declared.status.Status.TheVariants.{Done}
+use Rattle.wb_program.specs.declared.status.Status.TheVariants.{Done, TooLongToPrint}
 use Rattle.wb_program.specs.Report.{IsReport}
 use Rattle.wb_program_theory.specs.Certified.{AreCertified}
 use Rattle.wb_program_theory.specs.Laws.{IsAnswerStatus}
@@ -60,6 +60,18 @@ HaveComposeReport = (operations : Operations) (words : List (List ℕ)) (files :
     (r : ResolvedParts) (values : List ResolvedParts) → Asks words (a.compose host extensions)
     → AreCertified operations.signatures files host extensions r values → ¬ ¬ HaveReport operations words files IsDone
 
+-- the status is 0, or says that what is to be printed is too long
+abbrev pub IsPrintStatus : Status → Type 0
+IsPrintStatus Done = Unit {0}
+IsPrintStatus TooLongToPrint = Unit {0}
+IsPrintStatus other = ⊥
+
+-- where they ask for `certificate` and files are certified, they have one with such a status: that they have none can't be
+abbrev pub HaveCertificateReport : Type 0
+HaveCertificateReport = (operations : Operations) (words : List (List ℕ)) (files : Files) (host : List ℕ) (extensions : List (List ℕ))
+    (r : ResolvedParts) (values : List ResolvedParts) → Asks words (a.certificate host extensions)
+    → AreCertified operations.signatures files host extensions r values → ¬ ¬ HaveReport operations words files IsPrintStatus
+
 -- where they ask for `reading`, files are certified, and the text's file is known and isn't too long, they have one with status 0: that
 -- they have none can't be
 abbrev pub HaveReadingReport : Type 0
@@ -92,13 +104,14 @@ HaveGenerateReport = (operations : Operations) (words : List (List ℕ)) (files 
     → Asks words (a.generate number size name host extensions) → AreCertified operations.signatures files host extensions r values
     → ¬ ¬ HaveReport operations words files IsAny
 
--- what is asked of these files: `check`, `certify`, `compose`, or `tree`, `run` or `reading` where the text's file is there, or `generate`
--- where each of their terminals matches some text
+-- what is asked of these files: `check`, `certify`, `compose`, `certificate`, or `tree`, `run` or `reading` where the text's file is there,
+-- or `generate` where each of their terminals matches some text
 pub data IsAskedOf (files : Files) (host : List ℕ) (extensions : List (List ℕ)) (r : ResolvedParts) (values : List ResolvedParts)
     : Asked → Type 0 where
   of_check : IsAskedOf files host extensions r values (a.check host)
   of_certify : IsAskedOf files host extensions r values (a.certify host extensions)
   of_compose : IsAskedOf files host extensions r values (a.compose host extensions)
+  of_certificate : IsAskedOf files host extensions r values (a.certificate host extensions)
   of_tree : {text : List ℕ} → IsThere files text → IsAskedOf files host extensions r values (a.tree text host extensions)
   of_run : {text name : List ℕ} {steps : ℕ} → IsThere files text
       → IsAskedOf files host extensions r values (a.run text name steps host extensions)

@@ -13,7 +13,7 @@ use wb_certify_files::{header_law, one_extension_answer_law};
 use wb_program::{one_status_law, one_text_law};
 
 /// Where files hold a certified host and at most 64 extensions, each certified with it and named apart, `compose`, `tree`, `run`,
-/// `generate` and `reading` refuse nothing: no report of theirs has status 3, 4, 14, 15 or 16. What they report is what comes after these
+/// `generate`, `certificate` and `reading` refuse nothing: no report of theirs has status 3, 4, 14, 15 or 16. What they report is what comes after these
 /// checks, of the one host and the extensions that the files hold.
 pub fn no_refusal_law()
     ensures accepted { (operations : Operations) (files : Files) (host : List ℕ) (extensions : List (List ℕ)) (r : ResolvedParts) (values : List ResolvedParts) → certified.AreCertified operations.signatures files host extensions r values → certified.HaveNoRefusal operations files host extensions r values }
@@ -63,11 +63,13 @@ pub fn tree_report_law()
 }
 
 /// Where words ask for `check` and the file holds a certified host, they have a report with status 0; and so have words that ask for
-/// `certify` or `compose` where files are certified. Of `compose` it is said that they have none can't be.
+/// `certify` or `compose` where files are certified, and for `certificate` with status 0 or 13. Of `compose` and `certificate` it is said
+/// that they have none can't be.
 pub fn line_report_law()
     ensures check { reported.HaveCheckReport }
     ensures certify { reported.HaveCertifyReport }
     ensures compose { reported.HaveComposeReport }
+    ensures certificate { reported.HaveCertificateReport }
 {
     one_extension_answer_law();
     header_law();
@@ -93,8 +95,8 @@ pub fn generate_report_law()
     header_law();
 }
 
-/// So words that ask for `check`, `certify`, `compose`, `tree`, `run`, `generate` or `reading` of certified files have a report, where a
-/// text's file is there, or each terminal matches some text: that they have none can't be.
+/// So words that ask for `check`, `certify`, `compose`, `certificate`, `tree`, `run`, `generate` or `reading` of certified files have a
+/// report, where a text's file is there, or each terminal matches some text: that they have none can't be.
 pub fn report_law()
     ensures { reported.HaveReports }
 {

@@ -8,6 +8,8 @@ pub mod OptionValues
 pub mod Rows
 -- which words ask what
 pub mod Words
+-- the line for words that ask nothing
+pub mod Usage
 -- words ask one thing at most
 pub mod Laws
 -- what only proofs need

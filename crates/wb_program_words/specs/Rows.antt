@@ -1,18 +1,19 @@
 -- The table of commands, one row for each, and that of their options.
-use Rattle.std.specs.Prelude.{◌≡◌, ◌≤◌, ◌-◌, ◌^◌, ℕ, List, [], ◌∷◌, Some, drop, length, slice_get}
+use Rattle.std.specs.Prelude.{◌≡◌, ◌≤◌, ◌⊎◌, ◌-◌, ◌^◌, ℕ, List, [], ◌∷◌, Some, drop, length, slice_get}
 use lib.Chars.{codes}
 use Rattle.wb_program_words.specs.Asked.{Asked}
 use Rattle.wb_program_words.specs.Asked as a
 use Rattle.wb_program_words.specs.OptionValues.{HasValue, OptionValue, number_at, text_at, word_at}
 use Rattle.wb_program_words.specs.Options.{Given}
 use Rattle.wb_program_words.specs.declared.rows.Count.{Count}
-use Rattle.wb_program_words.specs.declared.rows.Count.TheVariants.{Exactly, From}
+use Rattle.wb_program_words.specs.declared.rows.Count.TheVariants.{Exactly, Either, From}
 use Rattle.wb_program_words.specs.declared.rows.Form.{Form}
 use Rattle.wb_program_words.specs.declared.rows.Form.TheVariants as f
 use Rattle.wb_program_words.specs.declared.rows.OptionName.{OptionName}
 use Rattle.wb_program_words.specs.declared.rows.OptionName.TheVariants.{Text, Attribute, Steps, Number, Size}
 use Rattle.wb_program_words.specs.declared.rows.Verb.{Verb}
-use Rattle.wb_program_words.specs.declared.rows.Verb.TheVariants.{Value, Show, Check, Certify, Compose, Tree, Run, Generate, Reading}
+use Rattle.wb_program_words.specs.declared.rows.Verb.TheVariants.{Value, Show, Check, Certify, Compose, Tree, Run, Generate}
+use Rattle.wb_program_words.specs.declared.rows.Verb.TheVariants.{Certificate, Reading}
 
 -- how an option is named
 abbrev pub name_of : OptionName → List ℕ
@@ -54,12 +55,15 @@ row_of Tree = record { verb = codes "tree"; options = Text ∷ []; words = From 
 row_of Run = record { verb = codes "run"; options = Text ∷ Attribute ∷ Steps ∷ []; words = From 1 }
 -- generate --number N --size K --attr NAME HOST EXT..
 row_of Generate = record { verb = codes "generate"; options = Number ∷ Size ∷ Attribute ∷ []; words = From 1 }
+-- certificate HOST [EXT]
+row_of Certificate = record { verb = codes "certificate"; options = []; words = Either 1 2 }
 -- reading --text FILE HOST EXT..
 row_of Reading = record { verb = codes "reading"; options = Text ∷ []; words = From 1 }
 
 -- so many words are as many as a row says
 abbrev pub IsCount : Count → ℕ → Type 0
 IsCount (Exactly n) count = count ≡ n
+IsCount (Either n m) count = (count ≡ n) ⊎ (count ≡ m)
 IsCount (From n) count = n ≤ count
 
 -- the options have these values, one for each name of a row
@@ -78,4 +82,5 @@ asked_of Compose values words = a.compose (word_at words 0) (drop 1 words)
 asked_of Tree values words = a.tree (text_at values 0) (word_at words 0) (drop 1 words)
 asked_of Run values words = a.run (text_at values 0) (text_at values 1) (number_at values 2) (word_at words 0) (drop 1 words)
 asked_of Generate values words = a.generate (number_at values 0) (number_at values 1) (text_at values 2) (word_at words 0) (drop 1 words)
+asked_of Certificate values words = a.certificate (word_at words 0) (drop 1 words)
 asked_of Reading values words = a.reading (text_at values 0) (word_at words 0) (drop 1 words)

@@ -49,6 +49,11 @@ pub enum Command<'a> {
         host: &'a str,
         extensions: &'a [String],
     },
+    /// `certificate HOST [EXT]`; one extension or none
+    Certificate {
+        host: &'a str,
+        extensions: &'a [String],
+    },
     /// `reading --text FILE HOST EXT..`
     Reading {
         text: &'a str,

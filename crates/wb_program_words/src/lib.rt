@@ -8,8 +8,10 @@ pub mod laws;
 mod numbers;
 mod options;
 mod rows;
+mod usage;
 mod values;
 mod words;
 
 pub use command::Command;
+pub use usage::usage_line;
 pub use words::command_of;

@@ -16,6 +16,7 @@ pub enum Verb {
     Tree,
     Run,
     Generate,
+    Certificate,
     Reading,
 }
 
@@ -51,6 +52,7 @@ pub enum Form {
 #[derive(Clone, Copy)]
 pub enum Count {
     Exactly(usize),
+    Either(usize, usize),
     From(usize),
 }
 
@@ -115,6 +117,10 @@ pub(crate) fn row_of(verb: Verb) -> Row
             options: &OF_GENERATE,
             words: Count::From(1),
         },
+        Verb::Certificate => Row {
+            options: &NONE,
+            words: Count::Either(1, 2),
+        },
         Verb::Reading => Row {
             options: &OF_TEXT,
             words: Count::From(1),
@@ -136,6 +142,7 @@ pub(crate) fn verb_of(word: &str) -> Option<Verb>
         "tree" => Some(Verb::Tree),
         "run" => Some(Verb::Run),
         "generate" => Some(Verb::Generate),
+        "certificate" => Some(Verb::Certificate),
         "reading" => Some(Verb::Reading),
         _ => None,
     }

@@ -68,6 +68,7 @@ fn command_with<'a>(verb: Verb, values: &[Value<'a>], words: &'a [String]) -> Co
         },
         Verb::Run => run_with(values, words),
         Verb::Generate => generate_with(values, words),
+        Verb::Certificate => Command::Certificate { host, extensions },
         Verb::Reading => Command::Reading {
             text: text_at(values, 0),
             host,
@@ -108,6 +109,7 @@ fn is_count(count: Count, words: usize) -> bool
 {
     match count {
         Count::Exactly(number) => words == number,
+        Count::Either(number, other) => words == number || words == other,
         Count::From(number) => words >= number,
     }
 }

@@ -4,6 +4,8 @@
 #![tactic(auto)]
 
 #[cfg(test)]
+mod certificate;
+#[cfg(test)]
 mod certify;
 #[cfg(test)]
 mod check;

@@ -7,17 +7,16 @@ use wb_report::{Done, Outcome, ShownStop};
 // The outcome without a refused file of this number.
 pub(crate) fn outcome(alloc: Global, number: usize) -> Outcome {
     match number {
-        0 => Outcome::Usage,
-        1 => stopped(4, ShownStop::NoToken),
-        2 => stopped(2, ShownStop::Unexpected(text(alloc, "end"))),
-        3 => fault(alloc),
-        4 => Outcome::MoreSteps(1_000),
-        5 => Outcome::TextTooLong,
-        6 => Outcome::TooLongToPrint,
-        7 => Outcome::TooManyExtensions,
-        8 => Outcome::DuplicateExtension(text(alloc, "dup")),
-        9 => wrong_host(alloc),
-        10 => Outcome::UnknownAttribute(text(alloc, "size")),
+        0 => stopped(4, ShownStop::NoToken),
+        1 => stopped(2, ShownStop::Unexpected(text(alloc, "end"))),
+        2 => fault(alloc),
+        3 => Outcome::MoreSteps(1_000),
+        4 => Outcome::TextTooLong,
+        5 => Outcome::TooLongToPrint,
+        6 => Outcome::TooManyExtensions,
+        7 => Outcome::DuplicateExtension(text(alloc, "dup")),
+        8 => wrong_host(alloc),
+        9 => Outcome::UnknownAttribute(text(alloc, "size")),
         _ => Outcome::NoSentence { size: 0, least: 1 },
     }
 }
@@ -44,8 +43,7 @@ fn wrong_host(alloc: Global) -> Outcome {
 }
 
 // The line of each outcome without a refused file.
-static OTHERS: [&str; 12] = [
-    "usage: workbench value|show|check|certify|compose|tree|run|generate|reading ARGUMENTS\n",
+static OTHERS: [&str; 11] = [
     "stopped at 4 no token\n",
     "stopped at 2 unexpected end\n",
     "fault div 2\n",

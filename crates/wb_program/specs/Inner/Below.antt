@@ -1,5 +1,5 @@
 -- What laws of the crates below say: that contents, texts and numbers have one answer.
-use Rattle.std.specs.Prelude.{ℕ, List}
+use Rattle.std.specs.Prelude.{◌≡◌, ℕ, List}
 use Rattle.wb_base.specs.Different.{Differ}
 use Rattle.wb_certify_files.specs.OneExtensionAnswer.{HaveOneHeader, HaveOneExtensionAnswer}
 use Rattle.wb_compose_texts.specs.Answers.{HasSameAnswer}
@@ -9,6 +9,7 @@ use Rattle.wb_compose_texts.specs.Roots.{HasOneRootAttribute}
 use Rattle.wb_compose_texts.specs.Values.{HasOneTextValue}
 use Rattle.wb_compose_texts.specs.Withdrawn.{HasOneWithdrawn}
 use Rattle.wb_operations.specs.Operations.{Operations, OperationSignature}
+use Rattle.wb_recheck_files.specs.CertificateTexts.{IsExtensionCertificate, IsHostCertificate}
 use Rattle.wb_syntax_resolved.specs.declared.resolved.ResolvedParts.{ResolvedParts}
 use Rattle.wb_program.specs.SeveralChecks.{names_of}
 
@@ -21,7 +22,7 @@ ExcludesExtensions = (host : ResolvedParts) (operations : List OperationSignatur
 abbrev pub ExcludesHeaders : Type 0
 ExcludesHeaders = (host : ResolvedParts) (contents : List ℕ) → HaveOneHeader host contents
 
--- of extensions, of what is composed, of texts, and of what numbers make
+-- of extensions, of what is composed, of texts, of certificates, and of what numbers make
 pub record LawsBelow : Type 0 where
   pub extensions : ExcludesExtensions
   pub headers : ExcludesHeaders
@@ -35,5 +36,9 @@ pub record LawsBelow : Type 0 where
       → Differ (names_of extensions) → HasOneRootAttribute host operations extensions
   pub values : (host : ResolvedParts) (operations : Operations) (extensions : List ResolvedParts)
       → Differ (names_of extensions) → HasOneTextValue host operations extensions
+  pub host_certificates : (host : ResolvedParts) (text other : List ℕ) → IsHostCertificate host text → IsHostCertificate host other
+      → text ≡ other
+  pub extension_certificates : (extension : ResolvedParts) (text other : List ℕ) → IsExtensionCertificate extension text
+      → IsExtensionCertificate extension other → text ≡ other
   pub made : (host : ResolvedParts) (operations : List OperationSignature) (extensions : List ResolvedParts) (number size : ℕ)
       → HasOneText host operations extensions number size

@@ -29,3 +29,8 @@ pub returns-in-Compose : goal.returns-in-Compose
 returns-in-Compose g c =
     let operations : Operations = record { signatures = c.args.operations.now.signatures; meaning = g.M.Meaning.meaning } in
     of_command operations c.answer_compose.result c.args.command c.in-Compose.is c.answer_compose.ensures
+
+pub returns-in-Certificate : goal.returns-in-Certificate
+returns-in-Certificate g c =
+    let operations : Operations = record { signatures = c.args.operations.now.signatures; meaning = g.M.Meaning.meaning } in
+    of_command operations c.answer_certificate.result c.args.command c.in-Certificate.is c.answer_certificate.ensures

@@ -9,5 +9,7 @@ returns c = record {
   readings = c.one_reading_law.ensures;
   attributes = c.one_root_law.ensures;
   values = c.one_value_law.ensures;
+  host_certificates = c.one_text_law-2.ensures.host;
+  extension_certificates = c.one_text_law-2.ensures.extension;
   made = c.one_text_law.ensures;
 }

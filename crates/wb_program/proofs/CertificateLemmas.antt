@@ -1,0 +1,32 @@
+-- What is reported of a certificate is the certificate, or that it is too long to print.
+use Rattle.std.proofs.Common.{◌≡◌, ◌<◌, ◌≤◌, inl, inr, ℕ, List, [], ◌∷◌, Option, Some, None, length, sym, subst}
+use Rattle.wb_recheck_files.specs.CertificateTexts.{IsExtensionCertificate, IsHostCertificate}
+use Rattle.wb_syntax_resolved.specs.declared.resolved.ResolvedParts.{ResolvedParts}
+use Rattle.wb_program.specs.Commands.Certificate.{CertificateChecks, IsCertificateOf}
+use Rattle.wb_program.specs.Inner.Certificates.{IsTextOrTooLong, ShownCertificate}
+use Rattle.wb_program.specs.declared.status.Status.{Status}
+
+-- where there is no extension it is the host's
+pub of_host : (host : ResolvedParts) (extensions : List ResolvedParts) (made : Option (List ℕ)) → extensions ≡ []
+    → IsTextOrTooLong (IsHostCertificate host) made → IsTextOrTooLong (IsCertificateOf host extensions) made
+of_host host extensions made same is =
+    subst (λ (list : List ResolvedParts). IsTextOrTooLong (IsCertificateOf host list) made) (sym same) is
+
+-- where there is one it is that of the extension
+pub of_extension : (host extension : ResolvedParts) (others extensions : List ResolvedParts) (made : Option (List ℕ))
+    → extensions ≡ extension ∷ others → IsTextOrTooLong (IsExtensionCertificate extension) made
+    → IsTextOrTooLong (IsCertificateOf host extensions) made
+of_extension host extension others extensions made same is =
+    subst (λ (list : List ResolvedParts). IsTextOrTooLong (IsCertificateOf host list) made) (sym same) is
+
+-- what is shown of it
+pub shown_checks : (host : ResolvedParts) (extensions : List ResolvedParts) (made : Option (List ℕ)) (s : Status) (bytes : List ℕ)
+    → IsTextOrTooLong (IsCertificateOf host extensions) made → ShownCertificate made s bytes → CertificateChecks host extensions s bytes
+shown_checks host extensions (Some text) s bytes (is, short) (ends, same) = inr (
+  ends,
+  record {
+    is = subst (IsCertificateOf host extensions) (sym same) is;
+    short = subst (λ (z : List ℕ). length z ≤ 16777216) (sym same) short;
+  },
+)
+shown_checks host extensions None s bytes long (ends, line) = inl (ends, record { long = long; line = line })
