@@ -130,7 +130,7 @@ fn agrees(alloc: Global, kernels: &Kernels, row: &Row, rows: &[Row]) -> Result<b
 }
 
 // Whether all rows are as they say.
-fn are_rows(alloc: Global, kernels: &Kernels, rows: &[Row]) -> Result<bool, AllocError> {
+pub(crate) fn are_rows(alloc: Global, kernels: &Kernels, rows: &[Row]) -> Result<bool, AllocError> {
     for row in rows {
         if !agrees(alloc, kernels, row, rows)? {
             return Ok(false);

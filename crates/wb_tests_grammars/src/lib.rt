@@ -24,4 +24,6 @@ mod lookahead_relations;
 #[cfg(test)]
 mod lookahead_tables;
 #[cfg(test)]
+mod parts;
+#[cfg(test)]
 mod small;
