@@ -1,5 +1,6 @@
 -- Kernels and moves as they are listed.
-use Rattle.std.proofs.Common.{◌+◌, ◌<◌, ◌∙◌, ◌∷◌, ◌++◌, ◌≡◌, ◌⊎◌, List, [], ap, arith, inl, inr, length, length-append, refl, subst, suc, sym, ℕ, Some}
+use Rattle.std.proofs.Common.{◌+◌, ◌<◌, ◌∙◌, ◌∷◌, ◌++◌, ◌≡◌, ◌⊎◌, List, [], ap}
+use Rattle.std.proofs.Common.{arith, inl, inr, length, length-append, refl, subst, suc, sym, ℕ, Some}
 use Rattle.std.specs.Prelude.{◌↔◌, Contains, slice_get}
 use Rattle.std.proofs.lemmas.Bool.{cases_lt}
 use Rattle.wb_lemmas.proofs.Members.{contains_at, contains_push, nothing_in, place_of, push_contains, push_contains_last}
@@ -20,7 +21,8 @@ no_lists kernels = record {
 }
 
 pub one_more : (kernels : KernelsView) (lists more : List (List Item)) (n : ℕ) (list : List Item) → more ≡ lists ++ list ∷ [] →
-    ListsKernel kernels.grammar (prefix_of kernels n) list → AreInOrder list → AreListsUpTo kernels lists n → AreListsUpTo kernels more (n + 1)
+    ListsKernel kernels.grammar (prefix_of kernels n) list → AreInOrder list → AreListsUpTo kernels lists n → AreListsUpTo kernels more
+    (n + 1)
 one_more kernels lists more n list is exact order h = subst (λ z. AreListsUpTo kernels z (n + 1)) (sym is) (record {
   len = (let l = h.len in omega (arith, l, length-append {A = List Item} lists (list ∷ [])));
   each = λ s z at. elim (at_push lists list z s at) [
