@@ -1,0 +1,12 @@
+pub mod LeadLemmas
+pub mod PartLemmas
+pub mod OrderLemmas
+pub mod ListLemmas
+pub mod AddLemmas
+pub mod MoveLemmas
+pub mod LoopLemmas
+pub mod RowLemmas
+pub mod NextLemmas
+pub mod UnionLemmas
+pub mod EachLemmas
+pub mod FoundLemmas

@@ -1,0 +1,6 @@
+-- What loops keep, and words of private functions.
+pub mod Given
+pub mod Blocks
+pub mod Lists
+pub mod Moves
+pub mod Taken

@@ -1,0 +1,82 @@
+-- A host with extensions as they are lent, from whose kernels those of the union are taken.
+use Rattle.std.specs.Prelude.{◌≡◌, [], ℕ, List, Option, Some, None, length, slice_get}
+use Rattle.wb_base.specs.declared.symbol.Symbol.{Symbol}
+use Rattle.wb_base.specs.Grammar.{GrammarView}
+use Rattle.wb_items.specs.Kernels.{KernelsView, count_of, prefix_of}
+use Rattle.wb_marking_holes.specs.Holes.{with_holes_of}
+use Rattle.wb_compose_theory.specs.Homes.{Home, of, of_host}
+use Rattle.wb_compose_theory.specs.NumberLaws.{HasHostKernels}
+use Rattle.wb_compose_theory_grammar.specs.Certificates.{AreCertified}
+use Rattle.wb_compose_theory_grammar.specs.Numberings.{phi_of}
+use Rattle.wb_compose_theory_grammar.specs.Pieces.{Piece}
+use Rattle.wb_compose_theory_grammar.specs.Unions.{added_nonterminals, added_productions, added_terminals}
+use Rattle.wb_compose_theory_grammar.specs.UnitedWorlds.{united}
+use Rattle.wb_compose_theory_kernels.specs.Kernels.{KernelNumbers}
+use Rattle.wb_determinism_kernels.specs.declared.numbers.Numbers.{Numbers}
+use Rattle.wb_determinism_kernels.specs.NewKernels.{AreNewKernels, count_with, prefix_with}
+use Rattle.wb_determinism_kernels.specs.Numbers.{phi_by, up_by}
+use Rattle.wb_compose_kernels.specs.declared.splice.Part.{Part}
+use Rattle.wb_compose_kernels.specs.declared.splice.Splice.{Splice}
+
+-- how many numbers the host has of its own, and how many the extension adds after these
+abbrev pub numbers_of : (host g : GrammarView) → Numbers
+numbers_of host g = record {
+  terminals = record { own = host.terminals; more = added_terminals host g };
+  nonterminals = record { own = host.nonterminals; more = added_nonterminals host g };
+  productions = record { own = length host.productions; more = added_productions host g };
+}
+
+-- the part is what the extension adds to the host with these kernels: they are new kernels beside the host, in the numbers that both have,
+-- where each marker stands for the hole of its nonterminal
+pub record IsPartOf (host : GrammarView) (extensible : List ℕ) (kernels : KernelsView) (x : Piece) (part : Part) : Type 0 where
+  pub host_kernels : part.beside.now.host.now ≡ kernels
+  pub grammar : part.beside.now.grammar.now ≡ with_holes_of x.grammar extensible
+  pub numbers : part.beside.now.numbers.now ≡ numbers_of host x.grammar
+  pub images : (t : ℕ) → phi_by part.beside.now.numbers.now part.beside.now.images.now t ≡ phi_of extensible x t
+  pub new : AreNewKernels part.beside.now.host.now part.beside.now.grammar.now part.beside.now.numbers.now part.beside.now.images.now
+      part.new.now
+  pub same : HasHostKernels part.beside.now.host.now.grammar part.beside.now.grammar.now (up_by part.beside.now.numbers.now)
+
+-- the host and the extensions are certified, the kernels are those of the host with holes, each part is what its extension adds, and the
+-- union is theirs
+pub record AreSpliceable (s : Splice) : Type 0 where
+  pub extensible : List ℕ
+  pub pieces : List Piece
+  pub certified : AreCertified s.host.now extensible pieces
+  pub holes : s.holes ≡ length extensible
+  pub of_host : s.kernels.now.grammar ≡ with_holes_of s.host.now extensible
+  pub union_is : s.union.now ≡ united s.host.now extensible pieces
+  pub len : length s.parts.now ≡ length pieces
+  pub parts : (e : ℕ) (x : Piece) (part : Part) → slice_get pieces e ≡ Some x → slice_get s.parts.now e ≡ Some part →
+      IsPartOf s.host.now extensible s.kernels.now x part
+
+-- how many kernels the host has with what may be a part, and the prefix of each
+abbrev pub count_in : Option Part → ℕ
+count_in None = 0
+count_in (Some part) = count_with part.beside.now.host.now part.beside.now.grammar.now part.beside.now.numbers.now
+    part.beside.now.images.now part.new.now
+
+abbrev pub prefix_in : Option Part → ℕ → List Symbol
+prefix_in None = λ s. []
+prefix_in (Some part) = prefix_with part.beside.now.host.now part.beside.now.grammar.now part.beside.now.numbers.now
+    part.beside.now.images.now part.new.now
+
+-- how many new kernels the extension of this number adds
+abbrev pub new_count_in : Option Part → ℕ
+new_count_in None = 0
+new_count_in (Some part) = length part.new.now.index.kernels
+
+abbrev pub new_count_at : Splice → ℕ → ℕ
+new_count_at s e = new_count_in (slice_get s.parts.now e)
+
+-- the numbers of the kernels of the host with holes, and of it with each extension
+abbrev pub count_at : Splice → Home → ℕ
+count_at s of_host = count_of s.kernels.now
+count_at s (of e) = count_in (slice_get s.parts.now e)
+
+abbrev pub prefix_at : Splice → Home → ℕ → List Symbol
+prefix_at s of_host = prefix_of s.kernels.now
+prefix_at s (of e) = prefix_in (slice_get s.parts.now e)
+
+abbrev pub numbers_in : Splice → KernelNumbers
+numbers_in s = record { count = count_at s; prefix_of = prefix_at s }
