@@ -1,13 +1,12 @@
 -- Checkpoints that stay, over more entries and over an edit.
-use Rattle.std.proofs.Common.{◌≡◌, ◌<◌, ◌≤◌, ◌+◌, ◌-◌, ◌⊎◌, ℕ, zero, suc, List, [], ◌∷◌, ◌++◌, length, take, drop, refl, sym, ◌∙◌, ap, subst, inl}
+use Rattle.std.proofs.Common.{◌≡◌, ◌<◌, ◌≤◌, ◌+◌, ◌-◌, ℕ, List, [], ◌∷◌, ◌++◌, length, take, drop, refl, sym, ◌∙◌, ap, subst, inl}
 use Rattle.std.proofs.Common.{inr, arith, length-append}
 use Rattle.std.specs.Prelude.{Some, slice_get}
 use Rattle.std.proofs.lemmas.List.{length-take-le, length-drop}
 use Rattle.std.proofs.lemmas.Option.{slice_get_within, same_Some}
-use Rattle.wb_lemmas.proofs.Places.{at_take, at_within, at_once, at_push, push_last, push_before, at_one, nothing_at}
-use Rattle.wb_lemmas.proofs.Parts.{take_append}
-use Rattle.wb_grammar_theory.specs.Trees.{Forest, nothing}
-use Rattle.wb_values.specs.Tree.{Tree, more, tree, empty}
+use Rattle.wb_lemmas.proofs.Places.{at_take, at_push, push_last, push_before, at_one}
+use Rattle.wb_grammar_theory.specs.Trees.{nothing}
+use Rattle.wb_values.specs.Tree.{Tree}
 use Rattle.wb_values.specs.ValuesIn.{tree_in}
 use Rattle.wb_values.proofs.CallerLemmas.{tree_in_more}
 use Rattle.wb_scan_theory.specs.Languages.{LanguageView}
@@ -18,15 +17,15 @@ use Rattle.wb_values.specs.declared.value.Value.{Value}
 use Rattle.wb_session.specs.declared.stacks.Entry.{Entry}
 use Rattle.wb_parser.specs.declared.parsed.Parsed.{Parsed}
 use Rattle.wb_parser.specs.declared.parsed.Parsed.TheVariants as parsed
-use Rattle.wb_parser.specs.Parses.{Extends, IsParsed, IsTreeOf, FitsSignatures}
+use Rattle.wb_parser.specs.Parses.{Extends, IsParsed, FitsSignatures}
 use Rattle.wb_parser.proofs.ExtendLemmas.{extends_length}
 use Rattle.wb_session_theory.specs.Edits.{edited}
-use Rattle.wb_session_theory.specs.Runs.{Reads, stays}
+use Rattle.wb_session_theory.specs.Runs.{stays}
 use Rattle.wb_session_theory.proofs.ReadLemmas.{reads_kept}
 use Rattle.wb_session_theory.proofs.SessionLemmas.{edit_before}
 use Rattle.wb_session.specs.declared.checkpoint.Checkpoint.{Checkpoint}
-use Rattle.wb_session.specs.Stacks.{Roots, LeadsTo, bottom, IsStack, IsSound}
-use Rattle.wb_session.specs.Kept.{IsKept, BeginsAtStart, AreRising, AreCheckpoints}
+use Rattle.wb_session.specs.Stacks.{Roots, bottom, IsSound}
+use Rattle.wb_session.specs.Kept.{IsKept, AreRising, AreCheckpoints}
 use Rattle.wb_session.specs.Inner.Steps.{Grows}
 use Rattle.wb_session.proofs.StackLemmas.{cut_at, sound_cut, stack_more, stack_cut, leads_within}
 

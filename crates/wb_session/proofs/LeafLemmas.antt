@@ -1,8 +1,8 @@
 -- What becomes of the leaf at a checkpoint.
-use Rattle.std.proofs.Common.{◌≡◌, ◌<◌, ◌≤◌, ◌+◌, ◌-◌, ℕ, zero, suc, List, [], ◌∷◌, ◌++◌, length, refl, sym, ◌∙◌, ap, subst, arith}
+use Rattle.std.proofs.Common.{◌≡◌, ◌<◌, ◌≤◌, ◌+◌, ◌-◌, ℕ, suc, List, [], ◌∷◌, ◌++◌, length, refl, sym, ◌∙◌, ap, subst, arith}
 use Rattle.std.specs.Prelude.{All, Some, slice_get}
 use Rattle.wb_base.specs.declared.symbol.Symbol.{Symbol}
-use Rattle.wb_base.specs.declared.symbol.Symbol.TheVariants.{Terminal, Nonterminal}
+use Rattle.wb_base.specs.declared.symbol.Symbol.TheVariants.{Nonterminal}
 use Rattle.wb_grammar_theory.specs.Productions.{end_of}
 use Rattle.wb_grammar_theory.specs.Trees.{Forest, nothing, leaf, node, symbols}
 use Rattle.wb_grammar_theory.specs.Lookaheads.{CanShift}
@@ -14,7 +14,6 @@ use Rattle.wb_values.specs.declared.value.Value.{Value}
 use Rattle.wb_values.specs.declared.value.Value.TheVariants as stored
 use Rattle.wb_scan_theory.specs.declared.stop_kind.StopKind.TheVariants.{Unexpected, NoToken}
 use Rattle.wb_scan_theory.specs.Tokens.{Next, token, over, missing}
-use Rattle.wb_scan_theory.specs.Readings.{Gives}
 use Rattle.wb_scan_theory.specs.Texts.{StopsAt}
 use Rattle.wb_scan_theory.specs.Examined.{Scans}
 use Rattle.wb_scan_theory.specs.Facts.{IsLanguage}
@@ -27,20 +26,19 @@ use Rattle.wb_scan_theory.proofs.TokenLemmas.{taken}
 use Rattle.wb_scan.specs.Views.{LanguageParts}
 use Rattle.wb_parser_states.specs.declared.outcome.Outcome.{Outcome}
 use Rattle.wb_parser_states.specs.declared.outcome.Outcome.TheVariants.{Shifts, Accepts, Stops}
-use Rattle.wb_parser_states.specs.Stacks.{AreStates, last_or}
 use Rattle.wb_parser_states.proofs.StateLemmas.{at_top, leaf_push}
 use Rattle.wb_parser.specs.declared.parsed.Parsed.{Parsed}
 use Rattle.wb_parser.specs.declared.parsed.Parsed.TheVariants as parsed
-use Rattle.wb_parser.specs.Parses.{IsParsed, Extends}
+use Rattle.wb_parser.specs.Parses.{IsParsed}
 use Rattle.wb_parser.proofs.ValueLemmas.{appended, values_in_append, values_of_joined}
-use Rattle.wb_session_theory.specs.Runs.{Reduces, Reads, stays, shifts, a_tree, a_stop, Ends, accepts, no_token, unexpected}
+use Rattle.wb_session_theory.specs.Runs.{Reduces, Reads, stays, shifts, accepts, no_token, unexpected}
 use Rattle.wb_session_theory.proofs.ScanLemmas.{scan_more}
 use Rattle.wb_session_theory.proofs.ReadLemmas.{reads_more, reads_then, first_read, ends_answer}
 use Rattle.wb_session.specs.declared.checkpoint.Checkpoint.{Checkpoint}
 use Rattle.wb_session.specs.declared.stacks.Entry.{Entry}
 use Rattle.wb_session.specs.Stacks.{Roots, LeadsTo, bottom, above, IsStack, IsSound, state_in}
 use Rattle.wb_session.specs.Kept.{IsKept}
-use Rattle.wb_session.specs.Inner.Steps.{Grows, CanBeDone, IsSettled}
+use Rattle.wb_session.specs.Inner.Steps.{IsSettled}
 use Rattle.wb_session.proofs.StackLemmas.{leads_state, leads_push, leads_inside, before_next}
 
 -- what was scanned at the state on top is next at the symbols of the stack
@@ -68,7 +66,8 @@ module _ (parts : LanguageParts) (ok : IsLanguage parts.language) (source : List
       after_roots.values ≡ mid.values ++ stored.Text lexeme ∷ [] → after_roots.trees ≡ mid.trees → next.link ≡ length mid.entries + 1 →
       point.reach ≤ next.reach → e ≤ next.reach → next.at ≤ next.reach → next.at ≤ length source →
       IsKept parts source after_roots next
-  token_shift roots mid after_roots point next e begin t lexeme link target k scan settled same es ws ts link_is reach_le e_le at_le within =
+  token_shift roots mid after_roots point next e begin t lexeme link target k scan settled same es ws ts link_is reach_le e_le
+      at_le within =
       let g = parts.language.grammar in
       let (reduced, red, there, todo) = settled k.stack k.is in
       let can = todo.0 in
@@ -81,7 +80,8 @@ module _ (parts : LanguageParts) (ok : IsLanguage parts.language) (source : List
         is = record {
           states = there.states ++ target ∷ [];
           vs = there.vs ++ stored.Text lexeme ∷ [];
-          leads = subst (λ n. LeadsTo after_roots.entries after_roots.values n (there.states ++ target ∷ []) (there.vs ++ stored.Text lexeme ∷ []))
+          leads = subst (λ n. LeadsTo after_roots.entries after_roots.values n (there.states ++ target ∷ [])
+              (there.vs ++ stored.Text lexeme ∷ []))
               up (leads_push x (stored.Text lexeme) es ws same there.leads);
           states_are = leaf_push g parts.tables [] there.states reduced target t lexeme there.states_are goes;
           values_are = ap (λ z. values_in z (there.vs ++ stored.Text lexeme ∷ [])) ts
@@ -146,8 +146,11 @@ one_root (node p b children (node q c below rest)) a e = cc
 top_value : {entries : List Entry} {values : List Value} {link : ℕ} {states : List ℕ} {vs : List Value} (v : Value) →
     LeadsTo entries values link states vs → vs ≡ v ∷ [] → (0 < link) × (slice_get values (link - 1) ≡ Some v)
 top_value v (bottom s w) is = let e : [] ≡ v ∷ [] = sym w ∙ is in cc
-top_value {values = values} v (above k x u lower under at has le leads s w) is =
-    (omega arith, subst (λ n. slice_get values n ≡ Some v) (before_next k) (subst (λ z. slice_get values k ≡ Some z) (only under (sym w ∙ is)) has))
+top_value {values = values} v (above k x u lower under at has le leads s w) is = (
+  omega arith,
+  subst (λ n. slice_get values n ≡ Some v) (before_next k)
+      (subst (λ z. slice_get values k ≡ Some z) (only under (sym w ∙ is)) has),
+)
   where
     only : (under : List Value) → under ++ u ∷ [] ≡ v ∷ [] → u ≡ v
     only [] e = cc

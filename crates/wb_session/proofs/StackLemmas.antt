@@ -1,7 +1,8 @@
 -- What a link leads to stays the same among more entries, values and trees, and where entries that were added later are dropped.
-use Rattle.std.proofs.Common.{◌≡◌, ◌<◌, ◌≤◌, ◌+◌, ◌-◌, ◌⊎◌, ℕ, zero, suc, List, [], ◌∷◌, ◌++◌, length, take, drop, refl, sym, ◌∙◌, ap, subst, inl, inr, arith}
-use Rattle.std.proofs.Common.{append_assoc, length-append}
-use Rattle.std.specs.Prelude.{All, Some, slice_get, slice_index_or}
+use Rattle.std.proofs.Common.{◌≡◌, ◌<◌, ◌≤◌, ◌+◌, ◌-◌, ℕ, zero, suc, List, [], ◌∷◌}
+use Rattle.std.proofs.Common.{◌++◌, length, take, drop, refl, sym, ◌∙◌, ap, subst, inl, inr, arith}
+use Rattle.std.proofs.Common.{length-append}
+use Rattle.std.specs.Prelude.{All, Some, slice_get}
 use Rattle.std.proofs.lemmas.List.{take-append-drop, take_all, length-take-le, length-take}
 use Rattle.std.proofs.lemmas.List.Elements.{All-push, All-nil, All-same, All-take}
 use Rattle.std.proofs.lemmas.Option.{slice_get_within}
@@ -39,7 +40,8 @@ length_begins xs ys begins = let e = sym (length-take (length xs) ys) ∙ ap len
 
 pub begins_then : {X : Type 0} (xs ys zs : List X) → take (length xs) ys ≡ xs → take (length ys) zs ≡ ys → take (length xs) zs ≡ xs
 begins_then xs ys zs first second =
-    sym (Rattle.std.proofs.lemmas.List.take-take (length xs) (length ys) zs (length_begins xs ys first)) ∙ ap (take (length xs)) second ∙ first
+    sym (Rattle.std.proofs.lemmas.List.take-take (length xs) (length ys) zs (length_begins xs ys first))
+    ∙ ap (take (length xs)) second ∙ first
 
 -- the same entries and values with others after them
 pub leads_more : {entries entries' : List Entry} {values values' : List Value} → take (length entries) entries' ≡ entries →
@@ -155,7 +157,8 @@ module _ (parts : LanguageParts) where
     vs = is.vs;
     leads = leads_more grows.entries grows.values is.leads;
     states_are = is.states_are;
-    values_are = values_extend roots.trees roots'.trees is.vs grows.trees (leads_inside (length roots.trees) sound.inside is.leads) ∙ is.values_are;
+    values_are = values_extend roots.trees roots'.trees is.vs grows.trees (leads_inside (length roots.trees) sound.inside is.leads)
+        ∙ is.values_are;
   }
 
   pub stack_cut : {roots : Roots} (n : ℕ) {link : ℕ} {stack : Forest} → link ≤ n → IsStack parts roots link stack →
@@ -191,7 +194,8 @@ module _ (parts : LanguageParts) where
     sound = record {
       same = ap length ws ∙ sound.same ∙ sym (ap length es);
       linked = subst IsLinked (sym es) sound.linked;
-      states = subst (λ (z : List Entry). (k : ℕ) (x : Entry) → slice_get z k ≡ Some x → x.state < size_of parts.tables) (sym es) sound.states;
+      states = subst (λ (z : List Entry). (k : ℕ) (x : Entry) → slice_get z k ≡ Some x → x.state < size_of parts.tables)
+          (sym es) sound.states;
       inside = all_in_more (length roots.trees) (length roots'.trees) roots'.values
           (extends_length roots.trees roots'.trees extends) (subst (All (IsIn (length roots.trees))) (sym ws) sound.inside);
     };

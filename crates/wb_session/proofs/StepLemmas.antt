@@ -1,5 +1,5 @@
 -- What reductions make of the stacks to which links lead.
-use Rattle.std.proofs.Common.{◌≡◌, ◌<◌, ◌≤◌, ◌+◌, ◌-◌, ◌⊎◌, ◌^◌, ℕ, zero, suc, List, [], ◌∷◌, ◌++◌, length, take, drop, refl, sym, ◌∙◌, ap}
+use Rattle.std.proofs.Common.{◌≡◌, ◌<◌, ◌≤◌, ◌+◌, ◌-◌, ◌^◌, ℕ, suc, List, [], ◌∷◌, ◌++◌, length, take, drop, refl, sym, ◌∙◌, ap}
 use Rattle.std.proofs.Common.{subst, inl, inr, arith, length-append}
 use Rattle.std.specs.Prelude.{All, Some, min}
 use Rattle.wb_lemmas.proofs.Parts.{take_append, drop_append}
@@ -29,7 +29,7 @@ use Rattle.wb_scan.specs.Views.{LanguageParts}
 use Rattle.wb_parser_states.specs.declared.rules.Rule.{Rule}
 use Rattle.wb_parser_states.specs.declared.outcome.Outcome.TheVariants.{Shifts, Accepts, Stops}
 use Rattle.wb_parser_states.specs.Rules.{IsRule}
-use Rattle.wb_parser_states.specs.Stacks.{AreStates, last_or}
+use Rattle.wb_parser_states.specs.Stacks.{last_or}
 use Rattle.wb_parser_states.proofs.StepLemmas.{acts, accepted, moved_states, reduction}
 use Rattle.wb_parser.specs.Inner.Stacks.{IsReduction}
 use Rattle.wb_parser.proofs.ValueLemmas.{appended, values_in_append, values_of_joined, values_split}
@@ -149,15 +149,16 @@ module _ (parts : LanguageParts) (ok : IsLanguage parts.language) (of : AreTable
           ap tree (ap (tree_in (trees ++ built ∷ [])) made_here.id_is ∙ tree_in_push trees [] built) in
           let pushed : values_in (trees ++ built ∷ []) (vp.left ++ stored.Tree made_here.id ∷ []) ≡ values_of new =
           values_in_append (trees ++ built ∷ []) vp.left (stored.Tree made_here.id ∷ [])
-          ∙ ((λ k. appended (same_left k) (more (last_is k) empty)) ∙ sym (values_of_joined r.below (node p r.left r.children nothing))) in (
+          ∙ ((λ k. appended (same_left k) (more (last_is k) empty))
+          ∙ sym (values_of_joined r.below (node p r.left r.children nothing))) in (
             new,
             reduces p r.left r.below r.children r.is r.rule can (rests refl),
             record {
               states = states';
               vs = vs';
               leads = leads;
-              states_are = moved_states of ok.deterministic.in_range is.states stack is.states_are p r made_here.width made_here.left states'
-                  made_here.moved width left_is;
+              states_are = moved_states of ok.deterministic.in_range is.states stack is.states_are p r made_here.width made_here.left
+                  states' made_here.moved width left_is;
               values_are = subst (λ z. values_in z vs' ≡ values_of new) (sym trees_is)
                   (ap (values_in (trees ++ built ∷ []))
                   (made_here.values_are ∙ ap (λ z. z ++ stored.Tree made_here.id ∷ []) lower) ∙ pushed);

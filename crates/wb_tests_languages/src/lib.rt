@@ -1,6 +1,7 @@
 //! Tests of languages: scanning and parsing small texts, and making texts from numbers. Expected values follow from the rules.
 #![tactic(auto)]
 
+mod editing;
 mod generating;
 mod parsing;
 mod sample;

@@ -218,3 +218,82 @@ pub(crate) const TIGHT_SUMS: Sample = Sample {
     expressions: &["[0-9]+", "\\+"],
     preferences: &[],
 };
+
+// Statements with keywords that are names elsewhere: P -> | P S, S -> let Id = E ; | print E ; | twice { P }, E -> E + T | T,
+// T -> T * F | F, F -> Num | Id | ( E ) | square ( E ).
+pub(crate) const STATEMENTS: Sample = Sample {
+    terminals: 14,
+    nonterminals: 5,
+    rules: &[
+        Rule {
+            name: "none",
+            left: 0,
+            right: &[],
+        },
+        Rule {
+            name: "more",
+            left: 0,
+            right: &[N(0), N(1)],
+        },
+        Rule {
+            name: "bind",
+            left: 1,
+            right: &[T(0), T(4), T(12), N(2), T(13)],
+        },
+        Rule {
+            name: "print",
+            left: 1,
+            right: &[T(1), N(2), T(13)],
+        },
+        Rule {
+            name: "twice",
+            left: 1,
+            right: &[T(2), T(10), N(0), T(11)],
+        },
+        Rule {
+            name: "plus",
+            left: 2,
+            right: &[N(2), T(6), N(3)],
+        },
+        Rule {
+            name: "term",
+            left: 2,
+            right: &[N(3)],
+        },
+        Rule {
+            name: "times",
+            left: 3,
+            right: &[N(3), T(7), N(4)],
+        },
+        Rule {
+            name: "factor",
+            left: 3,
+            right: &[N(4)],
+        },
+        Rule {
+            name: "num",
+            left: 4,
+            right: &[T(5)],
+        },
+        Rule {
+            name: "name",
+            left: 4,
+            right: &[T(4)],
+        },
+        Rule {
+            name: "group",
+            left: 4,
+            right: &[T(8), N(2), T(9)],
+        },
+        Rule {
+            name: "square",
+            left: 4,
+            right: &[T(3), T(8), N(2), T(9)],
+        },
+    ],
+    expressions: &[
+        "let", "print", "twice", "square", "[a-z]+", "[0-9]+", "\\+", "\\*", "\\(", "\\)", "\\{",
+        "\\}", "=", ";", "[ \\n]+",
+    ],
+    preferences: &[(0, 4), (1, 4), (2, 4), (3, 4)],
+};

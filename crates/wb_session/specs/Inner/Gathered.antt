@@ -15,7 +15,8 @@ pub record IsRoot (entries : List Entry) (values : List Value) (link below : ℕ
 
 -- states and values in two parts: the link below leads to the first of them, and the others are as many as the children, which are the
 -- last values
-pub record AreParted (entries : List Entry) (values : List Value) (states : List ℕ) (vs : List Value) (below : ℕ) (children : List Value) : Type 0 where
+pub record AreParted (entries : List Entry) (values : List Value) (states : List ℕ) (vs : List Value) (below : ℕ)
+    (children : List Value) : Type 0 where
   pub lower : List ℕ
   pub upper : List ℕ
   pub under : List Value

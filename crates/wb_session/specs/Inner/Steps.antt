@@ -1,5 +1,5 @@
 -- What reductions make of stacks.
-use Rattle.std.specs.Prelude.{◌≡◌, ◌<◌, ◌++◌, ◌∷◌, ℕ, List, [], length, take}
+use Rattle.std.specs.Prelude.{◌≡◌, ◌++◌, ◌∷◌, ℕ, List, [], length, take}
 use Rattle.wb_base.specs.declared.symbol.Symbol.TheVariants.{Terminal, Nonterminal}
 use Rattle.wb_grammar_theory.specs.Productions.{end_of, top_of}
 use Rattle.wb_grammar_theory.specs.Trees.{Forest, symbols}

@@ -1,7 +1,6 @@
-use Rattle.std.proofs.Common.{◌≡◌, ◌<◌, ◌≤◌, ◌∙◌, ap, arith, length, refl, subst, sym, Some}
+use Rattle.std.proofs.Common.{◌≡◌, ◌<◌, ◌∙◌, ap, arith, length, refl, subst, sym, Some}
 use Rattle.std.specs.Prelude.{slice_get}
 use Rattle.std.proofs.lemmas.Option.{slice_get-get_or}
-use Rattle.wb_session.specs.declared.checkpoint.Checkpoint.{Checkpoint}
 use Rattle.wb_session.proofs.KeptLemmas.{before_back, kept_within, sound_back, went_back}
 use Rattle.wb_session.proofs.going_on.go_back.Goals as goal
 
@@ -37,7 +36,8 @@ returns-clause-sound c parts sound =
     let (parts', text, kept) = c.requires.kept in
     sound_back c.args.stacks.now.entries.items c.args.stacks.now.values c.args.stacks.now.store points place c.index-point.result.now here
     c.truncate-2.new.self.items c.truncate-3.new.self c.args.stacks.now.store c.truncate.new.self.items c.truncate.ensures.items
-    c.truncate-2.ensures.items c.truncate-3.ensures refl parts (kept_within parts' text (kept.each place c.index-point.result.now here)) sound
+    c.truncate-2.ensures.items c.truncate-3.ensures refl parts
+    (kept_within parts' text (kept.each place c.index-point.result.now here)) sound
 
 pub returns-clause-before : goal.returns-clause-before
 returns-clause-before c =

@@ -1,4 +1,4 @@
-use Rattle.std.proofs.Common.{◌≡◌, ◌∙◌, ap, length, refl, subst, take, [], ◌∷◌}
+use Rattle.std.proofs.Common.{◌∙◌, ap, length, refl, subst, take, [], ◌∷◌}
 use Rattle.wb_lemmas.proofs.Parts.{take_append}
 use Rattle.wb_session.specs.Stacks.{roots_of}
 use Rattle.wb_session.specs.Inner.Rounds.{IsRound, GoesFurther}

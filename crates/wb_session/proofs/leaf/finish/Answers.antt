@@ -1,4 +1,4 @@
-use Rattle.std.proofs.Common.{◌≡◌, ◌∙◌, ap, subst, sym}
+use Rattle.std.proofs.Common.{◌≡◌, ◌∙◌, ap, subst}
 use Rattle.wb_grammar_theory.specs.Productions.{end_of}
 use Rattle.wb_session.specs.Stacks.{roots_of}
 use Rattle.wb_session.specs.Inner.Steps.{IsSettled}
@@ -7,8 +7,8 @@ use Rattle.wb_session.proofs.leaf.finish.Goals as goal
 
 pub returns-in-Accepts-clause-parsed : goal.returns-in-Accepts-clause-parsed
 returns-in-Accepts-clause-parsed c text e at stack is reads scan =
-    over_whole c.args.language.now c.grammar.ensures.language text (roots_of c.args.stacks.now) (roots_of c.reduce_all.new.stacks) c.args.link
-    c.in_ok-settled.settled.link e e at c.args.place c.terminals-end.result stack c.whole.result is reads scan
+    over_whole c.args.language.now c.grammar.ensures.language text (roots_of c.args.stacks.now) (roots_of c.reduce_all.new.stacks)
+    c.args.link c.in_ok-settled.settled.link e e at c.args.place c.terminals-end.result stack c.whole.result is reads scan
     (subst (IsSettled c.args.language.now c.terminals-end.result (roots_of c.args.stacks.now) c.args.link (roots_of c.reduce_all.new.stacks)
     c.in_ok-settled.settled.link) c.in-Accepts.is c.in_ok-settled.ensures.settled)
     c.in_ok-settled.ensures.grows.sound c.whole.ensures
@@ -19,7 +19,7 @@ returns-in_default c = record {
       (let is_end : c.terminals-end.result ≡ end_of c.args.language.now.language.grammar =
       c.terminals-end.ensures ∙ ap (λ g. g.terminals) c.grammar.ensures.grammar in
       over_stops c.args.language.now c.grammar.ensures.language text (roots_of c.args.stacks.now) (roots_of c.reduce_all.new.stacks)
-      c.args.link c.in_ok-settled.settled.link e e at c.args.place c.terminals-end.result c.in_ok-settled.settled.outcome stack is reads scan
-      c.in_ok-settled.ensures.settled is_end c.in_default.not-Accepts);
+      c.args.link c.in_ok-settled.settled.link e e at c.args.place c.terminals-end.result c.in_ok-settled.settled.outcome stack
+      is reads scan c.in_ok-settled.ensures.settled is_end c.in_default.not-Accepts);
   grows = c.in_ok-settled.ensures.grows;
 }

@@ -1,4 +1,4 @@
-use Rattle.std.proofs.Common.{◌≡◌, ◌<◌, ◌≤◌, ◌∙◌, ap, arith, length, refl, rules, slice_range, subst, sym, take}
+use Rattle.std.proofs.Common.{◌<◌, ◌≤◌, ◌∙◌, ap, arith, length, rules, slice_range, subst, sym, take}
 use Rattle.std.proofs.lemmas.List.{take_all}
 use Rattle.wb_lookahead.specs.Contents.{size_of}
 use Rattle.wb_values.specs.declared.value.Value.TheVariants.{Text}
@@ -91,7 +91,8 @@ returns-in_default c = record {
       let e = c.scan_examined-ahead.result.examined in
       let lexeme = slice_range source c.in-Token.lexeme c.in-Token.end in
       let top = c.state_at.ensures ∙ ap (λ z. state_in z c.args.from.link) c.deref.ensures.value in
-      token_stops parts c.tables-tables.ensures.language source (roots_of c.args.stacks.now) (roots_of c.reduce_all.new.stacks) c.args.from e
+      token_stops parts c.tables-tables.ensures.language source (roots_of c.args.stacks.now) (roots_of c.reduce_all.new.stacks)
+      c.args.from e
       c.in-Token.at c.in-Token.terminal lexeme c.in-Token.end c.in_ok-settled-in-Token.settled.link
       c.in_ok-settled-in-Token.settled.outcome k
       (scanned_at parts source (roots_of c.args.stacks.now) c.args.from.link c.args.from.at e c.state_at.result

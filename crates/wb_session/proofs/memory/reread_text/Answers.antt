@@ -1,4 +1,4 @@
-use Rattle.std.proofs.Common.{◌≡◌, ◌∙◌, ap, subst, sym}
+use Rattle.std.proofs.Common.{◌∙◌, ap, subst, sym}
 use Rattle.wb_session_theory.specs.Edits.{edited}
 use Rattle.wb_session.specs.Stacks.{roots_of}
 use Rattle.wb_session.specs.Kept.{AreCheckpoints}

@@ -1,4 +1,4 @@
-use Rattle.std.proofs.Common.{◌≡◌, ◌<◌, ◌≤◌, ◌+◌, ◌^◌, ◌∷◌, ◌++◌, [], ◌∙◌, refl, ap, arith, length, length-append, rules, subst, sym, take, Some}
+use Rattle.std.proofs.Common.{◌≡◌, ◌<◌, ◌+◌, ◌^◌, ◌∷◌, ◌++◌, [], ◌∙◌, refl, ap, arith, length, length-append, rules, subst, sym, take, Some}
 use Rattle.std.specs.Prelude.{All, slice_index_or}
 use Rattle.wb_lemmas.proofs.Parts.{take_append}
 use Rattle.wb_lookahead.specs.Contents.{goto_of, size_of}
@@ -7,7 +7,7 @@ use Rattle.wb_values.specs.ValuesIn.{IsIn, last, values_in}
 use Rattle.wb_values.specs.declared.value.Value.TheVariants.{Tree as Stored}
 use Rattle.wb_parser_states.proofs.RuleLemmas.{no_rule, rule_at}
 use Rattle.wb_parser_states.proofs.TableLemmas.{zero_below}
-use Rattle.wb_session.specs.Stacks.{IsLinked, roots_of, state_in}
+use Rattle.wb_session.specs.Stacks.{roots_of, state_in}
 use Rattle.wb_session.specs.Inner.Gathered.{AreGathered}
 use Rattle.wb_session.proofs.GatherLemmas.{gathered_inside}
 use Rattle.wb_session.proofs.StackLemmas.{grows_push, grows_trees, state_below}
@@ -31,8 +31,8 @@ build_from-requires-clause-children c =
     let len_is : c.len-count.result ≡ length children = search rules in
     subst (All (IsIn (length c.args.stacks.now.store))) (sym (last_all c.len-count.result children len_is))
     (gathered_inside c.args.language.now (roots_of c.args.stacks.now) c.args.link width c.in_ok-below.below children c.requires.sound
-    c.requires.link (subst (λ z. AreGathered z c.args.stacks.now.values c.args.link width c.in_ok-below.below children) c.deref.ensures.value
-    c.in_ok-below.ensures.gathered))
+    c.requires.link (subst (λ z. AreGathered z c.args.stacks.now.values c.args.link width c.in_ok-below.below children)
+    c.deref.ensures.value c.in_ok-below.ensures.gathered))
 
 pub returns-in_err-made-clause-grows : goal.returns-in_err-made-clause-grows
 returns-in_err-made-clause-grows c =
@@ -54,7 +54,8 @@ returns-clause-made c =
     (subst (λ z. AreGathered z c.args.stacks.now.values c.args.link rule.width c.in_ok-below.below children) c.deref.ensures.value
     c.in_ok-below.ensures.gathered)
     (λ next at. c.state_after-state.ensures.goes next
-    (subst (λ z. goto_of c.args.language.now.tables (state_in z c.in_ok-below.below) rule.left ≡ Some next) (sym c.deref-2.ensures.value) at))
+    (subst (λ z. goto_of c.args.language.now.tables (state_in z c.in_ok-below.below) rule.left ≡ Some next)
+    (sym c.deref-2.ensures.value) at))
     c.in_ok-tree.ensures.id fits
     (c.in_ok-made.ensures.store ∙ c.in_ok-tree.ensures.ok
     ∙ ap (λ z. trees ++ node c.args.production (values_in trees z) ∷ []) (last_all c.len-count.result children len_is))

@@ -1,4 +1,4 @@
-use Rattle.std.proofs.Common.{◌≤◌, arith}
+use Rattle.std.proofs.Common.{arith}
 use Rattle.wb_session.proofs.GatherLemmas.{gathered_all, gathered_more, root_below}
 use Rattle.wb_session.proofs.stacks.add_root.Goals as goal
 

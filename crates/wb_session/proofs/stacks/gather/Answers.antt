@@ -1,5 +1,4 @@
-use Rattle.std.proofs.Common.{arith, rules, subst, length}
-use Rattle.wb_session.specs.Inner.Gathered.{AreBeingGathered}
+use Rattle.std.proofs.Common.{arith, rules}
 use Rattle.wb_session.proofs.GatherLemmas.{gathered_none, gathered_turned}
 use Rattle.wb_session.proofs.stacks.gather.Goals as goal
 

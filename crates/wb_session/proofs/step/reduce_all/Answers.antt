@@ -1,4 +1,4 @@
-use Rattle.std.proofs.Common.{◌≡◌, ◌<◌, ◌∙◌, ap, subst, sym}
+use Rattle.std.proofs.Common.{◌<◌, ◌∙◌, ap, subst, sym}
 use Rattle.wb_lookahead.specs.Contents.{TablesView, action_of, size_of}
 use Rattle.wb_parser_states.proofs.TableLemmas.{action_below, IsActionBelow, zero_below}
 use Rattle.wb_session.specs.Stacks.{roots_of, state_in}
@@ -28,7 +28,8 @@ returns-in-Shift-clause-settled c =
     let top = c.state_at.ensures ∙ ap (λ z. state_in z c.reductions.link) c.deref.ensures.value in
     let act = c.action.ensures ∙ ap (λ (z : TablesView). action_of z c.state_at.result c.args.terminal) c.tables-tables.ensures.tables
     ∙ ap (λ s. action_of ts s c.args.terminal) top in
-    shift_settled c.args.language.now c.tables-tables.ensures.language c.tables-tables.ensures.of_grammar c.args.terminal c.requires.terminal
+    shift_settled c.args.language.now c.tables-tables.ensures.language c.tables-tables.ensures.of_grammar c.args.terminal
+    c.requires.terminal
     (roots_of c.reductions.stacks) c.reductions.link c.in-Shift.target (sym act ∙ c.in-Shift.is) (roots_of c.args.stacks.now) c.args.from
     c.reductions.invariant.are
 
@@ -49,7 +50,8 @@ returns-in-Accept-clause-settled c =
     let top = c.state_at.ensures ∙ ap (λ z. state_in z c.reductions.link) c.deref.ensures.value in
     let act = c.action.ensures ∙ ap (λ (z : TablesView). action_of z c.state_at.result c.args.terminal) c.tables-tables.ensures.tables
     ∙ ap (λ s. action_of ts s c.args.terminal) top in
-    accept_settled c.args.language.now c.tables-tables.ensures.language c.tables-tables.ensures.of_grammar c.args.terminal c.requires.terminal
+    accept_settled c.args.language.now c.tables-tables.ensures.language c.tables-tables.ensures.of_grammar c.args.terminal
+    c.requires.terminal
     (roots_of c.reductions.stacks) c.reductions.link (sym act ∙ c.in-Accept.is) (roots_of c.args.stacks.now) c.args.from
     c.reductions.invariant.are
 
