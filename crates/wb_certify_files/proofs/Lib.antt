@@ -1,7 +1,7 @@
 pub mod OneHostAnswer
-pub mod ShownHosts
-pub mod UnresolvedLemmas
-pub mod HostLemmas
+mod ShownHosts
+mod UnresolvedLemmas
+mod HostLemmas
 pub mod OneExtensionAnswer
-pub mod ShownExtensions
-pub mod ExtensionLemmas
+mod ShownExtensions
+mod ExtensionLemmas
