@@ -1,5 +1,7 @@
 -- What is reported of a certificate is the certificate, or that it is too long to print.
-use Rattle.std.proofs.Common.{◌≡◌, ◌<◌, ◌≤◌, inl, inr, ℕ, List, [], ◌∷◌, Option, Some, None, length, sym, subst}
+use Rattle.std.proofs.Common.{◌≡◌, ◌<◌, ◌≤◌, inl, inr, ℕ, List, [], ◌∷◌, Option, Some, None, arith, get_or, length, sym, subst}
+use Rattle.wb_certify.specs.Kept.{ExtensionView}
+use Rattle.wb_compose_texts.specs.Unions.{all_resolved}
 use Rattle.wb_recheck_files.specs.CertificateTexts.{IsExtensionCertificate, IsHostCertificate}
 use Rattle.wb_syntax_resolved.specs.declared.resolved.ResolvedParts.{ResolvedParts}
 use Rattle.wb_program.specs.Commands.Certificate.{CertificateChecks, IsCertificateOf}
@@ -7,17 +9,18 @@ use Rattle.wb_program.specs.Inner.Certificates.{IsTextOrTooLong, ShownCertificat
 use Rattle.wb_program.specs.declared.status.Status.{Status}
 
 -- where there is no extension it is the host's
-pub of_host : (host : ResolvedParts) (extensions : List ResolvedParts) (made : Option (List ℕ)) → extensions ≡ []
-    → IsTextOrTooLong (IsHostCertificate host) made → IsTextOrTooLong (IsCertificateOf host extensions) made
-of_host host extensions made same is =
-    subst (λ (list : List ResolvedParts). IsTextOrTooLong (IsCertificateOf host list) made) (sym same) is
+pub of_host : (host : ResolvedParts) (extensions : List ExtensionView) (made : Option (List ℕ)) → length extensions < 1
+    → IsTextOrTooLong (IsHostCertificate host) made → IsTextOrTooLong (IsCertificateOf host (all_resolved extensions)) made
+of_host host [] made few is = is
+of_host host (e ∷ others) made few is = absurd (omega arith)
 
 -- where there is one it is that of the extension
-pub of_extension : (host extension : ResolvedParts) (others extensions : List ResolvedParts) (made : Option (List ℕ))
-    → extensions ≡ extension ∷ others → IsTextOrTooLong (IsExtensionCertificate extension) made
-    → IsTextOrTooLong (IsCertificateOf host extensions) made
-of_extension host extension others extensions made same is =
-    subst (λ (list : List ResolvedParts). IsTextOrTooLong (IsCertificateOf host list) made) (sym same) is
+pub of_extension : (host : ResolvedParts) (extensions : List ExtensionView) (first : ExtensionView) (made : Option (List ℕ))
+    → 1 ≤ length extensions → first ≡ get_or extensions 0 first → IsTextOrTooLong (IsExtensionCertificate first.resolved) made
+    → IsTextOrTooLong (IsCertificateOf host (all_resolved extensions)) made
+of_extension host [] first made some at is = absurd (omega arith)
+of_extension host (e ∷ others) first made some at is =
+    subst (λ (x : ExtensionView). IsTextOrTooLong (IsExtensionCertificate x.resolved) made) at is
 
 -- what is shown of it
 pub shown_checks : (host : ResolvedParts) (extensions : List ResolvedParts) (made : Option (List ℕ)) (s : Status) (bytes : List ℕ)
