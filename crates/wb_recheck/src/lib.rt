@@ -20,3 +20,4 @@ pub use laws::one_recheck_answer_law;
 pub use rechecked::RecheckedHost;
 pub use refusal::RecheckRefusal;
 pub use value::recheck_resolved;
+pub use wb_recheck_files::{write_extension, write_host};

@@ -131,82 +131,84 @@ fn is_refused(refusal: RecheckRefusal, expected: Answer) -> bool {
     }
 }
 
+// A host, its text, an extension or none, its text, and the answer.
+static ROWS: [Row; 14] = [
+    (
+        ONE,
+        "certificate 1\nhost one\nkernel 0 t0\nkernel 0 n0\nlook 0 1 0 1 -\nlook 0 0 0 1 0\nlook 2 1 1 1 0\nlook 1 0 1 1 1\n",
+        "",
+        "",
+        Answer::Certified,
+    ),
+    // Kernels in another order, and entries.
+    (
+        ONE,
+        "certificate 1\nhost one\nkernel 0 n0\nkernel 0 t0\nlook 0 1 0 1 -\nlook 1 1 1 1 0\nlook 0 0 0 1 0\nlook 2 0 1 1 2\n",
+        "",
+        "",
+        Answer::Certified,
+    ),
+    (
+        ONE,
+        "certificate 1\nhost one\nkernel 0 t0\nkernel 0 n0\nlook 0 1 0 1 -\nlook 0 0 0 1 0\nlook 2 1 1 1 0\nlook 1 0 1 1 0\n",
+        "",
+        "",
+        Answer::WrongLine(8),
+    ),
+    (
+        ONE,
+        "certificate 1\nhost one\nkernel 0 t0\nkernel 0 n0\nlook 0 1 0 1 -\nlook 0 0 0 1 0\nlook 2 1 1 1 0\n",
+        "",
+        "",
+        Answer::Missing(0),
+    ),
+    (ONE, "", "", "", Answer::Syntax(0)),
+    (
+        ONE,
+        "certificate 1\nhost other\n",
+        "",
+        "",
+        Answer::WrongLine(2),
+    ),
+    (ONE, "certificate 1\nhost one\n", "", "", Answer::Missing(0)),
+    // A rule before the conflict comes before the text.
+    (
+        "format 1; host one; terminal X /x/; nonterminal S; start S; concrete go : S ::= s : S { } concrete last : S ::= x : X { }",
+        "",
+        "",
+        "",
+        Answer::Rule,
+    ),
+    // One from the conflict on comes after it.
+    (TWO, "", "", "", Answer::Syntax(0)),
+    (
+        TWO,
+        "certificate 1\nhost two\nkernel 0 t0\nkernel 0 n0\nkernel 0 n1\nkernel 0 n2\nlook 0 4 0 1 -\nlook 0 0 0 1 0\nlook 0 1 0 1 0\nlook 2 4 1 1 0\nlook 0 2 0 1 1\nlook 3 0 1 1 1\nlook 0 3 0 1 2\nlook 4 1 1 1 2\nlook 1 2 1 1 4\nlook 1 3 1 1 6\n",
+        "",
+        "",
+        Answer::Rule,
+    ),
+    (BASE, BASE_TEXT, MORE, MORE_TEXT, Answer::Certified),
+    (BASE, BASE_TEXT, MORE, BASE_TEXT, Answer::WrongLine(2)),
+    (
+        BASE,
+        BASE_TEXT,
+        MORE,
+        "certificate 1\nextension more for one\nkernel 0 t0\n",
+        Answer::Missing(0),
+    ),
+    // The marker stands in no production.
+    (
+        BASE,
+        BASE_TEXT,
+        "format 1; extension more for one; marking M /m/;",
+        "",
+        Answer::Rule,
+    ),
+];
+
 #[test]
 fn certificates_are_trusted_in_nothing(rt: HostRuntime) {
-    static ROWS: [Row; 14] = [
-        (
-            ONE,
-            "certificate 1\nhost one\nkernel 0 t0\nkernel 0 n0\nlook 0 1 0 1 -\nlook 0 0 0 1 0\nlook 2 1 1 1 0\nlook 1 0 1 1 1\n",
-            "",
-            "",
-            Answer::Certified,
-        ),
-        // Kernels in another order, and entries.
-        (
-            ONE,
-            "certificate 1\nhost one\nkernel 0 n0\nkernel 0 t0\nlook 0 1 0 1 -\nlook 1 1 1 1 0\nlook 0 0 0 1 0\nlook 2 0 1 1 2\n",
-            "",
-            "",
-            Answer::Certified,
-        ),
-        (
-            ONE,
-            "certificate 1\nhost one\nkernel 0 t0\nkernel 0 n0\nlook 0 1 0 1 -\nlook 0 0 0 1 0\nlook 2 1 1 1 0\nlook 1 0 1 1 0\n",
-            "",
-            "",
-            Answer::WrongLine(8),
-        ),
-        (
-            ONE,
-            "certificate 1\nhost one\nkernel 0 t0\nkernel 0 n0\nlook 0 1 0 1 -\nlook 0 0 0 1 0\nlook 2 1 1 1 0\n",
-            "",
-            "",
-            Answer::Missing(0),
-        ),
-        (ONE, "", "", "", Answer::Syntax(0)),
-        (
-            ONE,
-            "certificate 1\nhost other\n",
-            "",
-            "",
-            Answer::WrongLine(2),
-        ),
-        (ONE, "certificate 1\nhost one\n", "", "", Answer::Missing(0)),
-        // A rule before the conflict comes before the text.
-        (
-            "format 1; host one; terminal X /x/; nonterminal S; start S; concrete go : S ::= s : S { } concrete last : S ::= x : X { }",
-            "",
-            "",
-            "",
-            Answer::Rule,
-        ),
-        // One from the conflict on comes after it.
-        (TWO, "", "", "", Answer::Syntax(0)),
-        (
-            TWO,
-            "certificate 1\nhost two\nkernel 0 t0\nkernel 0 n0\nkernel 0 n1\nkernel 0 n2\nlook 0 4 0 1 -\nlook 0 0 0 1 0\nlook 0 1 0 1 0\nlook 2 4 1 1 0\nlook 0 2 0 1 1\nlook 3 0 1 1 1\nlook 0 3 0 1 2\nlook 4 1 1 1 2\nlook 1 2 1 1 4\nlook 1 3 1 1 6\n",
-            "",
-            "",
-            Answer::Rule,
-        ),
-        (BASE, BASE_TEXT, MORE, MORE_TEXT, Answer::Certified),
-        (BASE, BASE_TEXT, MORE, BASE_TEXT, Answer::WrongLine(2)),
-        (
-            BASE,
-            BASE_TEXT,
-            MORE,
-            "certificate 1\nextension more for one\nkernel 0 t0\n",
-            Answer::Missing(0),
-        ),
-        // The marker stands in no production.
-        (
-            BASE,
-            BASE_TEXT,
-            "format 1; extension more for one; marking M /m/;",
-            "",
-            Answer::Rule,
-        ),
-    ];
     answers_are(&rt, &ROWS);
 }
 
