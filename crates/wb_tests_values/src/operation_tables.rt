@@ -53,7 +53,6 @@ impl Meaning for Swapped {
 }
 
 // Whether a table whose only operation is called `and` and means `or` gives true of true and false.
-#[tactic(auto, unfolding(wb_operations::specs::Standard::standard_at, wb_operations::specs::Standard::standard_operations))]
 fn is_either(alloc: Global) -> Result<bool, AllocError> {
     let run = Box::new(
         alloc,
@@ -161,7 +160,6 @@ impl Meaning for Joining {
 }
 
 // Whether a closure that holds the allocator concatenates two texts to `ab`.
-#[tactic(auto, unfolding(wb_operations::specs::Standard::standard_at, wb_operations::specs::Standard::standard_operations))]
 fn is_joined(alloc: Global, texts: &[Value]) -> Result<bool, AllocError>
     requires { FitKinds two_texts texts.now }
 {

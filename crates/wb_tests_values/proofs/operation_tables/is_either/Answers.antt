@@ -6,6 +6,3 @@ use Rattle.wb_tests_values.proofs.operation_tables.is_either.Goals as goal
 pub add-requires-clause-kind : goal.add-requires-clause-kind
 unfolding standard_at standard_operations
 add-requires-clause-kind c = λ values are. rw (c.new-table.ensures.signatures) ((sound_at 11 (omega arith)).kind values are)
-
-pub add-requires-clause-answers : goal.add-requires-clause-answers
-add-requires-clause-answers c = rw (c.new-table.ensures.signatures) (λ values given fit is. is)

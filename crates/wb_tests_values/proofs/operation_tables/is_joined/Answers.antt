@@ -3,9 +3,6 @@ use Rattle.wb_operations.specs.Standard.{standard_at, standard_operations}
 use Rattle.wb_operations.proofs.KindLemmas.{sound_at}
 use Rattle.wb_tests_values.proofs.operation_tables.is_joined.Goals as goal
 
-pub add-requires-clause-answers : goal.add-requires-clause-answers
-add-requires-clause-answers c = rw (c.new-table.ensures.signatures) (λ values given fit is. is)
-
 pub add-requires-clause-kind : goal.add-requires-clause-kind
 unfolding standard_at standard_operations
 add-requires-clause-kind c = λ values are. rw (c.new-table.ensures.signatures) ((sound_at 12 (omega arith)).kind values are)
