@@ -6,6 +6,8 @@ use Rattle.wb_report.specs.Parts.{conflict_text, lookahead_text, share_text, spa
 use Rattle.wb_report.specs.Reasons.{reader_text}
 use Rattle.wb_report.specs.declared.attribute_reason.AttributeReason.{AttributeReason}
 use Rattle.wb_report.specs.declared.attribute_reason.AttributeReason.TheVariants as a
+use Rattle.wb_report.specs.declared.certificate_reason.CertificateReason.{CertificateReason}
+use Rattle.wb_report.specs.declared.certificate_reason.CertificateReason.TheVariants as k
 use Rattle.wb_report.specs.declared.extension_reason.ExtensionReason.{ExtensionReason}
 use Rattle.wb_report.specs.declared.extension_reason.ExtensionReason.TheVariants as e
 use Rattle.wb_report.specs.declared.grammar_reason.GrammarReason.{GrammarReason}
@@ -73,9 +75,16 @@ term_begins (t.Syntax offset) = (codes " at " ++ decimal offset, refl)
 term_begins (t.Unknown offset) = (codes " at " ++ decimal offset, refl)
 term_begins (t.WrongChild offset) = (codes " at " ++ decimal offset, refl)
 
+certificate_begins : (reason : CertificateReason) → BeginsWithCode (r.Certificate reason)
+certificate_begins (k.Syntax offset) = (codes " at " ++ decimal offset, refl)
+certificate_begins (k.WrongLine line) = (codes " line " ++ decimal line, refl)
+certificate_begins (k.Missing kernel) = (codes " kernel " ++ decimal kernel, refl)
+certificate_begins k.TooLong = ([], refl)
+
 pub begins : (refusal : Refusal) → BeginsWithCode refusal
 begins (r.Specification reason) = spec_begins reason
 begins (r.Grammar reason) = grammar_begins reason
 begins (r.Extension reason) = extension_begins reason
 begins (r.Attributes reason) = attribute_begins reason
 begins (r.Term reason) = term_begins reason
+begins (r.Certificate reason) = certificate_begins reason

@@ -4,6 +4,8 @@ use lib.Chars.{codes}
 use Rattle.wb_operations.specs.Operations.{Operations}
 use Rattle.wb_report.specs.declared.attribute_reason.AttributeReason.{AttributeReason}
 use Rattle.wb_report.specs.declared.attribute_reason.AttributeReason.TheVariants as a
+use Rattle.wb_report.specs.declared.certificate_reason.CertificateReason.{CertificateReason}
+use Rattle.wb_report.specs.declared.certificate_reason.CertificateReason.TheVariants as k
 use Rattle.wb_report.specs.declared.extension_reason.ExtensionReason.{ExtensionReason}
 use Rattle.wb_report.specs.declared.extension_reason.ExtensionReason.TheVariants as e
 use Rattle.wb_report.specs.declared.grammar_reason.GrammarReason.{GrammarReason}
@@ -75,6 +77,13 @@ term_code (t.Syntax offset) = codes "T1"
 term_code (t.Unknown offset) = codes "T2"
 term_code (t.WrongChild offset) = codes "T3"
 
+-- that of a rule of certificates
+abbrev pub certificate_code : CertificateReason → List ℕ
+certificate_code (k.Syntax offset) = codes "K1"
+certificate_code (k.WrongLine line) = codes "K2"
+certificate_code (k.Missing kernel) = codes "K3"
+certificate_code k.TooLong = codes "K4"
+
 -- the code of a refusal
 abbrev pub code_of : Refusal → List ℕ
 code_of (r.Specification reason) = spec_code reason
@@ -82,6 +91,7 @@ code_of (r.Grammar reason) = grammar_code reason
 code_of (r.Extension reason) = extension_code reason
 code_of (r.Attributes reason) = attribute_code reason
 code_of (r.Term reason) = term_code reason
+code_of (r.Certificate reason) = certificate_code reason
 
 -- the text of a refusal begins with its code
 abbrev pub BeginsWithCode : Refusal → Type 0
