@@ -1,0 +1,5 @@
+mod BodyLemmas
+mod LineLemmas
+mod PartLemmas
+mod ProgressLemmas
+mod StringLemmas

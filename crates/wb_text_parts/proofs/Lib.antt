@@ -1,0 +1,4 @@
+pub mod FaultLemmas
+pub mod NumberLemmas
+pub mod StopLemmas
+mod WordLemmas
