@@ -109,6 +109,7 @@ extensible_declared items name has =
       from (i.Synthesized m its) there e = absurd (cc e)
       from (i.Inherited m its) there e = absurd (cc e)
       from (i.Occurs m l needs) there e = absurd (cc e)
+      from (i.Closed m) there e = absurd (cc e)
       from (i.ForwardOn m needs) there e = absurd (cc e)
 
 -- a start that is listed is there

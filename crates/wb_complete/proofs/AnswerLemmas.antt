@@ -25,7 +25,7 @@ module _ (a : AttributionParts) (start extension : Option ℕ) where
   forward_excludes : IfSome extension (ForwardsAsExtension a) → (p : ℕ) → ¬ LacksForward a start extension p
   forward_excludes forwards p lacks =
       lacks.lacks (of_some (ForwardsAsExtension a) extension lacks.owner lacks.is_extension forwards p lacks.production lacks.there
-      lacks.bridging)
+      lacks.must_forward)
 
   top_excludes : EachProduction a (DefinesTop a) → (p x : ℕ) → ¬ LacksEquation a start extension p x
   top_excludes top p x lacks =

@@ -4,7 +4,7 @@ use Rattle.wb_flow_theory.specs.Vertices.{Step, made, forward, top_synthesized, 
 use Rattle.wb_flow_theory.specs.Occurrences.{Occurs}
 use Rattle.wb_flow_theory.specs.Rules.{Forwards, HasRule}
 use Rattle.wb_flow_theory.specs.WellDefined.{DefinesTop, DefinesBelow, ReadNeeds}
-use Rattle.wb_flow_theory.specs.Modular.{IsProduction, EachProduction, InheritsNothing, IsBridging, ForwardsAsExtension}
+use Rattle.wb_flow_theory.specs.Modular.{IsProduction, EachProduction, InheritsNothing, MustForward, ForwardsAsExtension}
 use Rattle.wb_flow.specs.declared.refusal.AttributeRefusal.{AttributeRefusal}
 use Rattle.wb_flow.specs.declared.refusal.AttributeRefusal.TheVariants as r
 use Rattle.wb_flow.specs.declared.vertex.Vertex.{Vertex}
@@ -13,8 +13,8 @@ use Rattle.wb_syntax_resolved.specs.declared.attributes.Direction.TheVariants.{S
 use Rattle.wb_syntax_resolved.specs.declared.attribution.AttributionParts.{AttributionParts}
 use Rattle.wb_syntax_resolved.specs.declared.production.Production.{Production}
 
--- a start inherits nothing, an extension's productions on the host's nonterminals forward, and each attribute that is needed in a
--- production is defined there
+-- a start inherits nothing, an extension's productions on those of the host's nonterminals that aren't closed forward, and each attribute
+-- that is needed in a production is defined there
 pub record CompleteOk (a : AttributionParts) (start extension : Option ℕ) : Type 0 where
   pub start_inherits : IfSome start (InheritsNothing a)
   pub forwards : IfSome extension (ForwardsAsExtension a)
@@ -27,14 +27,14 @@ pub record StartHas (a : AttributionParts) (start : Option ℕ) (attribute : ℕ
   pub is_start : start ≡ Some nonterminal
   pub occurs : Occurs a Inherited attribute nonterminal
 
--- a start inherits nothing, and this production of the extension is on a nonterminal of the host and doesn't forward
+-- a start inherits nothing, and this production of the extension is on a nonterminal of the host that isn't closed and doesn't forward
 pub record LacksForward (a : AttributionParts) (start extension : Option ℕ) (number : ℕ) : Type 0 where
   pub start_inherits : IfSome start (InheritsNothing a)
   pub owner : ℕ
   pub is_extension : extension ≡ Some owner
   pub production : Production
   pub there : IsProduction a number production
-  pub bridging : IsBridging a owner production
+  pub must_forward : MustForward a owner production
   pub lacks : ¬ Forwards production
 
 -- the production has no equation for this synthesized attribute of its left side, and doesn't forward

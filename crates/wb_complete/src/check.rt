@@ -3,12 +3,13 @@
 //! Each rule is tested on all productions before the next, so the first that fails is the answer.
 
 ghost use Rattle.std.specs.Prelude.{◌↔◌, IfOk, IfErr, IfSome, IfNone, IsTrue};
-ghost use Rattle.wb_flow_theory.specs.Modular.{EachProduction, InheritsNothing, IsBridging, ForwardsAsExtension};
+ghost use Rattle.wb_flow_theory.specs.Modular.{EachProduction, InheritsNothing, IsBridging, MustForward, ForwardsAsExtension};
 ghost use Rattle.wb_flow_theory.specs.WellDefined.{DefinesTop, DefinesBelow};
 ghost use Rattle.wb_complete.specs.Inner.Tests.{IsSo, IsWithoutForward};
 ghost use Rattle.wb_complete.specs.Refusals.{CompleteOk, IsTrueCompletenessRefusal, LacksBelow, LacksTop, StartHas};
 ghost use Rattle.wb_flow.specs.Occurrences.{IsIndexOf};
 ghost use Rattle.wb_syntax_resolved.specs.Attribution.{IsAttribution};
+ghost use Rattle.wb_syntax_resolved.specs.Owned.{IsClosed};
 
 use crate::below::lacking_below;
 use crate::top::lacking_top;
@@ -16,9 +17,9 @@ use std::alloc::{AllocError, Global};
 use wb_flow::{AttributeRefusal, OccurrenceIndex, Scope, Vertex, defined_vertices};
 use wb_syntax_resolved::{Attribution, Production};
 
-/// Whether a start has no inherited attribute, an extension's productions on the host's nonterminals forward, each production has an
-/// equation for each synthesized attribute of its left side or forwards, and where an attribute of a child or local is read, each inherited
-/// one in its flow type has an equation.
+/// Whether a start has no inherited attribute, an extension's productions on those of the host's nonterminals that aren't closed forward,
+/// each production has an equation for each synthesized attribute of its left side or forwards, and where an attribute of a child or local is
+/// read, each inherited one in its flow type has an equation.
 ///
 /// The extension is given by its owner's number, and by none for a host. Rules are tested in this order, each on all productions. The time
 /// is about linear in the attribution and, for each production, in what the flow types of its reads have; no clause bounds it.
@@ -95,7 +96,7 @@ fn inherited_of_start(scope: &Scope, start: Option<usize>) -> Option<usize>
     None
 }
 
-// A production of the extension on a nonterminal of the host that doesn't forward.
+// A production of the extension on a nonterminal of the host that isn't closed, where one doesn't forward.
 fn without_forward(scope: &Scope, extension: Option<usize>) -> Option<usize>
     ensures some { IfSome result (IsWithoutForward scope.now.attributes.now extension) }
     ensures none { IfNone result (IfSome extension (ForwardsAsExtension scope.now.attributes.now)) }
@@ -106,11 +107,18 @@ fn without_forward(scope: &Scope, extension: Option<usize>) -> Option<usize>
     let productions = scope.attributes.productions.as_slice();
     'productions: for number in 0..productions.len() {
         let production = &productions[number];
-        if production.forward.is_none() && is_bridging(scope, owner, production) {
+        if production.forward.is_none() && must_forward(scope, owner, production) {
             return Some(number);
         }
     }
     None
+}
+
+// Whether a production is an extension's, on a nonterminal of the host that isn't closed.
+fn must_forward(scope: &Scope, extension: usize, production: &Production) -> bool
+    ensures { IsTrue result ↔ MustForward scope.now.attributes.now extension production.now }
+{
+    is_bridging(scope, extension, production) && !is_closed(scope, production.left)
 }
 
 // Whether a production is an extension's, on a nonterminal of the host.
@@ -121,6 +129,14 @@ fn is_bridging(scope: &Scope, extension: usize, production: &Production) -> bool
     production.owner == extension
         && production.left < nonterminals.len()
         && nonterminals[production.left].owner == 0
+}
+
+// Whether a nonterminal is closed.
+fn is_closed(scope: &Scope, nonterminal: usize) -> bool
+    ensures { IsTrue result ↔ IsClosed scope.now.attributes.now nonterminal }
+{
+    let nonterminals = scope.attributes.nonterminals.as_slice();
+    nonterminal < nonterminals.len() && nonterminals[nonterminal].closed
 }
 
 // A production with a synthesized attribute of its left side that it lacks an equation for, where it doesn't forward.

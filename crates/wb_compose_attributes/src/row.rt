@@ -29,6 +29,7 @@ pub fn new_nonterminal(
     Ok(Nonterminal {
         name,
         owner: new_owner(numbers, row.owner),
+        closed: row.closed,
         forward_needs,
     })
 }

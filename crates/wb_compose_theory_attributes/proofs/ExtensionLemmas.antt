@@ -1,5 +1,5 @@
 -- A part of a world, and an extension with the host, stay well defined by new numbers.
-use Rattle.std.proofs.Common.{◌≡◌, ◌⊎◌, ◌∙◌, ℕ, List, Contains, refl, sym, subst, ap, inl, inr}
+use Rattle.std.proofs.Common.{◌≡◌, ◌⊎◌, ◌∙◌, ℕ, List, IsTrue, Contains, refl, sym, subst, ap, inl, inr}
 use Rattle.wb_flow_theory.specs.Rules.{Reads}
 use Rattle.wb_flow_theory.specs.Vertices.{forward, Step, made, Vertex, top_synthesized, top_inherited, synthesized, inherited, tree_of}
 use Rattle.wb_syntax_resolved.specs.declared.attributes.Direction.TheVariants.{Synthesized, Inherited}
@@ -135,6 +135,11 @@ module _ (v : World) (named : IsNamed v) (w : World) (k : ℕ) (t : NumberMap) (
     owner : v.production_owner p ≡ extension 0
     left : v.nonterminal_owner (v.left p) ≡ host
 
+  -- its left side isn't closed where that in new numbers isn't
+  open_back : (q : ℕ) (b : IsBridging q) → ¬ IsTrue (w.closed (w.left q)) → ¬ IsTrue (v.closed (v.left b.p))
+  open_back q b free shut =
+      free (ap (λ z. w.closed (w.left z)) b.is ∙ (ap w.closed (image.image.rows b.p b.there).left ∙ (image.closed (v.left b.p) ∙ shut)))
+
   bridging : (q : ℕ) → w.production_owner q ≡ extension k → w.nonterminal_owner (w.left q) ≡ host → IsBridging q
   bridging q owner left =
       let (p, there, q_is) = image.image.production_from q (subst (Has (alone k)) (sym owner) refl) in
@@ -150,9 +155,9 @@ module _ (v : World) (named : IsNamed v) (w : World) (k : ℕ) (t : NumberMap) (
       }
 
   module _ (good : IsWellDefinedExtension v 0) where
-    forwards : (q : ℕ) → IsBridging q → IsForwarding w q
-    forwards q b =
-        subst (IsForwarding w) (sym b.is) ((image.image.rows b.p b.there).forwards_to (good.forwards b.p b.owner b.left))
+    forwards : (q : ℕ) → IsBridging q → ¬ IsTrue (w.closed (w.left q)) → IsForwarding w q
+    forwards q b free = subst (IsForwarding w) (sym b.is)
+        ((image.image.rows b.p b.there).forwards_to (good.forwards b.p b.owner b.left (open_back q b free)))
 
     reach : (p : ℕ) (there : Has (alone 0) (v.production_owner p)) → v.production_owner p ≡ extension 0
         → v.nonterminal_owner (v.left p) ≡ host → (j l : ℕ) → HasRuleIn w (alone k) (t.production p) (inherited (made forward) j)
@@ -177,7 +182,7 @@ module _ (v : World) (named : IsNamed v) (w : World) (k : ℕ) (t : NumberMap) (
     pub extension_stays : IsWellDefinedExtension w k
     extension_stays = record {
       part = part_stays v named (alone 0) w (alone k) t image.image good.part;
-      forwards = λ q owner left. forwards q (bridging q owner left);
+      forwards = λ q owner left free. forwards q (bridging q owner left) free;
       forward_equations = λ q j l owner left has walk.
           let b = bridging q owner left in
           let reached = reach b.p b.there b.owner b.left j l (subst (λ z. HasRuleIn w (alone k) z (inherited (made forward) j)) b.is has)

@@ -1,5 +1,5 @@
 -- Where each owner sees an attribution, each name is declared where it is seen, and owners keep to what they may.
-use Rattle.std.proofs.Common.{◌≡◌, ◌∙◌, ◌≤◌, ℕ, Some, Contains, All, option_map, slice_get, length, refl, sym, ap, subst}
+use Rattle.std.proofs.Common.{◌≡◌, ◌∙◌, ◌≤◌, ℕ, Option, Some, None, Contains, All, option_map, slice_get, length, refl, sym, ap, subst}
 use Rattle.std.proofs.Common.{inl, inr}
 use Rattle.wb_lemmas.proofs.Elements.{all_at, all_contained, all_from_places, all_from_contained}
 use Rattle.wb_base.specs.declared.symbol.Kind.TheVariants as kind
@@ -17,10 +17,11 @@ use Rattle.wb_syntax_resolved.specs.declared.production.Local.{Local}
 use Rattle.wb_syntax_resolved.specs.declared.production.Production.{Production}
 use Rattle.wb_syntax_resolved.specs.Named.{IsNamed, IsNamedEquation, IsNamedLocal, IsNamedProduction, IsNamedNonterminal, IsNamedAttribute}
 use Rattle.wb_syntax_resolved.specs.Named.{IsNamedOccurrence}
-use Rattle.wb_syntax_resolved.specs.Owned.{IsOwned, IsOwnOccurrence, IsTargetOf, IsForOwnLocal, IsOwnEquation}
+use Rattle.wb_syntax_resolved.specs.Owned.{IsOwned, IsOwnOccurrence, IsClosed, IsOpenTo, IsTargetOf, IsForOwnLocal, IsOwnEquation}
 use Rattle.wb_syntax_resolved.specs.Owners.{IsOwner}
 use Rattle.wb_syntax_resolved.specs.Visible.{SeesNonterminal}
-use Rattle.wb_compose_theory_attributes.specs.Rows.{new_owner, new_occurrence, new_target, new_equation}
+use Rattle.wb_compose_theory_attributes.specs.Numbers.{NumberMap}
+use Rattle.wb_compose_theory_attributes.specs.Rows.{new_owner, new_nonterminal, new_occurrence, new_target, new_equation}
 use Rattle.wb_compose_theory_attributes.specs.Seen.{IsSeenProduction}
 use Rattle.wb_compose_theory_attributes.specs.Unions.{MayStandOn, IsWrittenWithin, IsWithin}
 use Rattle.wb_compose_theory_attributes.proofs.NewNamedLemmas.{nonterminal_new, attribute_new, occurrence_new, equation_new, local_new}
@@ -28,6 +29,12 @@ use Rattle.wb_compose_theory_attributes.proofs.NewNamedLemmas.{children_new}
 use Rattle.wb_compose_theory_attributes.proofs.NewNamedLemmas.{forward_new}
 use Rattle.wb_compose_theory_attributes.proofs.SeenLemmas.{nonterminal_at, attribute_at, sees_nonterminal, mapped, kind_new}
 use Rattle.wb_compose_theory_attributes.proofs.ViewLemmas.{View, nonterminal_back, attribute_back, production_back, local_back}
+
+-- what is closed stays so
+closed_new : (t : NumberMap) (k : ℕ) (o : Option Nonterminal)
+    → option_map (λ (z : Nonterminal). z.closed) (option_map (new_nonterminal t k) o) ≡ option_map (λ (z : Nonterminal). z.closed) o
+closed_new t k None = refl
+closed_new t k (Some r) = refl
 
 -- in a view
 module _ (a : AttributionParts) (k : ℕ) (v : View a k) where
@@ -43,6 +50,14 @@ module _ (a : AttributionParts) (k : ℕ) (v : View a k) where
       let (row, at, owner) = mapped (λ (z : Nonterminal). z.owner) (slice_get v.s.nonterminals r.nonterminal) r.owner own in
       inr (ap (option_map (λ (z : Nonterminal). z.owner)) (nonterminal_at v.s a k v.t v.seen r.nonterminal row at)
       ∙ ap (λ z. Some (new_owner k z)) owner)
+
+  open_to_new : (r : Occurrence) → IsOpenTo v.s r → IsOpenTo a (new_occurrence v.t k r)
+  open_to_new r free shut =
+      let here : IsClosed v.s r.nonterminal = sym (closed_new v.t k (slice_get v.s.nonterminals r.nonterminal))
+      ∙ (sym (ap (option_map (λ (z : Nonterminal). z.closed)) (v.seen.nonterminals r.nonterminal)) ∙ shut) in
+      let (row, at, owner) = mapped (λ (z : Nonterminal). z.owner) (slice_get v.s.nonterminals r.nonterminal) r.owner (free here) in
+      ap (option_map (λ (z : Nonterminal). z.owner)) (nonterminal_at v.s a k v.t v.seen r.nonterminal row at)
+      ∙ ap (λ z. Some (new_owner k z)) owner
 
   module _ (p : ℕ) (row there : Production) (same : IsSeenProduction v.t k p row there) where
     own_local_new : (owner : ℕ) (to : Target) → IsForOwnLocal row owner to → IsForOwnLocal there (new_owner k owner) (new_target v.t p to)
@@ -104,6 +119,13 @@ module _ (a : AttributionParts) (within : IsWithin a) (views : (k : ℕ) → k �
       let (from, there, is) = v.seen.occurrences_from r has (inr refl) in
       let own = all_contained (IsOwnOccurrence v.s) v.s.occurrences from v.is.owned.occurrences there in
       subst (IsOwnOccurrence a) (sym is) (own_occurrence_new a r.owner v from own)
+
+  pub open_to : (r : Occurrence) → Contains a.occurrences r → IsOpenTo a r
+  open_to r has =
+      let v = views r.owner (occurrence_owner r has) in
+      let (from, there, is) = v.seen.occurrences_from r has (inr refl) in
+      let free = all_contained (IsOpenTo v.s) v.s.occurrences from v.is.owned.open_to there in
+      subst (IsOpenTo a) (sym is) (open_to_new a r.owner v from free)
 
   module _ (q : ℕ) (there : Production) (at : slice_get a.productions q ≡ Some there) where
     pub written : IsWrittenWithin a there
@@ -177,6 +199,7 @@ module _ (a : AttributionParts) (within : IsWithin a) (views : (k : ℕ) → k �
   pub is_owned : IsOwned a
   is_owned = record {
     occurrences = all_from_contained (IsOwnOccurrence a) a.occurrences own_occurrence;
+    open_to = all_from_contained (IsOpenTo a) a.occurrences open_to;
     equations = all_from_places (λ (z : Production). All (IsOwnEquation a z) z.equations) a.productions
         (λ q there at. all_from_contained (IsOwnEquation a there) there.equations (own_equation q there at));
   }

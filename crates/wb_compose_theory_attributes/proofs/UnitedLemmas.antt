@@ -8,13 +8,14 @@ use Rattle.wb_flow_theory.specs.Modular.{AreWellDefinedAttributes, IsHosts}
 use Rattle.wb_base.specs.Identifiers.{IsName}
 use Rattle.wb_syntax_resolved.specs.declared.attributes.Nonterminal.{Nonterminal}
 use Rattle.wb_syntax_resolved.specs.Attribution.{IsAttribution}
-use Rattle.wb_compose_theory_worlds.specs.Attributions.{owner_in, world_of}
+use Rattle.wb_compose_theory_worlds.specs.Attributions.{owner_in, closed_in, world_of}
 use Rattle.wb_compose_theory_worlds.specs.Parts.{IsWellDefinedPart, IsWellDefinedExtension, AreWellDefinedApart}
 use Rattle.wb_compose_theory_worlds.specs.Worlds.{owner_of, World, plain}
 use Rattle.wb_compose_theory_worlds.proofs.NamedLemmas.{is_named as world_named, is_composed}
 use Rattle.wb_compose_theory_worlds.proofs.PartLemmas.{host_tested, extension_tested}
 use Rattle.wb_compose_theory_attributes.specs.Images.{owner_among, IsExtensionImage}
 use Rattle.wb_compose_theory_attributes.specs.Laws.{IsUnitedAttribution, IsUnitedWellDefined}
+use Rattle.wb_compose_theory_attributes.specs.Numbers.{NumberMap}
 use Rattle.wb_compose_theory_attributes.specs.Rows.{new_owner, new_nonterminal}
 use Rattle.wb_compose_theory_attributes.specs.Tested.{AreAttributions, AreWellDefinedEach}
 use Rattle.wb_compose_theory_attributes.specs.Unions.{Rooted, IsPart, IsUnionOf}
@@ -35,6 +36,10 @@ nonterminal_moved : (k : ℕ) (f : Nonterminal → Nonterminal) → ((r : Nonter
     ≡ owner_among k (owner_in (option_map (λ (r : Nonterminal). r.owner) o))
 nonterminal_moved k f moves None = refl
 nonterminal_moved k f moves (Some r) = ap owner_of (moves r) ∙ owner_moved k r.owner
+
+closed_moved : (t : NumberMap) (k : ℕ) (o : Option Nonterminal) → closed_in (option_map (new_nonterminal t k) o) ≡ closed_in o
+closed_moved t k None = refl
+closed_moved t k (Some r) = refl
 
 new_owner_host : (owner : ℕ) → new_owner 0 owner ≡ 0
 new_owner_host zero = refl
@@ -166,6 +171,7 @@ module _ (host_part : Rooted) (extensions : List Rooted) (a : Rooted) (union : I
             (extension_start k x) part.start p r)));
         nonterminal_owner = λ m. ap (λ z. owner_in (option_map (λ (r : Nonterminal). r.owner) z)) (part.seen.nonterminals m)
             ∙ nonterminal_moved k (new_nonterminal part.numbers (suc k)) (λ r. refl) (slice_get e.attributes.nonterminals m);
+        closed = λ m. ap closed_in (part.seen.nonterminals m) ∙ closed_moved part.numbers (suc k) (slice_get e.attributes.nonterminals m);
       }
 
       extension_well_defined : IsWellDefinedExtension w k

@@ -51,9 +51,11 @@ abbrev pub owner_among : ℕ → Owner → Owner
 owner_among k host = host
 owner_among k (extension j) = extension k
 
--- the host with the extension k of the second world is the host with the first extension of the first world in new numbers, owners included
+-- the host with the extension k of the second world is the host with the first extension of the first world in new numbers, owners and
+-- what is closed included
 pub record IsExtensionImage (v w : World) (k : ℕ) (t : NumberMap) : Type 0 where
   pub image : IsImage v (alone 0) w (alone k) t
   pub production_owner : (p : ℕ) → Has (alone 0) (v.production_owner p)
       → w.production_owner (t.production p) ≡ owner_among k (v.production_owner p)
   pub nonterminal_owner : (m : ℕ) → w.nonterminal_owner (t.nonterminal m) ≡ owner_among k (v.nonterminal_owner m)
+  pub closed : (m : ℕ) → w.closed (t.nonterminal m) ≡ v.closed m

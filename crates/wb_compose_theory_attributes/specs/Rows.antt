@@ -41,7 +41,7 @@ new_child t c = record { label = c.label; kind = new_child_kind t c.kind }
 -- a nonterminal, an attribute and an occurrence
 abbrev pub new_nonterminal : NumberMap → ℕ → Nonterminal → Nonterminal
 new_nonterminal t k r =
-    record { name = r.name; owner = new_owner k r.owner; forward_needs = map t.attribute r.forward_needs }
+    record { name = r.name; owner = new_owner k r.owner; closed = r.closed; forward_needs = map t.attribute r.forward_needs }
 
 abbrev pub new_attribute : NumberMap → ℕ → Attribute → Attribute
 new_attribute t k r =

@@ -1,5 +1,5 @@
 -- Moved rows are rows in new numbers, where moved numbers are the new ones.
-use Rattle.std.proofs.Common.{◌≡◌, ◌∙◌, ◌<◌, ◌∷◌, [], ℕ, List, Option, Some, None, All, map, option_map, refl, sym, ap, subst}
+use Rattle.std.proofs.Common.{◌≡◌, ◌∙◌, ◌<◌, ◌∷◌, [], ℕ, Bool, List, Option, Some, None, All, map, option_map, refl, sym, ap, subst}
 use Rattle.std.specs.Prelude.{option_to_list}
 use Rattle.std.specs.List.{AllZip}
 use Rattle.std.proofs.lemmas.List.Elements.{All-head, All-tail}
@@ -66,8 +66,8 @@ pub record MovesBy (m : Move) (u : NumberMap) (terminals : ℕ) : Type 0 where
   pub owner : (o : ℕ) → m.owner_in o ≡ o
 
 -- rows of these parts
-abbrev pub nonterminal_row : List ℕ → ℕ → List ℕ → Nonterminal
-nonterminal_row name owner forward_needs = record { name = name; owner = owner; forward_needs = forward_needs }
+abbrev pub nonterminal_row : List ℕ → ℕ → Bool → List ℕ → Nonterminal
+nonterminal_row name owner closed forward_needs = record { name = name; owner = owner; closed = closed; forward_needs = forward_needs }
 
 abbrev pub attribute_row : List ℕ → ℕ → Direction → Kind → Attribute
 attribute_row name owner direction is = record { name = name; owner = owner; direction = direction; kind = is }
@@ -118,9 +118,10 @@ module _ (m : Move) (u : NumberMap) (terminals : ℕ) (moves : MovesBy m u termi
 
   pub nonterminal_is : (x to : Nonterminal) → IsMovedNonterminal m x to → x.owner ≡ 0 → to ≡ new_nonterminal u 0 x
   nonterminal_is x to moved zero_is =
-      ap (λ z. nonterminal_row z to.owner to.forward_needs) moved.name
-      ∙ (ap (λ z. nonterminal_row x.name z to.forward_needs) (owner_is x.owner to.owner moved.owner zero_is)
-      ∙ ap (nonterminal_row x.name (new_owner 0 x.owner)) (needs_are x.forward_needs to.forward_needs moved.needs))
+      ap (λ z. nonterminal_row z to.owner to.closed to.forward_needs) moved.name
+      ∙ (ap (λ z. nonterminal_row x.name z to.closed to.forward_needs) (owner_is x.owner to.owner moved.owner zero_is)
+      ∙ (ap (λ z. nonterminal_row x.name (new_owner 0 x.owner) z to.forward_needs) moved.closed
+      ∙ ap (nonterminal_row x.name (new_owner 0 x.owner) x.closed) (needs_are x.forward_needs to.forward_needs moved.needs)))
 
   pub attribute_is : (x to : Attribute) → IsMovedAttribute m x to → x.owner ≡ 0 → to ≡ new_attribute u 0 x
   attribute_is x to moved zero_is =

@@ -65,8 +65,8 @@ module _ (v : NumberMap) (stays : Stays v) (o : ℕ) (fixed : new_owner o o ≡ 
 
   pub nonterminal_stays : (x : Nonterminal) → x.owner ≡ o → new_nonterminal v o x ≡ x
   nonterminal_stays x is =
-      ap (λ z. nonterminal_row x.name z (map v.attribute x.forward_needs)) (owner_stays x.owner is)
-      ∙ ap (nonterminal_row x.name x.owner) (map_stays v.attribute stays.attribute x.forward_needs)
+      ap (λ z. nonterminal_row x.name z x.closed (map v.attribute x.forward_needs)) (owner_stays x.owner is)
+      ∙ ap (nonterminal_row x.name x.owner x.closed) (map_stays v.attribute stays.attribute x.forward_needs)
 
   pub attribute_stays : (x : Attribute) → x.owner ≡ o → new_attribute v o x ≡ x
   attribute_stays x is =

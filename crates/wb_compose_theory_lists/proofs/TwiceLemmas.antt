@@ -1,5 +1,5 @@
 -- Rows that get new numbers twice.
-use Rattle.std.proofs.Common.{◌≡◌, ◌∙◌, ◌∷◌, [], ℕ, zero, suc, List, Option, Some, None, map, option_map, refl, ap}
+use Rattle.std.proofs.Common.{◌≡◌, ◌∙◌, ◌∷◌, [], ℕ, zero, suc, Bool, List, Option, Some, None, map, option_map, refl, ap}
 use Rattle.wb_base.specs.declared.symbol.Kind.{Kind}
 use Rattle.wb_base.specs.declared.symbol.Kind.TheVariants as kind
 use Rattle.wb_syntax_expressions.specs.declared.node.Node.TheVariants as n
@@ -45,8 +45,8 @@ pub record AreOwnersTwice (i j k : ℕ) : Type 0 where
   pub is : (owner : ℕ) → new_owner j (new_owner i owner) ≡ new_owner k owner
 
 -- rows of these parts
-abbrev nonterminal_row : List ℕ → ℕ → List ℕ → Nonterminal
-nonterminal_row name owner forward_needs = record { name = name; owner = owner; forward_needs = forward_needs }
+abbrev nonterminal_row : List ℕ → ℕ → Bool → List ℕ → Nonterminal
+nonterminal_row name owner closed forward_needs = record { name = name; owner = owner; closed = closed; forward_needs = forward_needs }
 
 abbrev attribute_row : List ℕ → ℕ → Direction → Kind → Attribute
 attribute_row name owner direction is = record { name = name; owner = owner; direction = direction; kind = is }
@@ -85,8 +85,8 @@ module _ (s t r : NumberMap) (twice : IsTwice s t r) where
   module _ (i j k : ℕ) (owners : AreOwnersTwice i j k) where
     pub nonterminal_twice : (x : Nonterminal) → new_nonterminal t j (new_nonterminal s i x) ≡ new_nonterminal r k x
     nonterminal_twice x =
-        ap (λ z. nonterminal_row x.name z (map t.attribute (map s.attribute x.forward_needs))) (owners.is x.owner)
-        ∙ ap (nonterminal_row x.name (new_owner k x.owner))
+        ap (λ z. nonterminal_row x.name z x.closed (map t.attribute (map s.attribute x.forward_needs))) (owners.is x.owner)
+        ∙ ap (nonterminal_row x.name (new_owner k x.owner) x.closed)
         (map_twice s.attribute t.attribute r.attribute twice.attribute x.forward_needs)
 
     pub attribute_twice : (x : Attribute) → new_attribute t j (new_attribute s i x) ≡ new_attribute r k x

@@ -10,10 +10,11 @@ use Rattle.wb_eval_theory.proofs.RuleLemmas.{both}
 use Rattle.wb_syntax_resolved.specs.declared.attributes.Attribute.{Attribute}
 use Rattle.wb_syntax_resolved.specs.declared.attributes.Direction.{Direction}
 use Rattle.wb_syntax_resolved.specs.declared.attributes.Direction.TheVariants.{Synthesized, Inherited}
+use Rattle.wb_syntax_resolved.specs.declared.attributes.Nonterminal.{Nonterminal}
 use Rattle.wb_syntax_resolved.specs.declared.attributes.Occurrence.{Occurrence}
 use Rattle.wb_syntax_resolved.specs.declared.production.ChildKind.{ChildKind}
 use Rattle.wb_syntax_resolved.specs.declared.production.ChildKind.TheVariants as child_kind
-use Rattle.wb_compose_theory_worlds.specs.Attributions.{same_owner, same_direction, goes_so, is_occurrence, occurrence_at}
+use Rattle.wb_compose_theory_worlds.specs.Attributions.{same_owner, same_direction, goes_so, is_occurrence, occurrence_at, closed_in}
 use Rattle.wb_compose_theory_worlds.specs.Attributions.{tree_in}
 use Rattle.wb_compose_theory_worlds.specs.Worlds.{Owner, host, extension, owner_of, union, Has}
 use Rattle.std.proofs.Common.{◌≡◌, ◌∙◌, ◌&&◌, ℕ, List, Option, Some, None, Bool, true, false, Contains}
@@ -45,6 +46,15 @@ direction_equal Inherited Inherited is = refl
 pub direction_again : (d : Direction) → same_direction d d ≡ true
 direction_again Synthesized = refl
 direction_again Inherited = refl
+
+-- what may be a nonterminal is closed
+pub closed_to : (r : Option Nonterminal) → option_map (λ (z : Nonterminal). z.closed) r ≡ Some true → closed_in r ≡ true
+closed_to None is = absurd (cc is)
+closed_to (Some r) is = same_Some r.closed true is
+
+pub closed_from : (r : Option Nonterminal) → closed_in r ≡ true → option_map (λ (z : Nonterminal). z.closed) r ≡ Some true
+closed_from None is = absurd (cc is)
+closed_from (Some r) is = ap Some is
 
 -- which way an attribute goes
 pub goes_to : (d : Direction) (r : Option Attribute) → option_map (λ (z : Attribute). z.direction) r ≡ Some d → goes_so d r ≡ true

@@ -37,7 +37,7 @@ use Rattle.wb_syntax_resolved.specs.Attribution.{IsAttribution}
 use Rattle.wb_syntax_resolved.specs.Expression.{Node}
 use Rattle.wb_syntax_resolved.specs.Named.{IsNamedExpression, IsNamedChild, IsChildKindOf, IsNamedOccurrence, IsNamedLocal, IsNamedEquation}
 use Rattle.wb_syntax_resolved.specs.Named.{IsNamedTarget, IsNamedNode}
-use Rattle.wb_syntax_resolved.specs.Owned.{IsOwnOccurrence, IsOwnEquation, IsForOwnLocal, IsForOwnOccurrence}
+use Rattle.wb_syntax_resolved.specs.Owned.{IsOwnOccurrence, IsOpenTo, IsOwnEquation, IsForOwnLocal, IsForOwnOccurrence}
 use Rattle.wb_syntax_resolved.specs.Owners as numbers
 use Rattle.wb_syntax_resolved.specs.Visible.{SeesNonterminal, SeesAttribute, SeesOccurrence, SeesPlace, kind_at, owner_of_local}
 use Rattle.wb_syntax_resolved.specs.Visible.{place_owner}
@@ -56,7 +56,7 @@ use Rattle.wb_compose_theory_worlds.proofs.AttributionLemmas.{forwarding_to, are
 use Rattle.wb_compose_theory_worlds.proofs.UnionLemmas.{union_is_well_defined}
 use Rattle.wb_compose_theory_worlds.proofs.SightLemmas.{sees_itself}
 use Rattle.wb_compose_theory_worlds.proofs.StayLemmas.{forward_below}
-use Rattle.wb_compose_theory_worlds.proofs.FoundLemmas.{owner_again, goes_to, IsFor, found_occurrence, tree_from, owner_equal, sees_to}
+use Rattle.wb_compose_theory_worlds.proofs.FoundLemmas.{owner_again, goes_to, IsFor, found_occurrence, tree_from, owner_equal, sees_to, closed_from}
 
 -- a rule of a production, and whose it is
 pub data IsRuleOf (production : Production) (v : Vertex) (owner : ℕ) (nodes : List Node) : Type 0 where
@@ -137,6 +137,13 @@ module _ (a : AttributionParts) (is : IsAttribution a) (start : ℕ) (first : Is
         | inl mine ↦ inr (ap w.attribute_owner of ∙ ap owner_in mine ∙ sym owner)
         | inr mine ↦ inl (ap w.nonterminal_owner on ∙ ap owner_in mine ∙ sym owner)
       ]
+
+  closed : (d : Direction) (o : Owner) (m x : ℕ) → IsTrue (w.declares d o m x) → IsTrue (w.closed m) → w.nonterminal_owner m ≡ o
+  closed d o m x declares shut =
+      let (r, has, on, of, owner, there) = declared_from d o m x declares in
+      let mine = all_contained (IsOpenTo a) a.occurrences r is.owned.open_to has
+      (closed_from (slice_get a.nonterminals r.nonterminal) (subst (λ z. IsTrue (w.closed z)) on shut)) in
+      ap w.nonterminal_owner on ∙ ap owner_in mine ∙ sym owner
 
   needs_named : (o : Owner) (m x i : ℕ) → IsTrue (w.declares Synthesized o m x) → Contains (w.needs m x) i
       → OccursIn w (part_of o) Inherited m i
@@ -469,6 +476,7 @@ module _ (a : AttributionParts) (is : IsAttribution a) (start : ℕ) (first : Is
     nonterminal = nonterminal;
     attribute = attribute;
     own = own;
+    closed = closed;
     needs_named = needs_named;
     forward_named = λ m i has. forward_named_in m i (slice_get a.nonterminals m) refl has;
     writes_there = λ o p v e writes.

@@ -1,6 +1,6 @@
 -- Parts that have the same owners are alike; so are an attribution's host, and its only extension with the host.
 use Rattle.std.proofs.Common.{◌≡◌, ◌∙◌, ℕ, zero, suc, List, Option, Some, None, Contains, refl, sym, subst, ap, inl, inr, arith}
-use Rattle.std.proofs.Common.{length, slice_get, option_map}
+use Rattle.std.proofs.Common.{IsTrue, length, slice_get, option_map}
 use Rattle.wb_flow_theory.specs.Modular.{AreWellDefinedAttributes, IsBridging, IsHosts}
 use Rattle.wb_flow_theory.specs.Vertices.{forward, Step, made, Vertex, top_synthesized, inherited}
 use Rattle.wb_syntax_resolved.specs.declared.attributes.Direction.TheVariants.{Synthesized, Inherited}
@@ -8,6 +8,7 @@ use Rattle.wb_syntax_resolved.specs.declared.attributes.Nonterminal.{Nonterminal
 use Rattle.wb_syntax_resolved.specs.declared.attribution.AttributionParts.{AttributionParts}
 use Rattle.wb_syntax_resolved.specs.declared.production.Production.{Production}
 use Rattle.wb_syntax_resolved.specs.Attribution.{IsAttribution}
+use Rattle.wb_syntax_resolved.specs.Owned.{IsClosed}
 use Rattle.wb_syntax_resolved.specs.Expression.{Node}
 use Rattle.wb_compose_theory_worlds.specs.Attributions.{owner_in, maker_in, world_of, IsHostTested, IsExtensionTested}
 use Rattle.wb_compose_theory_worlds.specs.Parts.{HasEdgeIn, by_rule, by_flow_type, by_tree, by_copy_up, by_copy_down, IsWellDefinedIn}
@@ -17,7 +18,7 @@ use Rattle.wb_compose_theory_worlds.specs.Worlds.{host, extension, owner_of, Wor
 use Rattle.wb_compose_theory_worlds.specs.Worlds.{IsRuleIn}
 use Rattle.wb_compose_theory_worlds.proofs.AttributionLemmas.{left_is, owner_is, named, has_rule_to, has_rule_from, forwarding_to}
 use Rattle.wb_compose_theory_worlds.proofs.AttributionLemmas.{forwarding_from}
-use Rattle.wb_compose_theory_worlds.proofs.FoundLemmas.{leads_map}
+use Rattle.wb_compose_theory_worlds.proofs.FoundLemmas.{leads_map, closed_to, closed_from}
 use Rattle.wb_compose_theory_worlds.proofs.AttributionLemmas.{forward_needs_to, forward_needs_from, edge_to, edge_from, part_to, part_from}
 use Rattle.wb_compose_theory_worlds.proofs.SightLemmas.{Inside, occurs_more, defined_more}
 
@@ -118,6 +119,15 @@ module _ (a : AttributionParts) (is : IsAttribution a) (start : ℕ) where
         ∙ ap (λ z. owner_in (option_map (λ (r : Nonterminal). r.owner) z)) seen.is in
         hosts_in seen.nonterminal seen.is (sym owner ∙ hosts)
 
+    closed_here : w.closed (w.left p) ≡ w.closed production.left
+    closed_here = ap w.closed (left_is a is start p production at)
+
+    open_to : ¬ IsClosed a production.left → ¬ IsTrue (w.closed (w.left p))
+    open_to free shut = free (closed_from (slice_get a.nonterminals production.left) (sym closed_here ∙ shut))
+
+    open_from : ¬ IsTrue (w.closed (w.left p)) → ¬ IsClosed a production.left
+    open_from free shut = free (closed_here ∙ closed_to (slice_get a.nonterminals production.left) shut)
+
   -- a production of the first extension is there
   abbrev IsFirst : ℕ → Type 0
   IsFirst p = (production : Production) × (slice_get a.productions p ≡ Some production) × (production.owner ≡ 1)
@@ -144,9 +154,11 @@ module _ (a : AttributionParts) (is : IsAttribution a) (start : ℕ) where
         forwards = tt;
         forward_equations = tt;
       }));
-      forwards = λ p owner left.
+      forwards = λ p owner left free.
           let (production, at, mine) = first_in p (slice_get a.productions p) refl single owner in
-          forwarding_to a is start p production at (good.forwards p production at (record { owner = mine; left = hosts_from p production at left }));
+          let bridging : IsBridging a 1 production = record { owner = mine; left = hosts_from p production at left } in
+          forwarding_to a is start p production at
+          (good.forwards p production at (record { bridging = bridging; not_closed = open_from p production at free }));
       forward_equations = λ p i j owner left has leads.
           let (production, at, mine) = first_in p (slice_get a.productions p) refl single owner in
           let bridging : IsBridging a 1 production = record { owner = mine; left = hosts_from p production at left } in
@@ -167,8 +179,9 @@ module _ (a : AttributionParts) (is : IsAttribution a) (start : ℕ) where
           productions = plainly.productions;
           forward_needs = plainly.forward_needs;
           start_inherits = plainly.start_inherits;
-          forwards = λ p production at bridging. forwarding_from a is start p production at
-              (good.forwards p (owner_is a is start p production at ∙ ap owner_of bridging.owner) (hosts_to p production at bridging.left));
+          forwards = λ p production at must. forwarding_from a is start p production at
+              (good.forwards p (owner_is a is start p production at ∙ ap owner_of must.bridging.owner)
+              (hosts_to p production at must.bridging.left) (open_to p production at must.not_closed));
           forward_equations = λ p production at bridging i j rule leads.
               let owner = owner_is a is start p production at ∙ ap owner_of bridging.owner in
               let has = defined_more w p (inherited (made forward) i) whole (alone 0) more

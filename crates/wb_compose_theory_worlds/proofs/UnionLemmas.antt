@@ -67,8 +67,14 @@ module _ (w : World) (named : IsNamed w) (n : ℕ) (ok : AreWellDefinedApart w n
     left_host =
         apart x.maker x.other (w.nonterminal_owner (w.left p)) x.differ (subst (λ z. Sees z (w.nonterminal_owner (w.left p))) x.made_by (named.left_seen p)) (named.nonterminal Synthesized (extension x.other) (w.left p) a x.declared)
 
+    -- nobody but the host declares anything on a closed nonterminal of the host
+    left_open : ¬ IsTrue (w.closed (w.left p))
+    left_open shut =
+        let owner : host ≡ extension x.other = sym left_host ∙ named.closed Synthesized (extension x.other) (w.left p) a x.declared shut in
+        absurd (cc owner)
+
     strange_forwards : IsForwarding w p
-    strange_forwards = (ok.extensions x.maker maker_listed).forwards p x.made_by left_host
+    strange_forwards = (ok.extensions x.maker maker_listed).forwards p x.made_by left_host left_open
 
     -- nobody writes for it there
     strange_free : HasRuleIn w (union n) p (top_synthesized a) → ⊥

@@ -66,6 +66,11 @@ abbrev pub forward_needs_of : Option Nonterminal → List ℕ
 forward_needs_of None = []
 forward_needs_of (Some r) = r.forward_needs
 
+-- whether what may be a nonterminal is closed
+abbrev pub closed_in : Option Nonterminal → Bool
+closed_in None = false
+closed_in (Some r) = r.closed
+
 -- who makes what may be a production; one that isn't there is of an extension that isn't
 abbrev pub maker_in : ℕ → Option Production → Owner
 maker_in extensions None = extension extensions
@@ -123,6 +128,7 @@ abbrev pub world_of : AttributionParts → ℕ → World
 world_of a start = record {
   start = start;
   nonterminal_owner = λ m. owner_in (option_map (λ (r : Nonterminal). r.owner) (slice_get a.nonterminals m));
+  closed = λ m. closed_in (slice_get a.nonterminals m);
   attribute_owner = λ x. owner_in (option_map (λ (r : Attribute). r.owner) (slice_get a.attributes x));
   declares = λ d o m x. goes_so d (slice_get a.attributes x) && declared_by o (occurrence_at m x a.occurrences);
   needs = λ m x. needs_of (occurrence_at m x a.occurrences);

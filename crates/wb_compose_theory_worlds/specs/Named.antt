@@ -37,6 +37,8 @@ pub record IsNamed (w : World) : Type 0 where
   pub nonterminal : (d : Direction) (o : Owner) (m a : ℕ) → IsTrue (w.declares d o m a) → Sees o (w.nonterminal_owner m)
   pub attribute : (d : Direction) (o : Owner) (m a : ℕ) → IsTrue (w.declares d o m a) → Sees o (w.attribute_owner a)
   pub own : (d : Direction) (o : Owner) (m a : ℕ) → IsTrue (w.declares d o m a) → (w.nonterminal_owner m ≡ o) ⊎ (w.attribute_owner a ≡ o)
+  -- on a closed nonterminal only its owner declares one
+  pub closed : (d : Direction) (o : Owner) (m a : ℕ) → IsTrue (w.declares d o m a) → IsTrue (w.closed m) → w.nonterminal_owner m ≡ o
   -- a flow type names attributes that occur there, as its owner sees it
   pub needs_named : (o : Owner) (m a i : ℕ) → IsTrue (w.declares Synthesized o m a) → Contains (w.needs m a) i
       → OccursIn w (part_of o) Inherited m i

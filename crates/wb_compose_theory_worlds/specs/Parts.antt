@@ -1,5 +1,5 @@
 -- When a production is well defined in a part, and when a host and its extensions are.
-use Rattle.std.specs.Prelude.{◌≡◌, ◌⊎◌, ◌<◌, ℕ, List, Contains}
+use Rattle.std.specs.Prelude.{◌≡◌, ◌⊎◌, ◌<◌, ℕ, List, IsTrue, Contains}
 use Rattle.wb_flow_theory.specs.Flow.{Leads}
 use Rattle.wb_flow_theory.specs.Rules.{Reads}
 use Rattle.wb_flow_theory.specs.Vertices.{Made, forward, Step, made, Vertex, top_synthesized, top_inherited, synthesized, inherited}
@@ -61,9 +61,10 @@ pub record IsWellDefinedPart (w : World) (part : Part) : Type 0 where
   pub forward_needs : HoldForwards w part
   pub start_inherits : StartInheritsNothing w part
 
--- an extension's production on a nonterminal of the host forwards
+-- an extension's production on a nonterminal of the host that isn't closed forwards
 abbrev pub ForwardsInHost : World → ℕ → Type 0
-ForwardsInHost w k = (p : ℕ) → w.production_owner p ≡ extension k → w.nonterminal_owner (w.left p) ≡ host → IsForwarding w p
+ForwardsInHost w k = (p : ℕ) → w.production_owner p ≡ extension k → w.nonterminal_owner (w.left p) ≡ host → ¬ IsTrue (w.closed (w.left p))
+    → IsForwarding w p
 
 -- in an extension's production on a nonterminal of the host, an equation for an inherited attribute of the forwarded tree reaches only
 -- inherited attributes of the top that are in the flow type of the forward, or the attribute itself

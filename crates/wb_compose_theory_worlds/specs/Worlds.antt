@@ -20,6 +20,8 @@ owner_of (suc k) = extension k
 pub record World : Type 0 where
   pub start : ℕ
   pub nonterminal_owner : ℕ → Owner
+  -- whether only the nonterminal's owner may declare that an attribute occurs on it
+  pub closed : (nonterminal : ℕ) → Bool
   pub attribute_owner : ℕ → Owner
   -- whether the owner declares that an attribute of this direction occurs on the nonterminal
   pub declares : Direction → Owner → (nonterminal attribute : ℕ) → Bool

@@ -78,6 +78,7 @@ extensible_declared items name has =
       from (i.Synthesized m its) there e = absurd (cc e)
       from (i.Inherited m its) there e = absurd (cc e)
       from (i.Occurs m l needs) there e = absurd (cc e)
+      from (i.Closed m) there e = absurd (cc e)
       from (i.ForwardOn m needs) there e = absurd (cc e)
 
 module _ (host r : ResolvedParts) (spec : SpecView) (names : ResolvesExtension host spec r) (host_whole : IsResolved host)

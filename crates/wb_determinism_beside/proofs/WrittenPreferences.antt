@@ -46,6 +46,7 @@ preference_declares items x has =
           subst (λ (y : PreferenceDeclaration). Contains (item_declarations items) (d.Preference y.first y.second)) same
           (plain_declares items (i.Prefer first second) there)
       from (i.Extensible m) there e = absurd (cc e)
+      from (i.Closed m) there e = absurd (cc e)
       from (i.Nonterminal m) there e = absurd (cc e)
       from (i.Start m) there e = absurd (cc e)
       from (i.Synthesized m its) there e = absurd (cc e)

@@ -11,7 +11,7 @@ use wb_base::Sequence;
 pub enum AttributeRefusal {
     /// A5: this inherited attribute occurs on the start.
     StartInherits(usize),
-    /// E7: this production of an extension is on a nonterminal of the host and doesn't forward.
+    /// E7: this production of an extension is on a nonterminal of the host that isn't closed, and doesn't forward.
     NoForward(usize),
     /// A1: this production has no equation for a synthesized attribute of its left side, and doesn't forward.
     NoEquation {

@@ -4,6 +4,7 @@ use Rattle.wb_syntax_resolved.specs.declared.attributes.Direction.TheVariants.{S
 use Rattle.wb_syntax_resolved.specs.declared.attributes.Nonterminal.{Nonterminal}
 use Rattle.wb_syntax_resolved.specs.declared.attribution.AttributionParts.{AttributionParts}
 use Rattle.wb_syntax_resolved.specs.declared.production.Production.{Production}
+use Rattle.wb_syntax_resolved.specs.Owned.{IsClosed}
 use Rattle.wb_flow_theory.specs.Vertices.{forward, made, top_inherited, inherited}
 use Rattle.wb_flow_theory.specs.Occurrences.{Occurs, Needs, ForwardNeeds}
 use Rattle.wb_flow_theory.specs.Rules.{Forwards, HasRule}
@@ -35,9 +36,14 @@ pub record IsBridging (a : AttributionParts) (extension : ℕ) (production : Pro
   pub owner : production.owner ≡ extension
   pub left : IsHosts a production.left
 
--- a production of the extension on a nonterminal of the host forwards
+-- the production is the extension's, on a nonterminal of the host that isn't closed
+pub record MustForward (a : AttributionParts) (extension : ℕ) (production : Production) : Type 0 where
+  pub bridging : IsBridging a extension production
+  pub not_closed : ¬ IsClosed a production.left
+
+-- a production of the extension on a nonterminal of the host that isn't closed forwards
 abbrev pub ForwardsAsExtension : AttributionParts → ℕ → Type 0
-ForwardsAsExtension a extension = EachProduction a (λ production. IsBridging a extension production → Forwards production)
+ForwardsAsExtension a extension = EachProduction a (λ production. MustForward a extension production → Forwards production)
 
 -- in a production of the extension on a nonterminal of the host, an equation for an inherited attribute of the forwarded tree reaches only
 -- inherited attributes of the top that are in the flow type of the forward, or the attribute itself

@@ -71,6 +71,7 @@ module _ (file : File) (base : IsResolved file.base) (s : Scope) (m : Moves) (n 
       record {
         name = refl;
         owner = refl;
+        closed = refl;
         needs = needs_stay x.forward_needs (all_weaker (λ (i : ℕ). SeesOccurrence file.base.attributes x.owner Inherited i k) Below
             x.forward_needs (λ i sees. attribute_in file n x.owner Inherited i sees.attribute) named.needs);
       }
@@ -84,6 +85,7 @@ module _ (file : File) (base : IsResolved file.base) (s : Scope) (m : Moves) (n 
   is_nonterminal (inr name) row has e = record {
     name_is = e.name_is;
     owner_is = e.owner_is;
+    closed = e.closed;
     needs = zip_weaker (IsAt s.attributes) (IsNumber n.attributes file.owner) own_attribute (forward_needs_of name file.items)
         row.forward_needs e.needs;
   }

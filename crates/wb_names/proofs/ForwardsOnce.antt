@@ -58,6 +58,7 @@ module _ (name : List ℕ) where
   forward_is (d.Equation y0 y1 y2) e = absurd (false≢true e)
   forward_is (d.Start y0) e = absurd (false≢true e)
   forward_is (d.Extensible y0) e = absurd (false≢true e)
+  forward_is (d.Closed y0) e = absurd (false≢true e)
   forward_is (d.ForwardNeeds y0) e = absurd (false≢true e)
   forward_is (d.Preference y0 y1) e = absurd (false≢true e)
 

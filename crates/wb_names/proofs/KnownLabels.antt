@@ -40,6 +40,7 @@ no_label (i.Prefer first second) = refl
 no_label (i.Nonterminal one) = refl
 no_label (i.Start one) = refl
 no_label (i.Extensible one) = refl
+no_label (i.Closed one) = refl
 no_label (i.Synthesized one its) = refl
 no_label (i.Inherited one its) = refl
 no_label (i.Occurs a m needs) = refl

@@ -151,6 +151,7 @@ module _ (items : Items) where
     from (i.Start own) there e = absurd (cc e)
     from (i.Prefer first second) there e = absurd (cc e)
     from (i.Extensible own) there e = absurd (cc e)
+    from (i.Closed own) there e = absurd (cc e)
     from (i.Synthesized own its) there e = absurd (cc e)
     from (i.Inherited own its) there e = absurd (cc e)
     from (i.Occurs own l needs) there e = absurd (cc e)

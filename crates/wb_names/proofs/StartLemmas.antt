@@ -81,6 +81,7 @@ starts_alike (d.Start name) (d.Label x y v) a b = absurd (cc b)
 starts_alike (d.Start name) (d.Equation x y v) a b = absurd (cc b)
 starts_alike (d.Start name) (d.Forward x) a b = absurd (cc b)
 starts_alike (d.Start name) (d.Extensible x) a b = absurd (cc b)
+starts_alike (d.Start name) (d.Closed x) a b = absurd (cc b)
 starts_alike (d.Start name) (d.ForwardNeeds x) a b = absurd (cc b)
 starts_alike (d.Start name) (d.Preference x y) a b = absurd (cc b)
 starts_alike (d.Symbol x y) z a b = absurd (cc a)
@@ -91,6 +92,7 @@ starts_alike (d.Label x y v) z a b = absurd (cc a)
 starts_alike (d.Equation x y v) z a b = absurd (cc a)
 starts_alike (d.Forward x) z a b = absurd (cc a)
 starts_alike (d.Extensible x) z a b = absurd (cc a)
+starts_alike (d.Closed x) z a b = absurd (cc a)
 starts_alike (d.ForwardNeeds x) z a b = absurd (cc a)
 starts_alike (d.Preference x y) z a b = absurd (cc a)
 
@@ -100,6 +102,7 @@ form_counts (f.Plain (i.Start name)) = omega arith
 form_counts (f.Plain (i.Prefer first second)) = omega arith
 form_counts (f.Plain (i.Nonterminal name)) = omega arith
 form_counts (f.Plain (i.Extensible name)) = omega arith
+form_counts (f.Plain (i.Closed name)) = omega arith
 form_counts (f.Plain (i.Synthesized name is)) = omega arith
 form_counts (f.Plain (i.Inherited name is)) = omega arith
 form_counts (f.Plain (i.Occurs a m needs)) = omega arith
@@ -139,6 +142,7 @@ module _ (file : File) (hold : NamesHold (file_scope file)) where
     from (i.Prefer first second) there e = absurd (cc e)
     from (i.Nonterminal m) there e = absurd (cc e)
     from (i.Extensible m) there e = absurd (cc e)
+    from (i.Closed m) there e = absurd (cc e)
     from (i.Synthesized m its) there e = absurd (cc e)
     from (i.Inherited m its) there e = absurd (cc e)
     from (i.Occurs m l needs) there e = absurd (cc e)
@@ -169,6 +173,7 @@ module _ (file : File) (hold : NamesHold (file_scope file)) where
           from name (i.Prefer first second) there e = absurd (cc e)
           from name (i.Nonterminal m) there e = absurd (cc e)
           from name (i.Extensible m) there e = absurd (cc e)
+          from name (i.Closed m) there e = absurd (cc e)
           from name (i.Synthesized m its) there e = absurd (cc e)
           from name (i.Inherited m its) there e = absurd (cc e)
           from name (i.Occurs m l needs) there e = absurd (cc e)
@@ -184,6 +189,7 @@ module _ (file : File) (hold : NamesHold (file_scope file)) where
           from name (i.Prefer first second) there e = absurd (cc e)
           from name (i.Nonterminal m) there e = absurd (cc e)
           from name (i.Start m) there e = absurd (cc e)
+          from name (i.Closed m) there e = absurd (cc e)
           from name (i.Synthesized m its) there e = absurd (cc e)
           from name (i.Inherited m its) there e = absurd (cc e)
           from name (i.Occurs m l needs) there e = absurd (cc e)

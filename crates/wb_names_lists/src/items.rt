@@ -61,6 +61,7 @@ fn add_plain(plain: &PlainForm, out: &mut Vec<Declaration>) -> Result<(), AllocE
         PlainForm::Nonterminal(name) => add_symbol(name, Sort::Nonterminal, out),
         PlainForm::Start(name) => push(out, Declaration::Start(name.copy()?)),
         PlainForm::Extensible(name) => push(out, Declaration::Extensible(name.copy()?)),
+        PlainForm::Closed(name) => push(out, Declaration::Closed(name.copy()?)),
         PlainForm::Synthesized { name, .. } => add_attribute(name, Direction::Synthesized, out),
         PlainForm::Inherited { name, .. } => add_attribute(name, Direction::Inherited, out),
         PlainForm::Occurs {

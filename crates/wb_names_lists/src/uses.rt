@@ -61,6 +61,7 @@ fn add_plain(plain: &PlainForm, out: &mut Vec<Usage>) -> Result<(), AllocError>
         PlainForm::Nonterminal(_) => Ok(()),
         PlainForm::Start(name) => add_name(name, Wanted::Nonterminal, out),
         PlainForm::Extensible(name) => add_name(name, Wanted::Nonterminal, out),
+        PlainForm::Closed(name) => add_name(name, Wanted::Nonterminal, out),
         PlainForm::Synthesized { kind, .. } => add_kind(Wanted::Nonterminal, kind, out),
         PlainForm::Inherited { kind, .. } => add_kind(Wanted::Nonterminal, kind, out),
         PlainForm::Occurs {

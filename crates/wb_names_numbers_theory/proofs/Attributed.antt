@@ -30,6 +30,7 @@ use Rattle.wb_names_numbers_theory.proofs.Ground.{Ground, hosts}
 use Rattle.wb_names_numbers_theory.proofs.Grouped.{rising_sources, is_grouped, goes_by_owner}
 use Rattle.wb_names_numbers_theory.proofs.NumberLemmas.{differ_right}
 use Rattle.wb_names_numbers_theory.proofs.OccurrencesOnce.{occurs_once}
+use Rattle.wb_names_numbers_theory.proofs.OpenOwned.{open_occurrences}
 use Rattle.wb_names_numbers_theory.proofs.OwnNamed.{Known}
 use Rattle.wb_names_numbers_theory.proofs.ProductionsNamed.{children_scanned, all_named, all_once}
 use Rattle.wb_names_numbers_theory.proofs.RowLemmas.{all_zipped, source_of}
@@ -141,7 +142,7 @@ module _ (file : File) (r : ResolvedParts) (given : IsFile file) (k : Known file
   pub attribution : IsAttribution a
   attribution = record {
     named = all_names;
-    owned = record { occurrences = owned_occurrences file r k; equations = owned_equations file r k };
+    owned = record { occurrences = owned_occurrences file r k; open_to = open_occurrences file r k; equations = owned_equations file r k };
     once = once;
     numbered = numbered;
   }

@@ -116,6 +116,7 @@ module _ (file : File) (r : ResolvedParts) (given : IsFile file) (k : Known file
   plain_scanned (i.Prefer first second) name of e = absurd (cc e)
   plain_scanned (i.Start one) name of e = absurd (cc e)
   plain_scanned (i.Extensible one) name of e = absurd (cc e)
+  plain_scanned (i.Closed one) name of e = absurd (cc e)
   plain_scanned (i.Synthesized one its) name of e = absurd (cc e)
   plain_scanned (i.Inherited one its) name of e = absurd (cc e)
   plain_scanned (i.Occurs c m needs) name of e = absurd (cc e)

@@ -80,6 +80,7 @@ module _ (a : List ℕ) where
   symbols_each (f.Plain (i.Nonterminal one)) = omega arith
   symbols_each (f.Plain (i.Start one)) = omega arith
   symbols_each (f.Plain (i.Extensible one)) = omega arith
+  symbols_each (f.Plain (i.Closed one)) = omega arith
   symbols_each (f.Plain (i.Synthesized one its)) = omega arith
   symbols_each (f.Plain (i.Inherited one its)) = omega arith
   symbols_each (f.Plain (i.Occurs b m needs)) = omega arith
@@ -106,6 +107,7 @@ module _ (a : List ℕ) where
   attributes_each (f.Plain (i.Nonterminal one)) = omega arith
   attributes_each (f.Plain (i.Start one)) = omega arith
   attributes_each (f.Plain (i.Extensible one)) = omega arith
+  attributes_each (f.Plain (i.Closed one)) = omega arith
   attributes_each (f.Plain (i.Synthesized one its)) = omega arith
   attributes_each (f.Plain (i.Inherited one its)) = omega arith
   attributes_each (f.Plain (i.Occurs b m needs)) = omega arith

@@ -34,7 +34,7 @@ use Rattle.wb_names_theory.specs.declared.usage.LabelWanted.TheVariants as read
 use Rattle.wb_names_theory.specs.declared.usage.Wanted.TheVariants as wanted
 use Rattle.wb_names_theory.specs.Declarations.{OccurrenceDeclaration, ProductionDeclaration, occurrences}
 use Rattle.wb_names_theory.specs.Declarations.{productions, plain_items, occurrence_of}
-use Rattle.wb_names_theory.specs.Declares.{base_declarations, item_declarations, plain_declaration, target_declaration}
+use Rattle.wb_names_theory.specs.Declares.{base_declarations, closed_names, item_declarations, plain_declaration, target_declaration}
 use Rattle.wb_names_theory.specs.Declares.{labelled}
 use Rattle.wb_names_theory.specs.Hold.{AreOwned}
 use Rattle.wb_names_theory.specs.Uses.{uses, target_uses}
@@ -83,6 +83,7 @@ plain_no_label (i.Prefer first second) = refl
 plain_no_label (i.Nonterminal one) = refl
 plain_no_label (i.Start one) = refl
 plain_no_label (i.Extensible one) = refl
+plain_no_label (i.Closed one) = refl
 plain_no_label (i.Synthesized one its) = refl
 plain_no_label (i.Inherited one its) = refl
 plain_no_label (i.Occurs a m needs) = refl
@@ -139,6 +140,7 @@ module _ (file : File) (r : ResolvedParts) (known : Known file r) where
     from (i.Nonterminal one) has e = absurd (false≢true (ap is_occurrence e))
     from (i.Start one) has e = absurd (false≢true (ap is_occurrence e))
     from (i.Extensible one) has e = absurd (false≢true (ap is_occurrence e))
+    from (i.Closed one) has e = absurd (false≢true (ap is_occurrence e))
     from (i.ForwardOn l needs) has e = absurd (false≢true (ap is_occurrence e))
   own_occurrence name m (own.lexical x has e) = absurd (false≢true (ap is_occurrence e))
   own_occurrence name m (own.production x has e) = absurd (false≢true (ap is_occurrence e))
@@ -201,7 +203,7 @@ module _ (file : File) (r : ResolvedParts) (known : Known file r) where
           (ap (option_map (λ (y : Local). y.owner)) h.at ∙ ap Some h.owner)
 
       -- whose an equation is on a production of the host
-      module _ (owned : AreOwned (base_declarations file.base) owns)
+      module _ (owned : AreOwned (base_declarations file.base) owns (closed_names file.base))
           (of_host : Contains (base_declarations file.base) (d.Symbol row.name sort.Production)) where
         own_target : (from : is_for.Target) (to : Target) → Contains owns (target_declaration row.name from)
             → ((it : Usage) → Contains (target_uses row.name from) it → Contains (uses file.items) it)

@@ -180,6 +180,7 @@ module _ (file : File) (r : ResolvedParts) (ground : Ground file r) where
   plain_attribute name direction (i.Nonterminal one) has e = absurd (false≢true (ap is_attribute e))
   plain_attribute name direction (i.Start one) has e = absurd (false≢true (ap is_attribute e))
   plain_attribute name direction (i.Extensible one) has e = absurd (false≢true (ap is_attribute e))
+  plain_attribute name direction (i.Closed one) has e = absurd (false≢true (ap is_attribute e))
   plain_attribute name direction (i.Occurs a m needs) has e = absurd (false≢true (ap is_attribute e))
   plain_attribute name direction (i.ForwardOn m needs) has e = absurd (false≢true (ap is_attribute e))
 
@@ -254,6 +255,7 @@ module _ (file : File) (r : ResolvedParts) (ground : Ground file r) where
   plain_nonterminal name (i.Prefer first second) has e = absurd (false≢true (ap is_nonterminal e))
   plain_nonterminal name (i.Start one) has e = absurd (false≢true (ap is_nonterminal e))
   plain_nonterminal name (i.Extensible one) has e = absurd (false≢true (ap is_nonterminal e))
+  plain_nonterminal name (i.Closed one) has e = absurd (false≢true (ap is_nonterminal e))
   plain_nonterminal name (i.Occurs a m needs) has e = absurd (false≢true (ap is_nonterminal e))
   plain_nonterminal name (i.ForwardOn m needs) has e = absurd (false≢true (ap is_nonterminal e))
 
@@ -318,6 +320,7 @@ module _ (file : File) (r : ResolvedParts) (ground : Ground file r) where
   plain_terminal name is l (i.Prefer first second) e = absurd (false≢true (ap is_lexical e ∙ l))
   plain_terminal name is l (i.Start one) e = absurd (false≢true (ap is_lexical e ∙ l))
   plain_terminal name is l (i.Extensible one) e = absurd (false≢true (ap is_lexical e ∙ l))
+  plain_terminal name is l (i.Closed one) e = absurd (false≢true (ap is_lexical e ∙ l))
   plain_terminal name is l (i.Occurs a m needs) e = absurd (false≢true (ap is_lexical e ∙ l))
   plain_terminal name is l (i.ForwardOn m needs) e = absurd (false≢true (ap is_lexical e ∙ l))
 
@@ -386,6 +389,7 @@ module _ (file : File) (r : ResolvedParts) (ground : Ground file r) where
   plain_occurrence a m (i.Prefer first second) has e = absurd (false≢true (ap is_occurrence e))
   plain_occurrence a m (i.Start one) has e = absurd (false≢true (ap is_occurrence e))
   plain_occurrence a m (i.Extensible one) has e = absurd (false≢true (ap is_occurrence e))
+  plain_occurrence a m (i.Closed one) has e = absurd (false≢true (ap is_occurrence e))
   plain_occurrence a m (i.ForwardOn one needs) has e = absurd (false≢true (ap is_occurrence e))
 
   occurrence_by : (a m : List ℕ) → IsDeclaredBy file.base file.items (d.Occurrence a m) → OccurrenceFound file r a m

@@ -91,6 +91,7 @@ plain_no_label (i.Prefer first second) = refl
 plain_no_label (i.Nonterminal one) = refl
 plain_no_label (i.Start one) = refl
 plain_no_label (i.Extensible one) = refl
+plain_no_label (i.Closed one) = refl
 plain_no_label (i.Synthesized one its) = refl
 plain_no_label (i.Inherited one its) = refl
 plain_no_label (i.Occurs a m needs) = refl

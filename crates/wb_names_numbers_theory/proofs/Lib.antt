@@ -21,6 +21,7 @@ pub mod OneMoved
 pub mod OneProduction
 pub mod OneRow
 pub mod OneValue
+pub mod OpenOwned
 pub mod OwnDeclared
 pub mod OwnNamed
 pub mod PreferencesOnce

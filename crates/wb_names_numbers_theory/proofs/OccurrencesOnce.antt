@@ -54,6 +54,7 @@ module _ (a k : List ℕ) where
   each (f.Plain (i.Nonterminal one)) = omega arith
   each (f.Plain (i.Start one)) = omega arith
   each (f.Plain (i.Extensible one)) = omega arith
+  each (f.Plain (i.Closed one)) = omega arith
   each (f.Plain (i.Synthesized one its)) = omega arith
   each (f.Plain (i.Inherited one its)) = omega arith
   each (f.Plain (i.Occurs b m needs)) = omega arith

@@ -70,7 +70,7 @@ module _ (m : Move) (distinct : AreDistinct m.to) where
 
   pub one_moved_nonterminal_row : (t y z : Nonterminal) → IsMovedNonterminal m t y → IsMovedNonterminal m t z → y ≡ z
   one_moved_nonterminal_row t y z e f =
-      same_nonterminal y z (e.name ∙ sym f.name) (e.owner ∙ sym f.owner)
+      same_nonterminal y z (e.name ∙ sym f.name) (e.owner ∙ sym f.owner) (e.closed ∙ sym f.closed)
       (one_zip (IsMovedAttributeNumber m) one_moved_attribute t.forward_needs y.forward_needs z.forward_needs e.needs f.needs)
 
   pub one_moved_attribute_row : (t y z : Attribute) → IsMovedAttribute m t y → IsMovedAttribute m t z → y ≡ z

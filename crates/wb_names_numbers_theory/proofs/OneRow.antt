@@ -1,7 +1,7 @@
 -- What is beside a row of the base or a declaration is one, where no name is there twice.
-use Rattle.std.proofs.Common.{◌≡◌, ◌++◌, ℕ, List, Some, map, slice_get, ap, sym}
+use Rattle.std.proofs.Common.{◌≡◌, ◌++◌, ℕ, Bool, true, false, List, Some, map, slice_get, ap, sym, refl}
 use Rattle.std.proofs.Common.{◌∙◌}
-use Rattle.std.specs.Prelude.{option_map}
+use Rattle.std.specs.Prelude.{◌↔◌, IsTrue, option_map}
 use Rattle.std.proofs.lemmas.Option.{slice_get-map}
 use Rattle.wb_lemmas.proofs.Places.{append_keeps}
 use Rattle.wb_lemmas.proofs.Zips.{one_zip}
@@ -57,8 +57,16 @@ pub record LabelsDiffer (labels : Labels) (producer owner : ℕ) : Type 0 where
 pub same_terminal : (y z : Terminal) → y.name ≡ z.name → y.owner ≡ z.owner → y.kind ≡ z.kind → y.pattern ≡ z.pattern → y ≡ z
 same_terminal y z a b c d = λ j. record { name = a j; owner = b j; kind = c j; pattern = d j }
 
-pub same_nonterminal : (y z : Nonterminal) → y.name ≡ z.name → y.owner ≡ z.owner → y.forward_needs ≡ z.forward_needs → y ≡ z
-same_nonterminal y z a b c = λ j. record { name = a j; owner = b j; forward_needs = c j }
+pub same_nonterminal : (y z : Nonterminal) → y.name ≡ z.name → y.owner ≡ z.owner → y.closed ≡ z.closed
+    → y.forward_needs ≡ z.forward_needs → y ≡ z
+same_nonterminal y z a b c d = λ j. record { name = a j; owner = b j; closed = c j; forward_needs = d j }
+
+-- truth values that tell the same are one
+pub same_truth : {P : Type 0} (a b : Bool) → IsTrue a ↔ P → IsTrue b ↔ P → a ≡ b
+same_truth true true f g = refl
+same_truth true false f g = absurd (cc (g.1 (f.0 refl)))
+same_truth false true f g = absurd (cc (f.1 (g.0 refl)))
+same_truth false false f g = refl
 
 pub same_attribute : (y z : Attribute) → y.name ≡ z.name → y.owner ≡ z.owner → y.direction ≡ z.direction → y.kind ≡ z.kind → y ≡ z
 same_attribute y z a b c d = λ j. record { name = a j; owner = b j; direction = c j; kind = d j }
@@ -141,7 +149,7 @@ module _ (n : Numbering) (distinct : AreDistinct n) where
     pub one_nonterminal_row : (items : Items) (name : List ℕ) (y z : Nonterminal) → IsNonterminalRow n owner items name y
         → IsNonterminalRow n owner items name z → y ≡ z
     one_nonterminal_row items name y z e f =
-        same_nonterminal y z (e.name_is ∙ sym f.name_is) (e.owner_is ∙ sym f.owner_is)
+        same_nonterminal y z (e.name_is ∙ sym f.name_is) (e.owner_is ∙ sym f.owner_is) (same_truth y.closed z.closed e.closed f.closed)
         (one_zip (IsNumber n.attributes owner) (λ a. one_number n.attributes distinct.attributes owner a) _ y.forward_needs z.forward_needs
         e.needs f.needs)
 

@@ -83,6 +83,7 @@ module _ (a m : List ℕ) where
   each (f.Plain (i.Nonterminal one)) = omega arith
   each (f.Plain (i.Start one)) = omega arith
   each (f.Plain (i.Extensible one)) = omega arith
+  each (f.Plain (i.Closed one)) = omega arith
   each (f.Plain (i.Synthesized one its)) = omega arith
   each (f.Plain (i.Inherited one its)) = omega arith
   each (f.Plain (i.Occurs c m needs)) = omega arith
@@ -113,6 +114,7 @@ module _ (a : List ℕ) where
   extensible_each (f.Plain (i.Nonterminal one)) = omega arith
   extensible_each (f.Plain (i.Start one)) = omega arith
   extensible_each (f.Plain (i.Extensible one)) = omega arith
+  extensible_each (f.Plain (i.Closed one)) = omega arith
   extensible_each (f.Plain (i.Synthesized one its)) = omega arith
   extensible_each (f.Plain (i.Inherited one its)) = omega arith
   extensible_each (f.Plain (i.Occurs c m needs)) = omega arith
@@ -198,6 +200,7 @@ module _ (file : File) (r : ResolvedParts) (given : IsFile file) (k : Known file
     from (i.Prefer first second) has e = absurd (cc e)
     from (i.Start one) has e = absurd (cc e)
     from (i.Extensible one) has e = absurd (cc e)
+    from (i.Closed one) has e = absurd (cc e)
     from (i.Synthesized one its) has e = absurd (cc e)
     from (i.Inherited one its) has e = absurd (cc e)
     from (i.Occurs c m needs) has e = absurd (cc e)
@@ -250,6 +253,7 @@ module _ (file : File) (r : ResolvedParts) (given : IsFile file) (k : Known file
     from (i.Start m) there e = absurd (cc e)
     from (i.Nonterminal m) there e = absurd (cc e)
     from (i.Extensible m) there e = absurd (cc e)
+    from (i.Closed m) there e = absurd (cc e)
     from (i.Synthesized m its) there e = absurd (cc e)
     from (i.Inherited m its) there e = absurd (cc e)
     from (i.Occurs m l needs) there e = absurd (cc e)
@@ -316,6 +320,7 @@ module _ (file : File) (r : ResolvedParts) (given : IsFile file) (k : Known file
     from (i.Prefer first second) there e = absurd (cc e)
     from (i.Nonterminal m) there e = absurd (cc e)
     from (i.Start m) there e = absurd (cc e)
+    from (i.Closed m) there e = absurd (cc e)
     from (i.Synthesized m its) there e = absurd (cc e)
     from (i.Inherited m its) there e = absurd (cc e)
     from (i.Occurs m l needs) there e = absurd (cc e)

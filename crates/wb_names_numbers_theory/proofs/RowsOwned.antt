@@ -130,6 +130,7 @@ plain_no_label (i.Prefer first second) = refl
 plain_no_label (i.Nonterminal one) = refl
 plain_no_label (i.Start one) = refl
 plain_no_label (i.Extensible one) = refl
+plain_no_label (i.Closed one) = refl
 plain_no_label (i.Synthesized one its) = refl
 plain_no_label (i.Inherited one its) = refl
 plain_no_label (i.Occurs a m needs) = refl
@@ -193,6 +194,7 @@ module _ (file : File) (r : ResolvedParts) (known : Known file r) where
     from (i.Nonterminal one) has e = absurd (false≢true (ap is_attribute e))
     from (i.Start one) has e = absurd (false≢true (ap is_attribute e))
     from (i.Extensible one) has e = absurd (false≢true (ap is_attribute e))
+    from (i.Closed one) has e = absurd (false≢true (ap is_attribute e))
     from (i.Occurs c m needs) has e = absurd (false≢true (ap is_attribute e))
     from (i.ForwardOn m needs) has e = absurd (false≢true (ap is_attribute e))
   own_attribute name direction (own.lexical x has e) k is = absurd (false≢true (ap is_attribute e))
@@ -236,6 +238,7 @@ module _ (file : File) (r : ResolvedParts) (known : Known file r) where
     from (i.Prefer first second) has e = absurd (false≢true (ap is_symbol e))
     from (i.Start one) has e = absurd (false≢true (ap is_symbol e))
     from (i.Extensible one) has e = absurd (false≢true (ap is_symbol e))
+    from (i.Closed one) has e = absurd (false≢true (ap is_symbol e))
     from (i.Occurs c l needs) has e = absurd (false≢true (ap is_symbol e))
     from (i.ForwardOn l needs) has e = absurd (false≢true (ap is_symbol e))
   own_symbol m is (own.production x has e) k number =
@@ -264,6 +267,25 @@ module _ (file : File) (r : ResolvedParts) (known : Known file r) where
         seen_by (inl zero_too) = zero_too ∙ sym zero_is
         seen_by (inr same) = same
 
+  -- what the items declare of an occurrence
+  pub occurrence_written : (x : OccurrenceDeclaration) → Contains (occurrences file.items) x
+      → Contains owns (d.Occurrence x.attribute x.nonterminal)
+  occurrence_written x has = let k = kept_from occurrence_of (plain_items file.items) x has in from k.0 k.1 k.2 where
+    from : (form : PlainForm) → Contains (plain_items file.items) form → occurrence_of form ≡ Some x
+        → Contains owns (d.Occurrence x.attribute x.nonterminal)
+    from (i.Occurs c m needs) there q =
+        let same : record { attribute = c; nonterminal = m; needs = needs } ≡ x = cc in
+        subst (λ (z : OccurrenceDeclaration). Contains owns (d.Occurrence z.attribute z.nonterminal)) same
+        (plain_declares file.items (i.Occurs c m needs) there)
+    from (i.Prefer first second) there q = absurd (cc q)
+    from (i.Nonterminal one) there q = absurd (cc q)
+    from (i.Start one) there q = absurd (cc q)
+    from (i.Extensible one) there q = absurd (cc q)
+    from (i.Closed one) there q = absurd (cc q)
+    from (i.Synthesized one its) there q = absurd (cc q)
+    from (i.Inherited one its) there q = absurd (cc q)
+    from (i.ForwardOn m needs) there q = absurd (cc q)
+
   -- an occurrence that the file declares
   occurrence_own : (x : OccurrenceDeclaration) (row : Occurrence) → Contains (occurrences file.items) x → IsOccurrence file n (inr x) row
       → (o : ℕ) → file.owner ≡ o → IsOwnOccurrence a row
@@ -272,24 +294,9 @@ module _ (file : File) (r : ResolvedParts) (known : Known file r) where
       (host_attribute is x.attribute row.attribute e.attribute))
   occurrence_own x row has e (suc o) is =
       let owned = known.hold.owned (λ z. not_zero (sym z ∙ is)) in
-      let k = kept_from occurrence_of (plain_items file.items) x has in
-      by_own (owned.occurrences x.attribute x.nonterminal (from k.0 k.1 k.2)) where
+      by_own (owned.occurrences x.attribute x.nonterminal (occurrence_written x has)) where
         not_zero : 0 ≡ suc o → ⊥
         not_zero z = absurd (omega (arith, z))
-
-        from : (form : PlainForm) → Contains (plain_items file.items) form → occurrence_of form ≡ Some x
-            → Contains owns (d.Occurrence x.attribute x.nonterminal)
-        from (i.Occurs c m needs) there q =
-            let same : record { attribute = c; nonterminal = m; needs = needs } ≡ x = cc in
-            subst (λ (z : OccurrenceDeclaration). Contains owns (d.Occurrence z.attribute z.nonterminal)) same
-            (plain_declares file.items (i.Occurs c m needs) there)
-        from (i.Prefer first second) there q = absurd (cc q)
-        from (i.Nonterminal one) there q = absurd (cc q)
-        from (i.Start one) there q = absurd (cc q)
-        from (i.Extensible one) there q = absurd (cc q)
-        from (i.Synthesized one its) there q = absurd (cc q)
-        from (i.Inherited one its) there q = absurd (cc q)
-        from (i.ForwardOn m needs) there q = absurd (cc q)
 
         by_own : ((direction : Direction) × Contains owns (d.Attribute x.attribute direction)) ⊎ ((is : Sort) × Contains owns (d.Symbol
             x.nonterminal is))

@@ -113,6 +113,7 @@ module _ (m : Move) where
   pub record IsMovedNonterminal (n to : Nonterminal) : Type 0 where
     pub name : to.name ≡ n.name
     pub owner : to.owner ≡ m.owner_in n.owner
+    pub closed : to.closed ≡ n.closed
     pub needs : AllZip IsMovedAttributeNumber n.forward_needs to.forward_needs
 
   -- an attribute

@@ -1,5 +1,5 @@
 -- The rows of what a file declares, and of the base's productions with what the file writes on them.
-use Rattle.std.specs.Prelude.{◌≡◌, ℕ, List, option_to_list}
+use Rattle.std.specs.Prelude.{◌≡◌, ◌↔◌, ℕ, List, IsTrue, Contains, option_to_list}
 use Rattle.std.specs.List.{AllZip}
 use Rattle.wb_syntax_resolved.specs.declared.attributes.Attribute.{Attribute}
 use Rattle.wb_syntax_resolved.specs.declared.attributes.Nonterminal.{Nonterminal}
@@ -16,7 +16,7 @@ use Rattle.wb_syntax.specs.declared.pattern.Role.TheVariants as lexical
 use Rattle.wb_syntax.specs.declared.production.ProductionRole as written_role
 use Rattle.wb_syntax.specs.declared.production.ProductionRole.TheVariants as written
 use Rattle.wb_names_theory.specs.Declarations.{Items, LexicalDeclaration, AttributeDeclaration, OccurrenceDeclaration}
-use Rattle.wb_names_theory.specs.Declarations.{PreferenceDeclaration, ProductionDeclaration}
+use Rattle.wb_names_theory.specs.Declarations.{PreferenceDeclaration, ProductionDeclaration, closeds}
 use Rattle.wb_syntax.specs.Names.{needs_names}
 use Rattle.wb_names_numbers_theory.specs.Files.{equations_on, forward_needs_of}
 use Rattle.wb_names_numbers_theory.specs.Numbering.{Numbering, IsNumber, labels_in}
@@ -49,6 +49,7 @@ module _ (n : Numbering) (owner : ℕ) (items : Items) where
   pub record IsNonterminalRow (name : List ℕ) (row : Nonterminal) : Type 0 where
     pub name_is : row.name ≡ name
     pub owner_is : row.owner ≡ owner
+    pub closed : IsTrue row.closed ↔ Contains (closeds items) name
     pub needs : AllZip (IsNumber n.attributes owner) (forward_needs_of name items) row.forward_needs
 
   -- the row of an attribute

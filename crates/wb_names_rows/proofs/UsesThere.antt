@@ -186,6 +186,7 @@ module _ (s : Scope) (declared : List Declaration) (used : List Usage) (has : Ha
   plain_there (i.Nonterminal name) inside = tt
   plain_there (i.Start name) inside = tt
   plain_there (i.Extensible name) inside = tt
+  plain_there (i.Closed name) inside = tt
   plain_there (i.ForwardOn nonterminal needs) inside = tt
 
   pub form_there : (form : ItemForm Pattern) → ((it : Usage) → Contains (form_uses form) it → Contains used it) → FormIsThere s form

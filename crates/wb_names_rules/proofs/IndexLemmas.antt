@@ -26,6 +26,7 @@ same_counts declared s.equation counts = counts
 same_counts declared s.forward counts = counts
 same_counts declared s.start counts = counts
 same_counts declared s.extensible counts = counts
+same_counts declared s.closed counts = counts
 same_counts declared s.forward_needs counts = counts
 same_counts declared s.preference counts = counts
 
@@ -40,6 +41,7 @@ same_back s.equation = s.equation
 same_back s.forward = s.forward
 same_back s.start = s.start
 same_back s.extensible = s.extensible
+same_back s.closed = s.closed
 same_back s.forward_needs = s.forward_needs
 same_back s.preference = s.preference
 

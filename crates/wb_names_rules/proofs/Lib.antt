@@ -1,3 +1,4 @@
+mod ClosedLemmas
 mod IndexLemmas
 mod KeyLemmas
 mod KindLemmas
@@ -6,6 +7,7 @@ mod LoopLemmas
 mod OwnerLemmas
 mod PassLemmas
 mod ReadLemmas
+mod RefusalLemmas
 mod RootLemmas
 mod SiteLemmas
 mod StructureLemmas

@@ -1,5 +1,5 @@
--- Where all tests pass the name rules hold, and a test that fails is of the first rule that does.
-use Rattle.std.proofs.Common.{◌≡◌, ◌≢◌, ◌⊎◌, ◌++◌, ℕ, List, All, Contains, length, take, drop, refl, sym, ap, ◌∙◌}
+-- Where all tests pass the name rules hold.
+use Rattle.std.proofs.Common.{◌≡◌, ◌≢◌, ◌⊎◌, ◌++◌, [], ℕ, List, All, Contains, length, take, drop, refl, sym, ap, ◌∙◌}
 use Rattle.std.proofs.Common.{subst, inl, inr}
 use Rattle.std.proofs.Math.Seq.{drop-append_seam, take-append_seam}
 use Rattle.wb_lemmas.proofs.Elements.{all_contained}
@@ -11,8 +11,6 @@ use Rattle.wb_names_theory.specs.declared.declaration.Declaration.TheVariants as
 use Rattle.wb_names_theory.specs.declared.declaration.Site.{Site}
 use Rattle.wb_names_theory.specs.declared.declaration.Site.TheVariants as site
 use Rattle.wb_names_theory.specs.declared.declaration.Sort.TheVariants as sort
-use Rattle.wb_names_theory.specs.declared.refusal.NameRefusal.{NameRefusal}
-use Rattle.wb_names_theory.specs.declared.refusal.NameRefusal.TheVariants as r
 use Rattle.wb_names_theory.specs.declared.usage.LabelWanted.{LabelWanted}
 use Rattle.wb_names_theory.specs.declared.usage.LabelWanted.TheVariants as wanted
 use Rattle.wb_names_theory.specs.declared.usage.Usage.{Usage}
@@ -20,59 +18,64 @@ use Rattle.wb_names_theory.specs.declared.usage.Usage.TheVariants as u
 use Rattle.wb_names_theory.specs.declared.usage.Wanted.{Wanted}
 use Rattle.wb_names_theory.specs.declared.usage.Wanted.TheVariants as w
 use Rattle.wb_names_theory.specs.Declarations.{Items}
-use Rattle.wb_names_theory.specs.Declares.{base_declarations, item_declarations, declarations}
+use Rattle.wb_names_theory.specs.Declares.{base_declarations, closed_names, item_declarations, declarations}
 use Rattle.wb_names_theory.specs.Duplicate.{Counts}
 use Rattle.wb_names_theory.specs.Hold.{AreOnce, IsMeant, LabelFor, AttributeAt, AreMeant, AreOwned, NamesHold}
 use Rattle.wb_names_theory.specs.Meaning.{IsSymbol, HasSite, HasLeft}
 use Rattle.wb_names_theory.specs.NamesOk.{scope_of, NamesOk}
 use Rattle.wb_names_theory.specs.Orphan.{FailsOrphan}
 use Rattle.wb_names_theory.specs.Orphan as o
-use Rattle.wb_names_theory.specs.Refusals.{IsTrueRefusal}
 use Rattle.wb_names_theory.specs.Uses.{uses}
-use Rattle.wb_names_theory.specs.WrongKind.{misplaced, FailsWrongKind}
+use Rattle.wb_names_theory.specs.WrongKind.{misplaced}
 use Rattle.wb_names_rules.specs.Index.{CountOnce}
-use Rattle.wb_names_rules.specs.Inner.Indexed.{IsDuplicate}
-use Rattle.wb_names_rules.specs.Inner.Owners.{MayDeclare, IsOrphanIn}
-use Rattle.wb_names_rules.specs.Inner.Passing.{Passes, UsesPass, UsesFail, TestFails}
-use Rattle.wb_names_rules.specs.Inner.Tests.{IsKnown, IsOfKind, IsWrongIn}
+use Rattle.wb_names_rules.specs.Inner.Closed.{IsOver}
+use Rattle.wb_names_rules.specs.Inner.Owners.{MayDeclare}
+use Rattle.wb_names_rules.specs.Inner.Passing.{UsesPass, OwnerPasses}
+use Rattle.wb_names_rules.specs.Inner.Tests.{IsKnown, IsOfKind}
 use Rattle.wb_names_rules.proofs.KindLemmas.{all_of_kind}
 use Rattle.wb_names_rules.proofs.RootLemmas.{IsRooted, IsGrounded, IsKnownProduction, items_rooted, items_grounded, base_rooted}
 use Rattle.wb_names_rules.proofs.TwiceLemmas.{nothing_twice}
 use Rattle.wb_names_rules.proofs.UnknownLemmas.{all_known}
 
 -- where an extension may declare all that it does, each of its declarations is as the rule asks
-pub all_owned : (declared own host : List Declaration) (from : ℕ) → host ≡ take from declared → own ≡ drop from declared → declared ≡ host ++ own
-    → All (MayDeclare declared from) own → AreOwned host own
-all_owned declared own host from is_host is_own whole all = record {
-  start = λ name has. all_contained (MayDeclare declared from) own (d.Start name) all has;
-  extensible = λ name has. all_contained (MayDeclare declared from) own (d.Extensible name) all has;
-  layout = λ name has. all_contained (MayDeclare declared from) own (d.Symbol name sort.Layout) all has refl;
+pub all_owned : (declared own host : List Declaration) (from : ℕ) (hosts_closed : List (List ℕ)) → host ≡ take from declared
+    → own ≡ drop from declared → declared ≡ host ++ own → All (MayDeclare declared from hosts_closed) own → AreOwned host own hosts_closed
+all_owned declared own host from hosts_closed is_host is_own whole all = record {
+  start = λ name has. all_contained (MayDeclare declared from hosts_closed) own (d.Start name) all has;
+  extensible = λ name has. all_contained (MayDeclare declared from hosts_closed) own (d.Extensible name) all has;
+  closed = λ name has. all_contained (MayDeclare declared from hosts_closed) own (d.Closed name) all has;
+  layout = λ name has. all_contained (MayDeclare declared from hosts_closed) own (d.Symbol name sort.Layout) all has refl;
   forward_needs = λ name has.
-      subst (λ (z : List Declaration). o.IsOwnSymbol z name) (sym is_own) (all_contained (MayDeclare declared from) own (d.ForwardNeeds name) all has);
+      subst (λ (z : List Declaration). o.IsOwnSymbol z name) (sym is_own)
+      (all_contained (MayDeclare declared from hosts_closed) own (d.ForwardNeeds name) all has);
   occurrences = λ a n has.
       subst (λ (z : List Declaration). o.IsOwnAttribute z a ⊎ o.IsOwnSymbol z n) (sym is_own)
-      (all_contained (MayDeclare declared from) own (d.Occurrence a n) all has);
+      (all_contained (MayDeclare declared from hosts_closed) own (d.Occurrence a n) all has).is_own;
+  on_closed = λ a n has. (all_contained (MayDeclare declared from hosts_closed) own (d.Occurrence a n) all has).is_open;
   preferences = λ first second has.
       subst (λ (z : List Declaration). o.IsOwnSymbol z first ⊎ o.IsOwnSymbol z second) (sym is_own)
-      (all_contained (MayDeclare declared from) own (d.Preference first second) all has);
+      (all_contained (MayDeclare declared from hosts_closed) own (d.Preference first second) all has);
   equations = λ p a n at has of_host there.
       subst (λ (z : List Declaration). o.IsOwnOccurrence z a n ⊎ o.IsOwnLocal z p at) (sym is_own)
-      (all_contained (MayDeclare declared from) own (d.Equation p a at) all has
+      (all_contained (MayDeclare declared from hosts_closed) own (d.Equation p a at) all has
       (subst (λ (z : List Declaration). o.IsOfHost z p) is_host of_host) n
       (subst (λ (z : List Declaration). HasSite z p at n) (sym whole) there));
 }
 
 -- so no name shows the contrary
-pub none_orphan : (host own : List Declaration) → AreOwned host own → (name : List ℕ) → ¬ FailsOrphan host own name
-none_orphan host own owned name (o.start has) = owned.start name has
-none_orphan host own owned name (o.extensible has) = owned.extensible name has
-none_orphan host own owned name (o.layout has) = owned.layout name has
-none_orphan host own owned name (o.forward_needs has not) = not (owned.forward_needs name has)
-none_orphan host own owned name (o.occurrence {nonterminal = n} has not nor) =
+pub none_orphan : (host own : List Declaration) (hosts_closed : List (List ℕ)) → AreOwned host own hosts_closed → (name : List ℕ)
+    → ¬ FailsOrphan host own hosts_closed name
+none_orphan host own hosts_closed owned name (o.start has) = owned.start name has
+none_orphan host own hosts_closed owned name (o.extensible has) = owned.extensible name has
+none_orphan host own hosts_closed owned name (o.closed has) = owned.closed name has
+none_orphan host own hosts_closed owned name (o.layout has) = owned.layout name has
+none_orphan host own hosts_closed owned name (o.forward_needs has not) = not (owned.forward_needs name has)
+none_orphan host own hosts_closed owned name (o.occurrence {nonterminal = n} has not nor) =
     elim (owned.occurrences name n has) [ inl a ↦ not a | inr b ↦ nor b ]
-none_orphan host own owned name (o.preference {second = second} has not nor) =
+none_orphan host own hosts_closed owned name (o.on_closed {nonterminal = n} has shut) = owned.on_closed name n has shut
+none_orphan host own hosts_closed owned name (o.preference {second = second} has not nor) =
     elim (owned.preferences name second has) [ inl a ↦ not a | inr b ↦ nor b ]
-none_orphan host own owned name (o.equation {production = p} {nonterminal = n} {at = at} has of_host there not nor) =
+none_orphan host own hosts_closed owned name (o.equation {production = p} {nonterminal = n} {at = at} has of_host there not nor) =
     elim (owned.equations p name n at has of_host there) [ inl a ↦ not a | inr b ↦ nor b ]
 
 module _ (declared : List Declaration) (used : List Usage) (known : All (IsKnown declared) used) (kinds : All (IsOfKind declared) used) where
@@ -115,6 +118,7 @@ module _ (declared : List Declaration) (used : List Usage) (known : All (IsKnown
     each_counts (d.Forward a) has = tt
     each_counts (d.Start a) has = tt
     each_counts (d.Extensible a) has = tt
+    each_counts (d.Closed a) has = tt
     each_counts (d.ForwardNeeds a) has = tt
     each_counts (d.Preference a b) has = tt
 
@@ -175,109 +179,84 @@ module _ (declared : List Declaration) (used : List Usage) (known : All (IsKnown
       needs = λ a m has. all_contained (IsKnown declared) used (u.Needs a m) known has (nonterminal_named m (grounded (u.Needs a m) has));
     }
 
-module _ (base : ResolvedParts) (owner : ℕ) (items : Items) where
+module _ (base : ResolvedParts) (items : Items) where
   -- what was declared before is the first part, and what the items declare the rest
-  split_host : take (length (base_declarations base)) (declarations base items) ≡ base_declarations base
+  pub split_host : take (length (base_declarations base)) (declarations base items) ≡ base_declarations base
   split_host = take-append_seam (base_declarations base) (item_declarations items)
 
-  split_own : drop (length (base_declarations base)) (declarations base items) ≡ item_declarations items
+  pub split_own : drop (length (base_declarations base)) (declarations base items) ≡ item_declarations items
   split_own = drop-append_seam (base_declarations base) (item_declarations items)
+
+  -- a list of all that is declared, in which what the items declare begins at this place
+  pub record AreListed (declared : List Declaration) (from : ℕ) : Type 0 where
+    pub all : declared ≡ declarations base items
+    pub place : from ≡ length (base_declarations base)
+
+  -- it is made of none, by adding what the base declares and then what the items declare
+  pub listed : (none first all declared : List Declaration) (from : ℕ) → none ≡ [] → first ≡ none ++ base_declarations base
+      → from ≡ length first → all ≡ first ++ item_declarations items → declared ≡ all → AreListed declared from
+  listed none first all declared from is_none is_first is_from is_all is =
+      let e : first ≡ base_declarations base = is_first ∙ ap (λ (l : List Declaration). l ++ base_declarations base) is_none in
+      record {
+        all = is ∙ is_all ∙ ap (λ (l : List Declaration). l ++ item_declarations items) e;
+        place = is_from ∙ ap length e;
+      }
+
+  -- it begins with what the base declares
+  pub begins_with : (declared : List Declaration) (from : ℕ) → AreListed declared from → IsOver base declared
+  begins_with declared from l = ap (take (length (base_declarations base))) l.all ∙ split_host
 
   -- an extension says what it may, where its own declarations pass
   owned_of : (from : ℕ) → from ≡ length (base_declarations base)
-      → All (MayDeclare (declarations base items) from) (drop from (declarations base items)) → AreOwned (base_declarations base) (item_declarations items)
+      → All (MayDeclare (declarations base items) from (closed_names base)) (drop from (declarations base items))
+      → AreOwned (base_declarations base) (item_declarations items) (closed_names base)
   owned_of from e all =
       let host : base_declarations base ≡ take from (declarations base items) =
       sym split_host ∙ ap (λ (n : ℕ). take n (declarations base items)) (sym e) in
       let own : item_declarations items ≡ drop from (declarations base items) =
       sym split_own ∙ ap (λ (n : ℕ). drop n (declarations base items)) (sym e) in
-      all_owned (declarations base items) (item_declarations items) (base_declarations base) from host own refl
-      (subst (All (MayDeclare (declarations base items) from)) (sym own) all)
+      all_owned (declarations base items) (item_declarations items) (base_declarations base) from (closed_names base) host own refl
+      (subst (All (MayDeclare (declarations base items) from (closed_names base))) (sym own) all)
+
+module _ (base : ResolvedParts) (owner : ℕ) (items : Items) (declared : List Declaration) (from : ℕ)
+    (l : AreListed base items declared from) (once : CountOnce declared) (used : UsesPass declared owner items)
+    (owned : OwnerPasses declared from owner (closed_names base)) where
+  -- the same of what the base and the items declare
+  once_there : CountOnce (declarations base items)
+  once_there = subst CountOnce l.all once
+
+  used_there : UsesPass (declarations base items) owner items
+  used_there = subst (λ (z : List Declaration). UsesPass z owner items) l.all used
+
+  owned_there : owner ≢ 0 → AreOwned (base_declarations base) (item_declarations items) (closed_names base)
+  owned_there extension =
+      owned_of base items from l.place
+      (subst (λ (z : List Declaration). All (MayDeclare z from (closed_names base)) (drop from z)) l.all (owned extension))
 
   -- no rule fails where all tests pass
-  pub rules_ok : (from : ℕ) → from ≡ length (base_declarations base) → CountOnce (declarations base items)
-      → Passes (declarations base items) from owner items → NamesOk (scope_of base owner items)
-  rules_ok from e once passes = record {
-    once = nothing_twice (declarations base items) once;
-    declared = all_known (declarations base items) (uses items) passes.used.known;
-    kinds = all_of_kind (declarations base items) (uses items) (misplaced owner items) passes.used.kinds passes.used.placed;
-    owned = λ extension. none_orphan (base_declarations base) (item_declarations items) (owned_of from e (passes.owned extension));
+  pub rules_ok : NamesOk (scope_of base owner items)
+  rules_ok = record {
+    once = nothing_twice (declarations base items) once_there;
+    declared = all_known (declarations base items) (uses items) used_there.known;
+    kinds = all_of_kind (declarations base items) (uses items) (misplaced owner items) used_there.kinds used_there.placed;
+    owned = λ extension. none_orphan (base_declarations base) (item_declarations items) (closed_names base) (owned_there extension);
   }
 
   -- and each name means what its place asks for
-  pub rules_hold : IsResolved base → (from : ℕ) → from ≡ length (base_declarations base) → CountOnce (declarations base items)
-      → Passes (declarations base items) from owner items → NamesHold (scope_of base owner items)
-  rules_hold resolved from e once passes =
+  pub rules_hold : IsResolved base → NamesHold (scope_of base owner items)
+  rules_hold resolved =
       let ds = declarations base items in
       let us = uses items in
-      let rooted = λ (one : Declaration) (has : Contains ds one). elim (contains_append (base_declarations base) (item_declarations items) one has)
-      as (λ x. IsRooted ds us one) [
-        | inl host ↦ base_rooted ds us base resolved
-            (λ x h. append_contains_left (base_declarations base) (item_declarations items) x h) one host
-        | inr own ↦ items_rooted ds us items (λ x h. append_contains_right (base_declarations base) (item_declarations items) x h) (λ x h. h) one own
+      let host = base_declarations base in
+      let own = item_declarations items in
+      let rooted = λ (one : Declaration) (has : Contains ds one). elim (contains_append host own one has) as (λ x. IsRooted ds us one) [
+        | inl there ↦ base_rooted ds us base resolved (λ x h. append_contains_left host own x h) one there
+        | inr there ↦ items_rooted ds us items (λ x h. append_contains_right host own x h) (λ x h. h) one there
       ] in
-      let grounded = items_grounded ds us items (λ x h. append_contains_right (base_declarations base) (item_declarations items) x h) (λ x h. h) in
+      let grounded = items_grounded ds us items (λ x h. append_contains_right host own x h) (λ x h. h) in
       record {
-        once = all_once ds us passes.used.known passes.used.kinds rooted grounded once;
-        meant = all_meant ds us passes.used.known passes.used.kinds rooted grounded;
-        placed = passes.used.placed;
-        owned = λ extension. owned_of from e (passes.owned extension);
+        once = all_once ds us used_there.known used_there.kinds rooted grounded once_there;
+        meant = all_meant ds us used_there.known used_there.kinds rooted grounded;
+        placed = used_there.placed;
+        owned = owned_there;
       }
-
-  -- a test that fails is of the first rule that does
-  pub rule_fails : (from : ℕ) → from ≡ length (base_declarations base) → CountOnce (declarations base items) → (refusal : NameRefusal)
-      → TestFails (declarations base items) from owner items refusal → IsTrueRefusal (scope_of base owner items) refusal
-  rule_fails from e once (r.Unknown name) fails = record { once = nothing_twice (declarations base items) once; fails = fails }
-  rule_fails from e once (r.WrongKind name) fails = record {
-    once = nothing_twice (declarations base items) once;
-    declared = all_known (declarations base items) (uses items) fails.known;
-    fails = fails.fails;
-  }
-  rule_fails from e once (r.Orphan name) fails = record {
-    once = nothing_twice (declarations base items) once;
-    declared = all_known (declarations base items) (uses items) fails.used.known;
-    kinds = all_of_kind (declarations base items) (uses items) (misplaced owner items) fails.used.kinds fails.used.placed;
-    extension = fails.extension;
-    fails = subst (λ (z : List Declaration). FailsOrphan z (item_declarations items) name)
-        (ap (λ (n : ℕ). take n (declarations base items)) e ∙ split_host)
-        (subst (λ (z : List Declaration). FailsOrphan (take from (declarations base items)) z name)
-        (ap (λ (n : ℕ). drop n (declarations base items)) e ∙ split_own) fails.fails);
-  }
-  rule_fails from e once (r.NoMemory error) fails = tt
-  rule_fails from e once (r.Duplicate name) fails = absurd fails
-  rule_fails from e once (r.WrongHost name) fails = absurd fails
-
--- what is declared twice is a true refusal
-pub duplicate_true : (base : ResolvedParts) (owner : ℕ) (items : Items) (refusal : NameRefusal)
-    → IsDuplicate (declarations base items) refusal → IsTrueRefusal (scope_of base owner items) refusal
-duplicate_true base owner items (r.Duplicate name) fails = fails
-duplicate_true base owner items (r.NoMemory error) fails = tt
-duplicate_true base owner items (r.Unknown name) fails = absurd fails
-duplicate_true base owner items (r.WrongKind name) fails = absurd fails
-duplicate_true base owner items (r.Orphan name) fails = absurd fails
-duplicate_true base owner items (r.WrongHost name) fails = absurd fails
-
--- what shows another kind fails the uses
-pub kind_fails : (declared : List Declaration) (owner : ℕ) (items : Items) (used : List Usage) (unplaced : List (List ℕ)) → used ≡ uses items
-    → unplaced ≡ misplaced owner items → All (IsKnown declared) used → (refusal : NameRefusal) → IsWrongIn declared used unplaced refusal
-    → UsesFail declared owner items refusal
-kind_fails declared owner items used unplaced e f known (r.WrongKind name) wrong = record {
-  known = subst (All (IsKnown declared)) e known;
-  fails = subst (λ (z : List Usage). FailsWrongKind declared z (misplaced owner items) name) e
-      (subst (λ (z : List (List ℕ)). FailsWrongKind declared used z name) f wrong);
-}
-kind_fails declared owner items used unplaced e f known (r.NoMemory error) wrong = tt
-kind_fails declared owner items used unplaced e f known (r.Unknown name) wrong = absurd wrong
-kind_fails declared owner items used unplaced e f known (r.Duplicate name) wrong = absurd wrong
-kind_fails declared owner items used unplaced e f known (r.Orphan name) wrong = absurd wrong
-kind_fails declared owner items used unplaced e f known (r.WrongHost name) wrong = absurd wrong
-
--- what shows what an extension may not say fails the last rule
-pub owner_fails : (declared : List Declaration) (from owner : ℕ) (items : Items) → UsesPass declared owner items → owner ≢ 0
-    → (refusal : NameRefusal) → IsOrphanIn declared from refusal → TestFails declared from owner items refusal
-owner_fails declared from owner items used extension (r.Orphan name) fails = record { used = used; extension = extension; fails = fails }
-owner_fails declared from owner items used extension (r.NoMemory error) fails = tt
-owner_fails declared from owner items used extension (r.Unknown name) fails = absurd fails
-owner_fails declared from owner items used extension (r.Duplicate name) fails = absurd fails
-owner_fails declared from owner items used extension (r.WrongKind name) fails = absurd fails
-owner_fails declared from owner items used extension (r.WrongHost name) fails = absurd fails

@@ -99,6 +99,7 @@ module _ (ds : List Declaration) (us : List Usage) where
   plain_rooted (i.Nonterminal a) = tt
   plain_rooted (i.Start a) = tt
   plain_rooted (i.Extensible a) = tt
+  plain_rooted (i.Closed a) = tt
   plain_rooted (i.Synthesized a b) = tt
   plain_rooted (i.Inherited a b) = tt
   plain_rooted (i.Occurs a b c) = tt
@@ -179,6 +180,7 @@ module _ (ds : List Declaration) (us : List Usage) where
   plain_grounded (i.Nonterminal a) use_of = each_none IsGrounded
   plain_grounded (i.Start a) use_of = each_cons IsGrounded (u.Name a w.Nonterminal) [] tt (each_none IsGrounded)
   plain_grounded (i.Extensible a) use_of = each_cons IsGrounded (u.Name a w.Nonterminal) [] tt (each_none IsGrounded)
+  plain_grounded (i.Closed a) use_of = each_cons IsGrounded (u.Name a w.Nonterminal) [] tt (each_none IsGrounded)
   plain_grounded (i.Synthesized a b) use_of = kind_grounded w.Nonterminal b
   plain_grounded (i.Inherited a b) use_of = kind_grounded w.Nonterminal b
   plain_grounded (i.Occurs a b c) use_of = occurs_grounded a b c use_of

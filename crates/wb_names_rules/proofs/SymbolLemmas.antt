@@ -30,6 +30,7 @@ symbol_counts declared (d.Equation a b c) is = tt
 symbol_counts declared (d.Forward a) is = tt
 symbol_counts declared (d.Start a) is = tt
 symbol_counts declared (d.Extensible a) is = tt
+symbol_counts declared (d.Closed a) is = tt
 symbol_counts declared (d.ForwardNeeds a) is = tt
 symbol_counts declared (d.Preference a b) is = tt
 
@@ -44,6 +45,7 @@ same_symbols s.equation = refl
 same_symbols s.forward = refl
 same_symbols s.start = refl
 same_symbols s.extensible = refl
+same_symbols s.closed = refl
 same_symbols s.forward_needs = refl
 same_symbols s.preference = refl
 
@@ -81,6 +83,7 @@ module _ (declared : List Declaration) where
       symbol_once keys places p (knows keys places pass upto (d.Forward p) known within refl)
   production_once keys places pass upto (d.Start a) known within = tt
   production_once keys places pass upto (d.Extensible a) known within = tt
+  production_once keys places pass upto (d.Closed a) known within = tt
   production_once keys places pass upto (d.ForwardNeeds a) known within = tt
   production_once keys places pass upto (d.Preference a b) known within = tt
 

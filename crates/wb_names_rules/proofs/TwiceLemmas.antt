@@ -101,6 +101,7 @@ module _ (declared : List Declaration) (none : (name : List ℕ) → ¬ FailsDup
   each_once (d.Forward p) = symbol_once p
   each_once (d.Start a) = tt
   each_once (d.Extensible a) = tt
+  each_once (d.Closed a) = tt
   each_once (d.ForwardNeeds a) = tt
   each_once (d.Preference a b) = tt
 

@@ -4,6 +4,8 @@ pub mod Indexed
 pub mod Reads
 -- what each test answers
 pub mod Tests
+-- where a base's closed nonterminals are declared
+pub mod Closed
 -- whose declarations are
 pub mod Owners
 -- what all tests together answer

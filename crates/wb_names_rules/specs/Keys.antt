@@ -28,6 +28,7 @@ tag_of (d.Start name) = 7
 tag_of (d.Extensible name) = 8
 tag_of (d.ForwardNeeds nonterminal) = 9
 tag_of (d.Preference first second) = 10
+tag_of (d.Closed name) = 11
 
 -- what tells declarations of a sort apart
 abbrev pub body_of : Declaration → List ℕ
@@ -40,6 +41,7 @@ body_of (d.Equation production attribute at) = marked production ++ (marked attr
 body_of (d.Forward production) = production
 body_of (d.Start name) = []
 body_of (d.Extensible name) = name
+body_of (d.Closed name) = name
 body_of (d.ForwardNeeds nonterminal) = nonterminal
 body_of (d.Preference first second) = marked first ++ second
 

@@ -4,11 +4,12 @@
 
 ghost use Rattle.std.specs.Prelude.{◌≡◌, ◌≤◌, length, IfOk, IfErr, OnOk};
 ghost use Rattle.wb_syntax_resolved.specs.Resolved.{IsResolved};
-ghost use Rattle.wb_names_theory.specs.Declares.{declarations as declarations_of};
+ghost use Rattle.wb_names_theory.specs.Declares.{closed_names, declarations as declarations_of};
 ghost use Rattle.wb_names_theory.specs.Hold.{NamesHold};
 ghost use Rattle.wb_names_theory.specs.NamesOk.{NamesOk, scope_of};
 ghost use Rattle.wb_names_theory.specs.Refusals.{IsTrueRefusal};
 ghost use Rattle.wb_names_theory.specs.Uses.{uses};
+ghost use Rattle.wb_names_rules.specs.Inner.Closed.{IsOver};
 ghost use Rattle.wb_names_rules.specs.Inner.Passing as spec;
 
 use crate::NameIndex;
@@ -45,32 +46,27 @@ pub fn check_names(
     let from = declarations.len();
     add_item_declarations(items, &mut declarations)?;
     let index = NameIndex::new(alloc, declarations)?;
-    check_rules(alloc, &index, from, owner, items)?;
+    check_uses(alloc, &index, owner, items)?;
+    check_owner(alloc, &index, base, from, owner)?;
     Ok(index)
 }
 
-// Whether the other rules hold, where nothing is declared twice.
-fn check_rules(
+// Whether what items use is declared and of the right kind, and nothing is where it has no place.
+fn check_uses(
     alloc: Global,
     index: &NameIndex,
-    from: usize,
     owner: usize,
     items: &[Item<Pattern>],
 ) -> Result<(), NameRefusal>
-    requires { from ≤ length index.now }
-    ensures ok { OnOk result (spec.Passes index.now from owner items.now) }
-    ensures refused { IfErr result (spec.TestFails index.now from owner items.now) }
+    ensures ok { OnOk result (spec.UsesPass index.now owner items.now) }
+    ensures refused { IfErr result (spec.UsesFail index.now owner items.now) }
 {
     let mut used = Vec::new(alloc);
     add_uses(items, &mut used)?;
-    check_used(alloc, index, owner, items, &used)?;
-    if owner == 0 {
-        return Ok(());
-    }
-    check_owned(alloc, index, from)
+    check_used(alloc, index, owner, items, &used)
 }
 
-// Whether what is used is declared and of the right kind, and nothing is where it has no place.
+// The same, with all that they use.
 fn check_used(
     alloc: Global,
     index: &NameIndex,
@@ -86,4 +82,23 @@ fn check_used(
     let mut unplaced = Vec::new(alloc);
     add_misplaced(owner, items, &mut unplaced)?;
     check_kinds(alloc, index, used, &unplaced)
+}
+
+// Whether an extension, whose own declarations begin at a place, says only what it may over its host. A host's owner is 0.
+fn check_owner(
+    alloc: Global,
+    index: &NameIndex,
+    base: &ResolvedParts,
+    from: usize,
+    owner: usize,
+) -> Result<(), NameRefusal>
+    requires within { from ≤ length index.now }
+    requires over { IsOver base.now index.now }
+    ensures ok { OnOk result (spec.OwnerPasses index.now from owner (closed_names base.now)) }
+    ensures refused { IfErr result (spec.OwnerFails index.now from owner (closed_names base.now)) }
+{
+    if owner == 0 {
+        return Ok(());
+    }
+    check_owned(alloc, index, base, from)
 }

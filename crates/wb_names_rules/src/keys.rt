@@ -31,6 +31,8 @@ pub(crate) const FORWARD_NEEDS: u8 = 9;
 
 pub(crate) const PREFERENCE: u8 = 10;
 
+pub(crate) const CLOSED: u8 = 11;
+
 // The key of a declaration.
 pub(crate) fn key_of(alloc: Global, declaration: &Declaration) -> Result<Vec<u8>, AllocError>
     ensures { IfOk result (λ key. key.items ≡ spec.key_of declaration.now) }
@@ -61,6 +63,7 @@ pub(crate) fn key_of(alloc: Global, declaration: &Declaration) -> Result<Vec<u8>
         Declaration::Forward(production) => key(alloc, FORWARD, production.as_slice()),
         Declaration::Start(_) => key(alloc, START, &[]),
         Declaration::Extensible(name) => key(alloc, EXTENSIBLE, name.as_slice()),
+        Declaration::Closed(name) => key(alloc, CLOSED, name.as_slice()),
         Declaration::ForwardNeeds(name) => key(alloc, FORWARD_NEEDS, name.as_slice()),
         Declaration::Preference { first, second } => {
             pair_key(alloc, PREFERENCE, first.as_slice(), second.as_slice())

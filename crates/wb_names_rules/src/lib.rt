@@ -5,6 +5,7 @@
 #![tactic(auto)]
 
 mod check;
+mod closed;
 mod index;
 mod keys;
 mod kinds;

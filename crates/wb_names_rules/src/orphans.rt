@@ -2,30 +2,40 @@
 //!
 //! The first declarations are its host's, and its own come after them, so that a place tells whose a declaration is.
 
-ghost use Rattle.std.specs.Prelude.{◌≡◌, ◌≢◌, ◌≤◌, ◌⊎◌, ◌↔◌, ℕ, List, Some, All, IfOk, IfErr, OnOk, IsTrue, drop, take, length, slice_get};
+ghost use Rattle.std.specs.Prelude.{◌≡◌, ◌≢◌, ◌≤◌, ◌⊎◌, ◌↔◌, ℕ, List, Some, All, Contains, IfOk, IfErr, OnOk, IsTrue, drop, take, length, slice_get};
 ghost use Rattle.wb_names_theory.specs.declared.declaration.Declaration.TheVariants as d;
 ghost use Rattle.wb_names_theory.specs.declared.declaration.Labelled.{Labelled};
 ghost use Rattle.wb_names_theory.specs.declared.declaration.Sort.TheVariants as sort;
+ghost use Rattle.wb_names_theory.specs.Declares.{closed_names};
 ghost use Rattle.wb_names_theory.specs.Meaning as meaning;
 ghost use Rattle.wb_names_theory.specs.Orphan as rule;
+ghost use Rattle.wb_names_rules.specs.Inner.Closed.{IsOver};
 ghost use Rattle.wb_names_rules.specs.Inner.Owners as spec;
 
 use crate::NameIndex;
+use crate::closed::is_closed;
 use crate::reads::{is_production, labelled_at};
 use crate::sites::site_of;
 use std::alloc::{AllocError, Global};
 use wb_base::Bytes;
 use wb_names_theory::{Declaration, Labelled, NameRefusal, Site, Sort};
+use wb_syntax_resolved::ResolvedParts;
 
-// Whether an extension, whose own declarations begin at a place, says only what it may. The refusal names what it may not.
-pub(crate) fn check_owned(alloc: Global, index: &NameIndex, from: usize) -> Result<(), NameRefusal>
-    requires { from ≤ length index.now }
-    ensures ok { OnOk result (All (spec.MayDeclare index.now from) (drop from index.now)) }
-    ensures refused { IfErr result (spec.IsOrphanIn index.now from) }
+// Whether an extension, whose own declarations begin at a place, says only what it may over its host. The refusal names what it may not.
+pub(crate) fn check_owned(
+    alloc: Global,
+    index: &NameIndex,
+    base: &ResolvedParts,
+    from: usize,
+) -> Result<(), NameRefusal>
+    requires within { from ≤ length index.now }
+    requires over { IsOver base.now index.now }
+    ensures ok { OnOk result (All (spec.MayDeclare index.now from (closed_names base.now)) (drop from index.now)) }
+    ensures refused { IfErr result (spec.IsOrphanIn index.now from (closed_names base.now)) }
 {
     let own = &index.declarations()[from..];
     'own: for declaration in own {
-        check_declaration(alloc, index, from, declaration)?;
+        check_declaration(alloc, index, base, from, declaration)?;
     }
     Ok(())
 }
@@ -34,21 +44,27 @@ pub(crate) fn check_owned(alloc: Global, index: &NameIndex, from: usize) -> Resu
 fn check_declaration(
     alloc: Global,
     index: &NameIndex,
+    base: &ResolvedParts,
     from: usize,
     declaration: &Declaration,
 ) -> Result<(), NameRefusal>
-    ensures ok { OnOk result (spec.MayDeclare index.now from declaration.now) }
-    ensures refused { IfErr result (spec.ShowsOrphan index.now from declaration.now) }
+    requires { IsOver base.now index.now }
+    ensures ok { OnOk result (spec.MayDeclare index.now from (closed_names base.now) declaration.now) }
+    ensures refused { IfErr result (spec.ShowsOrphan index.now from (closed_names base.now) declaration.now) }
 {
     match declaration {
         Declaration::Start(name) => Err(orphan(name)),
         Declaration::Extensible(name) => Err(orphan(name)),
+        Declaration::Closed(name) => Err(orphan(name)),
         Declaration::Symbol { name, sort } => check_symbol(name, *sort),
         Declaration::ForwardNeeds(name) => check_forward_needs(alloc, index, from, name),
         Declaration::Occurrence {
             attribute,
             nonterminal,
-        } => check_occurrence(alloc, index, from, attribute, nonterminal),
+        } => {
+            check_open(alloc, index, base, attribute, nonterminal)?;
+            check_occurrence(alloc, index, from, attribute, nonterminal)
+        }
         Declaration::Preference { first, second } => {
             check_preference(alloc, index, from, first, second)
         }
@@ -86,6 +102,24 @@ fn check_forward_needs(
         return Ok(());
     }
     Err(orphan(name))
+}
+
+// Whether the nonterminal of an occurrence is no closed one of the host.
+fn check_open(
+    alloc: Global,
+    index: &NameIndex,
+    base: &ResolvedParts,
+    attribute: &Bytes,
+    nonterminal: &Bytes,
+) -> Result<(), NameRefusal>
+    requires { IsOver base.now index.now }
+    ensures ok { OnOk result (¬ Contains (closed_names base.now) nonterminal.now) }
+    ensures refused { IfErr result (spec.IsOrphanIf (Contains (closed_names base.now) nonterminal.now) attribute.now) }
+{
+    if is_closed(alloc, index, base, nonterminal.as_slice())? {
+        return Err(orphan(attribute));
+    }
+    Ok(())
 }
 
 // Whether an occurrence is of its own attribute or on its own nonterminal.
@@ -137,7 +171,7 @@ fn check_equation(
     attribute: &Bytes,
     site: &Site,
 ) -> Result<(), NameRefusal>
-    ensures ok { OnOk result (spec.MayDeclare index.now from (d.Equation production.now attribute.now site.now)) }
+    ensures ok { OnOk result (spec.MayWrite index.now from production.now attribute.now site.now) }
     ensures refused { IfErr result (spec.IsOrphanIf (spec.IsForeignEquation index.now from production.now attribute.now site.now) attribute.now) }
 {
     if !is_of_host(alloc, index, from, production.as_slice())? {

@@ -237,6 +237,7 @@ fn shown_name(declaration: &Declaration) -> &Bytes
         Declaration::Forward(production) => production,
         Declaration::Start(name) => name,
         Declaration::Extensible(name) => name,
+        Declaration::Closed(name) => name,
         Declaration::ForwardNeeds(name) => name,
         Declaration::Preference { first, .. } => first,
     }

@@ -62,6 +62,7 @@ module _ (file : File) where
     form_there (f.Plain (i.Nonterminal z)) inside = All-nil (Contains (attribute_names file))
     form_there (f.Plain (i.Start z)) inside = All-nil (Contains (attribute_names file))
     form_there (f.Plain (i.Extensible z)) inside = All-nil (Contains (attribute_names file))
+    form_there (f.Plain (i.Closed z)) inside = All-nil (Contains (attribute_names file))
     form_there (f.Plain (i.Synthesized z kind)) inside = All-nil (Contains (attribute_names file))
     form_there (f.Plain (i.Inherited z kind)) inside = All-nil (Contains (attribute_names file))
     form_there (f.Plain (i.Occurs a n needs)) inside = All-nil (Contains (attribute_names file))

@@ -65,6 +65,7 @@ module _ (T N P A : List ℕ → Type 0) where
     by_plain (i.Nonterminal name) has = nonterminal name (kept nonterminal_of (plain_items items) (i.Nonterminal name) name has refl)
     by_plain (i.Start name) has = tt
     by_plain (i.Extensible name) has = tt
+    by_plain (i.Closed name) has = tt
     by_plain (i.Synthesized name kind) has =
         attribute (record { name = name; direction = Synthesized; kind = kind })
         (kept attribute_of (plain_items items) (i.Synthesized name kind)

@@ -13,10 +13,10 @@ use Rattle.wb_syntax.specs.declared.item.PlainForm.{PlainForm}
 use Rattle.wb_syntax.specs.declared.item.PlainForm.TheVariants as i
 use Rattle.wb_syntax.specs.declared.pattern.Pattern.{Pattern}
 use Rattle.wb_names_theory.specs.Declarations.{Items, AttributeDeclaration, ProductionDeclaration, attribute_of, attributes, nonterminal_of}
-use Rattle.wb_names_theory.specs.Declarations.{nonterminals}
+use Rattle.wb_names_theory.specs.Declarations.{closed_of, closeds, nonterminals}
 use Rattle.wb_names_theory.specs.Declarations.{plain_of, plain_items, production_of, productions}
 use Rattle.wb_names_numbers_theory.specs.Rows.{production_role}
-use Rattle.wb_names_symbols.specs.Inner.Names.{form_attributes, plain_attributes, form_productions, has_role, wanted_name}
+use Rattle.wb_names_symbols.specs.Inner.Names.{form_attributes, plain_attributes, form_closeds, form_productions, has_role, wanted_name}
 use Rattle.wb_names_symbols.specs.Inner.Nonterminals.{form_nonterminals}
 
 -- attributes
@@ -32,6 +32,7 @@ plain_step (i.Prefer first second) xs = refl
 plain_step (i.Nonterminal z) xs = refl
 plain_step (i.Start z) xs = refl
 plain_step (i.Extensible z) xs = refl
+plain_step (i.Closed z) xs = refl
 plain_step (i.Occurs attribute nonterminal needs) xs = refl
 
 attribute_step : (form : ItemForm Pattern) (rest : List PlainForm) (tail : List (List ℕ))
@@ -65,6 +66,24 @@ nonterminals_more items k item within is =
     ∙ (ap (λ z. filter_map nonterminal_of z) (filter_map-append (λ (x : Item Pattern). plain_of x.form) (take k items) (item ∷ []))
     ∙ (filter_map-append nonterminal_of (plain_items (take k items)) (plain_items (item ∷ []))
     ∙ ap (λ z. nonterminals (take k items) ++ z) (one_form item.form)))
+
+-- closed nonterminals
+closed_first : (o : Option (List ℕ)) (rest : List (List ℕ)) → cons_option o rest ≡ option_to_list o ++ rest
+closed_first None rest = refl
+closed_first (Some x) rest = refl
+
+closed_step : (form : ItemForm Pattern) (rest : List PlainForm) (tail : List (List ℕ)) → filter_map closed_of rest ≡ tail
+    → filter_map closed_of (cons_option (plain_of form) rest) ≡ form_closeds form ++ tail
+closed_step (f.Plain plain) rest tail e =
+    closed_first (closed_of plain) (filter_map closed_of rest) ∙ ap (λ z. option_to_list (closed_of plain) ++ z) e
+closed_step (f.Lexical role name pattern) rest tail e = e
+closed_step (f.Production role production) rest tail e = e
+closed_step (f.Aspect name equations) rest tail e = e
+
+pub closeds_flat : (items : Items) → closeds items ≡ flat_map (λ (item : Item Pattern). form_closeds item.form) items
+closeds_flat [] = refl
+closeds_flat (item ∷ items) =
+    closed_step item.form (plain_items items) (flat_map (λ (x : Item Pattern). form_closeds x.form) items) (closeds_flat items)
 
 -- names of those that are wanted
 module _ {X : Type 0} (name : X → List ℕ) (test other : X → Bool) (same : (x : X) → other x ≡ test x) where
@@ -106,6 +125,7 @@ not_nonterminal (i.Nonterminal z) other = absurd (other z refl)
 not_nonterminal (i.Prefer first second) other = refl
 not_nonterminal (i.Start z) other = refl
 not_nonterminal (i.Extensible z) other = refl
+not_nonterminal (i.Closed z) other = refl
 not_nonterminal (i.Synthesized z kind) other = refl
 not_nonterminal (i.Inherited z kind) other = refl
 not_nonterminal (i.Occurs a n needs) other = refl

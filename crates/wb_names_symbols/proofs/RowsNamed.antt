@@ -84,6 +84,7 @@ module _ (file : File) where
   is_nonterminal (i.Prefer first second) name e = absurd (cc e)
   is_nonterminal (i.Start z) name e = absurd (cc e)
   is_nonterminal (i.Extensible z) name e = absurd (cc e)
+  is_nonterminal (i.Closed z) name e = absurd (cc e)
   is_nonterminal (i.Synthesized z kind) name e = absurd (cc e)
   is_nonterminal (i.Inherited z kind) name e = absurd (cc e)
   is_nonterminal (i.Occurs a n needs) name e = absurd (cc e)
@@ -118,6 +119,7 @@ module _ (file : File) where
           found name row is = record {
             name_is = is.name_is;
             owner_is = is.owner_is;
+            closed = is.closed;
             needs = subst (λ z. AllZip (IsAt z) (forward_needs_of name file.items) row.forward_needs) (sym are) is.needs;
           }
 

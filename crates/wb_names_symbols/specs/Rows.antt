@@ -1,9 +1,9 @@
 -- Rows in the order of their numbers, as they are made before all have numbers.
-use Rattle.std.specs.Prelude.{◌≡◌, ◌⊎◌, ℕ, List, length}
+use Rattle.std.specs.Prelude.{◌≡◌, ◌↔◌, ◌⊎◌, ℕ, List, IsTrue, Contains, length}
 use Rattle.std.specs.List.{AllZip}
 use Rattle.wb_syntax_resolved.specs.declared.attributes.Nonterminal.{Nonterminal}
 use Rattle.wb_syntax_resolved.specs.declared.terminal.Terminal.{Terminal}
-use Rattle.wb_names_theory.specs.Declarations.{LexicalDeclaration}
+use Rattle.wb_names_theory.specs.Declarations.{LexicalDeclaration, closeds}
 use Rattle.wb_names_numbers_theory.specs.Files.{File, forward_needs_of}
 use Rattle.wb_names_numbers_theory.specs.Sources.{IsFrom, AreGrouped}
 use Rattle.wb_names_rows.specs.declared.scope.Scope.{Scope}
@@ -22,6 +22,7 @@ IsTerminalNow file = IsFrom IsCopy (IsFoundTerminal file.owner)
 pub record IsFoundNonterminal (file : File) (s : Scope) (name : List ℕ) (row : Nonterminal) : Type 0 where
   pub name_is : row.name ≡ name
   pub owner_is : row.owner ≡ file.owner
+  pub closed : IsTrue row.closed ↔ Contains (closeds file.items) name
   pub needs : AllZip (IsAt s.attributes) (forward_needs_of name file.items) row.forward_needs
 
 -- a nonterminal's row: one of the base as it was, since attributes keep their numbers, or one that is declared

@@ -20,22 +20,8 @@ use wb_names_rows::plains::written_needs;
 use wb_names_rows::scope::Scope;
 use wb_syntax::{Item, ItemForm, Pattern, PlainForm};
 
-// For each item the nonterminal of which it says so, or no bytes.
-pub(crate) fn forwarders_of(alloc: Global, items: &[Item<Pattern>]) -> Result<Index, AllocError>
-    ensures { IfOk result (λ names. names ≡ map (λ (item : Written Read). form_forwarder item.form) items.now) }
-{
-    let mut names = Index::new(alloc);
-    match add_forwarders(items, &mut names) {
-        Ok(()) => Ok(names),
-        Err(error) => {
-            drop(names);
-            Err(error)
-        }
-    }
-}
-
-// Adds those of items.
-fn add_forwarders(items: &[Item<Pattern>], names: &mut Index) -> Result<(), AllocError>
+// Adds for each item the nonterminal of which it says so, or no bytes.
+pub(crate) fn add_forwarders(items: &[Item<Pattern>], names: &mut Index) -> Result<(), AllocError>
     ensures { OnOk result (names.new ≡ names.old ++ map (λ (item : Written Read). form_forwarder item.form) items.now) }
 {
     'items: for item in items {

@@ -11,6 +11,7 @@ pub mod lent;
 mod named;
 pub mod names;
 mod nonterminals;
+mod said;
 pub mod symbols;
 mod tables;
 pub mod writers;

@@ -4,16 +4,17 @@
 
 ghost use Rattle.std.specs.Prelude.{◌≡◌, ◌↔◌, ◌⊎◌, ◌<◌, true, Contains, IfOk, OnOk, length};
 ghost use Rattle.wb_syntax.specs.Names.{FormHasNames};
-ghost use Rattle.wb_names_theory.specs.Declarations.{nonterminals};
+ghost use Rattle.wb_names_theory.specs.Declarations.{closeds, nonterminals};
 ghost use Rattle.wb_names_numbers_theory.specs.Files.{IsInGrammar, grammar_names};
 ghost use Rattle.wb_names_rows.specs.Marks.{IsMarked};
 ghost use Rattle.wb_names_symbols.specs.Lent.{lent_file};
 ghost use Rattle.wb_names_symbols.specs.Right.{IsRight};
 ghost use Rattle.wb_names_symbols.specs.Inner.Nonterminals as spec;
 
-use crate::forwards::{forwarders_of, needs_of};
+use crate::forwards::needs_of;
 use crate::joined::join;
 use crate::lent::Lent;
+use crate::said::said_of;
 use std::alloc::{AllocError, Global};
 use wb_base::{Bytes, Sequence, push};
 use wb_names_rows::grammar_names::grammar_names_of;
@@ -37,13 +38,15 @@ impl Drop for Nonterminals {
     }
 }
 
-// What rows of declared nonterminals read: names of the grammar, and by which names the items are found that say what forwards may need.
+// What rows of declared nonterminals read: names of the grammar, by which names the items are found that say what forwards may need, and
+// those of the closed ones.
 #[derive(Clone, Copy)]
 pub(crate) struct Known<'a> {
     pub(crate) scope: &'a Scope,
     pub(crate) items: &'a [Item<Pattern>],
     pub(crate) grammar: &'a Index,
     pub(crate) forwarders: &'a Index,
+    pub(crate) closed: &'a Index,
 }
 
 // Adds those of the base, and then those that items declare, in one list, and answers how many are of the grammar.
@@ -167,6 +170,7 @@ fn add_copy(
             Nonterminal {
                 name,
                 owner: row.owner,
+                closed: row.closed,
                 forward_needs: Sequence::from_vec(needs),
             },
             made,
@@ -191,21 +195,23 @@ fn add_own(
     requires grammar { grammar.now ≡ grammar_names file.now.items.now }
     ensures { OnOk result (spec.AddsApart (Contains (grammar_names file.now.items.now)) (spec.IsDeclaredRow scope.now.owner file.now.items.now scope.now.attributes) (nonterminals file.now.items.now) made.old made.new) }
 {
-    let forwarders = forwarders_of(alloc, file.items)?;
+    let said = said_of(alloc, file.items)?;
     let known = Known {
         scope,
         items: file.items,
         grammar,
-        forwarders: &forwarders,
+        forwarders: &said.forwarders,
+        closed: &said.closed,
     };
     let added = add_declared(alloc, &known, made);
-    drop(forwarders);
+    drop(said);
     added
 }
 
 // Adds those that items declare, item by item.
 fn add_declared(alloc: Global, known: &Known, made: &mut Nonterminals) -> Result<(), AllocError>
-    requires { spec.HasForwards known.now.scope.now known.now.items.now known.now.forwarders.now }
+    requires known { spec.HasForwards known.now.scope.now known.now.items.now known.now.forwarders.now }
+    requires closed { known.now.closed.now ≡ closeds known.now.items.now }
     ensures { OnOk result (spec.AddsApart (Contains known.now.grammar.now) (spec.IsDeclaredRow known.now.scope.now.owner known.now.items.now known.now.scope.now.attributes) (nonterminals known.now.items.now) made.old made.new) }
 {
     for item in known.items {
@@ -222,6 +228,7 @@ fn add_form(
     made: &mut Nonterminals,
 ) -> Result<(), AllocError>
     requires known { spec.HasForwards known.now.scope.now known.now.items.now known.now.forwarders.now }
+    requires closed { known.now.closed.now ≡ closeds known.now.items.now }
     requires names { FormHasNames form.now }
     ensures { OnOk result (spec.AddsApart (Contains known.now.grammar.now) (spec.IsDeclaredRow known.now.scope.now.owner known.now.items.now known.now.scope.now.attributes) (spec.form_nonterminals form.now) made.old made.new) }
 {
@@ -240,6 +247,7 @@ fn add_form(
 // The row of a nonterminal that is declared.
 fn declared_row(alloc: Global, known: &Known, name: &Bytes) -> Result<Nonterminal, AllocError>
     requires known { spec.HasForwards known.now.scope.now known.now.items.now known.now.forwarders.now }
+    requires closed { known.now.closed.now ≡ closeds known.now.items.now }
     requires name { spec.HasBytes name.now }
     ensures { IfOk result (spec.IsDeclaredRow known.now.scope.now.owner known.now.items.now known.now.scope.now.attributes name.now) }
 {
@@ -248,6 +256,7 @@ fn declared_row(alloc: Global, known: &Known, name: &Bytes) -> Result<Nontermina
         Ok(forward_needs) => Ok(Nonterminal {
             name: name_copy,
             owner: known.scope.owner,
+            closed: is_there(known.closed, name.as_slice()),
             forward_needs,
         }),
         Err(error) => {

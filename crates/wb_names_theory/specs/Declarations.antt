@@ -110,6 +110,15 @@ extensible_of other = None
 abbrev pub extensibles : Items → List (List ℕ)
 extensibles items = filter_map extensible_of (plain_items items)
 
+-- the nonterminal that an item closes
+abbrev pub closed_of : PlainForm → Option (List ℕ)
+closed_of (i.Closed name) = Some name
+closed_of other = None
+
+-- the closed nonterminals
+abbrev pub closeds : Items → List (List ℕ)
+closeds items = filter_map closed_of (plain_items items)
+
 -- the attribute that an item declares
 abbrev pub attribute_of : PlainForm → Option AttributeDeclaration
 attribute_of (i.Synthesized name kind) = Some (record { name = name; direction = Synthesized; kind = kind })

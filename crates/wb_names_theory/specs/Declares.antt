@@ -1,5 +1,5 @@
 -- What the items of a file declare, and what a base declares: what is there before the items, which is a resolved host, or nothing.
-use Rattle.std.specs.Prelude.{ℕ, List, [], ◌∷◌, ◌++◌, Option, Some, None, map, flat_map, slice_get}
+use Rattle.std.specs.Prelude.{ℕ, List, [], ◌∷◌, ◌++◌, Option, Some, None, cond, filter_map, map, flat_map, slice_get}
 use Rattle.wb_base.specs.declared.symbol.Kind.TheVariants as kind
 use Rattle.wb_syntax_resolved.specs.declared.attributes.Attribute.{Attribute}
 use Rattle.wb_syntax_resolved.specs.declared.attributes.Direction.TheVariants.{Synthesized, Inherited}
@@ -57,6 +57,7 @@ plain_declaration (i.Prefer first second) = d.Preference first second
 plain_declaration (i.Nonterminal name) = d.Symbol name sort.Nonterminal
 plain_declaration (i.Start name) = d.Start name
 plain_declaration (i.Extensible name) = d.Extensible name
+plain_declaration (i.Closed name) = d.Closed name
 plain_declaration (i.Synthesized name kind) = d.Attribute name Synthesized
 plain_declaration (i.Inherited name kind) = d.Attribute name Inherited
 plain_declaration (i.Occurs attribute nonterminal needs) = d.Occurrence attribute nonterminal
@@ -168,12 +169,21 @@ module _ (base : ResolvedParts) where
       ++ map (λ (x : Nonterminal). d.Symbol x.name sort.Nonterminal) base.attributes.nonterminals
       ++ map (λ (x : Attribute). d.Attribute x.name x.direction) base.attributes.attributes
 
-  -- what a base declares: all but its start, extensible nonterminals, preferences and flow types of forwards, which don't count for others
+  -- what a base declares: all but its start, extensible and closed nonterminals, preferences and flow types of forwards, which don't count
+  -- for others
   abbrev pub base_declarations : List Declaration
   base_declarations =
       base_names
       ++ map (λ (x : Occurrence). d.Occurrence (attribute_name x.attribute) (nonterminal_name x.nonterminal)) base.attributes.occurrences
       ++ flat_map production_declarations base.attributes.productions
+
+-- the name of a nonterminal that is closed
+abbrev pub closed_name : Nonterminal → Option (List ℕ)
+closed_name x = cond x.closed (Some x.name) None
+
+-- the names of a base's closed nonterminals, which count for an extension's occurrences alone
+abbrev pub closed_names : ResolvedParts → List (List ℕ)
+closed_names base = filter_map closed_name base.attributes.nonterminals
 
 -- what is declared in a base and by the items of a file
 abbrev pub declarations : ResolvedParts → Items → List Declaration

@@ -21,6 +21,7 @@ pub data AreSame : Declaration → Declaration → Type 0 where
   forward : {p : List ℕ} → AreSame (d.Forward p) (d.Forward p)
   start : {name other : List ℕ} → AreSame (d.Start name) (d.Start other)
   extensible : {name : List ℕ} → AreSame (d.Extensible name) (d.Extensible name)
+  closed : {name : List ℕ} → AreSame (d.Closed name) (d.Closed name)
   forward_needs : {name : List ℕ} → AreSame (d.ForwardNeeds name) (d.ForwardNeeds name)
   preference : {first second : List ℕ} → AreSame (d.Preference first second) (d.Preference first second)
 
@@ -36,6 +37,7 @@ shown_name (d.Equation p a at) = a
 shown_name (d.Forward p) = p
 shown_name (d.Start name) = name
 shown_name (d.Extensible name) = name
+shown_name (d.Closed name) = name
 shown_name (d.ForwardNeeds name) = name
 shown_name (d.Preference name second) = name
 

@@ -4,7 +4,7 @@ use Rattle.wb_syntax_resolved.specs.declared.resolved.ResolvedParts.{ResolvedPar
 use Rattle.wb_names_theory.specs.declared.declaration.Declaration.{Declaration}
 use Rattle.wb_names_theory.specs.declared.usage.Usage.{Usage}
 use Rattle.wb_names_theory.specs.Declarations.{Items}
-use Rattle.wb_names_theory.specs.Declares.{base_declarations, item_declarations}
+use Rattle.wb_names_theory.specs.Declares.{base_declarations, closed_names, item_declarations}
 use Rattle.wb_names_theory.specs.Duplicate.{FailsDuplicate}
 use Rattle.wb_names_theory.specs.Orphan.{FailsOrphan}
 use Rattle.wb_names_theory.specs.Unknown.{FailsUnknown}
@@ -12,12 +12,13 @@ use Rattle.wb_names_theory.specs.Uses.{uses}
 use Rattle.wb_names_theory.specs.WrongKind.{FailsWrongKind, misplaced}
 
 -- what the rules read: what is declared before a file, by its items, and what they use; the names of what they have where it has no place;
--- and whose the items are: 0 is a host
+-- those of the nonterminals that the host closed; and whose the items are: 0 is a host
 pub record Scope : Type 0 where
   pub host : List Declaration
   pub own : List Declaration
   pub used : List Usage
   pub unplaced : List (List ℕ)
+  pub hosts_closed : List (List ℕ)
   pub owner : ℕ
 
 -- the scope of the items of an owner's file on a base
@@ -27,6 +28,7 @@ scope_of base owner items = record {
   own = item_declarations items;
   used = uses items;
   unplaced = misplaced owner items;
+  hosts_closed = closed_names base;
   owner = owner;
 }
 
@@ -44,7 +46,7 @@ AllOfKind s = (name : List ℕ) → ¬ FailsWrongKind (s.host ++ s.own) s.used s
 
 -- an extension says what it may
 abbrev pub AllOwned : Scope → Type 0
-AllOwned s = s.owner ≢ 0 → (name : List ℕ) → ¬ FailsOrphan s.host s.own name
+AllOwned s = s.owner ≢ 0 → (name : List ℕ) → ¬ FailsOrphan s.host s.own s.hosts_closed name
 
 -- the name rules hold
 pub record NamesOk (s : Scope) : Type 0 where

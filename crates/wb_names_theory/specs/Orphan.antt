@@ -32,21 +32,26 @@ IsOwnLocal own production other = ⊥
 abbrev pub IsOfHost : List Declaration → List ℕ → Type 0
 IsOfHost host production = Contains host (d.Symbol production sort.Production)
 
--- this name shows that an extension, which declares its own beside its host's, says what it may not
-pub data FailsOrphan (host own : List Declaration) (name : List ℕ) : Type 0 where
-  -- it has no start, no extensible nonterminal and no layout
-  start : Contains own (d.Start name) → FailsOrphan host own name
-  extensible : Contains own (d.Extensible name) → FailsOrphan host own name
-  layout : Contains own (d.Symbol name sort.Layout) → FailsOrphan host own name
+-- this name shows that an extension, which declares its own beside its host's, says what it may not, where the host closed these
+-- nonterminals
+pub data FailsOrphan (host own : List Declaration) (hosts_closed : List (List ℕ)) (name : List ℕ) : Type 0 where
+  -- it has no start, no extensible nonterminal, no closed one and no layout
+  start : Contains own (d.Start name) → FailsOrphan host own hosts_closed name
+  extensible : Contains own (d.Extensible name) → FailsOrphan host own hosts_closed name
+  closed : Contains own (d.Closed name) → FailsOrphan host own hosts_closed name
+  layout : Contains own (d.Symbol name sort.Layout) → FailsOrphan host own hosts_closed name
   -- the flow type of a forward is for its own nonterminal
-  forward_needs : Contains own (d.ForwardNeeds name) → ¬ IsOwnSymbol own name → FailsOrphan host own name
+  forward_needs : Contains own (d.ForwardNeeds name) → ¬ IsOwnSymbol own name → FailsOrphan host own hosts_closed name
   -- an occurrence is of its own attribute or on its own nonterminal
   occurrence : {nonterminal : List ℕ} → IsOwnOccurrence own name nonterminal → ¬ IsOwnAttribute own name
-      → ¬ IsOwnSymbol own nonterminal → FailsOrphan host own name
+      → ¬ IsOwnSymbol own nonterminal → FailsOrphan host own hosts_closed name
+  -- and not on a closed nonterminal of the host
+  on_closed : {nonterminal : List ℕ} → IsOwnOccurrence own name nonterminal → Contains hosts_closed nonterminal
+      → FailsOrphan host own hosts_closed name
   -- a preference has its own terminal
   preference : {second : List ℕ} → Contains own (d.Preference name second) → ¬ IsOwnSymbol own name
-      → ¬ IsOwnSymbol own second → FailsOrphan host own name
+      → ¬ IsOwnSymbol own second → FailsOrphan host own hosts_closed name
   -- an equation on a host's production is for an occurrence that it declared, or for a local that it declared there
   equation : {production nonterminal : List ℕ} {at : Site} → Contains own (d.Equation production name at)
       → IsOfHost host production → HasSite (host ++ own) production at nonterminal → ¬ IsOwnOccurrence own name nonterminal
-      → ¬ IsOwnLocal own production at → FailsOrphan host own name
+      → ¬ IsOwnLocal own production at → FailsOrphan host own hosts_closed name

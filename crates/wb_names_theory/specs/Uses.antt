@@ -48,6 +48,7 @@ plain_uses (i.Prefer first second) = u.Name first w.Lexical ∷ u.Name second w.
 plain_uses (i.Nonterminal name) = []
 plain_uses (i.Start name) = u.Name name w.Nonterminal ∷ []
 plain_uses (i.Extensible name) = u.Name name w.Nonterminal ∷ []
+plain_uses (i.Closed name) = u.Name name w.Nonterminal ∷ []
 plain_uses (i.Synthesized name kind) = kind_uses w.Nonterminal kind
 plain_uses (i.Inherited name kind) = kind_uses w.Nonterminal kind
 plain_uses (i.Occurs attribute nonterminal needs) = occurs_uses attribute nonterminal needs

@@ -97,6 +97,8 @@ pub enum Declaration {
     Start(Bytes),
     /// A nonterminal to which extensions may add productions.
     Extensible(Bytes),
+    /// A nonterminal to which no extension adds an occurrence.
+    Closed(Bytes),
     /// The flow type of what a nonterminal's productions forward to.
     ForwardNeeds(Bytes),
     /// The first is preferred to the second.

@@ -228,7 +228,7 @@ module _ (at : AttributionParts) where
           fails.start_inherits,
           inl (
             (λ forwards. fails.lacks (of_some (ForwardsAsExtension at) extension fails.owner fails.is_extension forwards p
-                fails.production fails.there fails.bridging)),
+                fails.production fails.there fails.must_forward)),
             refl,
           ),
         )

@@ -24,18 +24,19 @@ use Rattle.wb_reader.proofs.Giving.{word_given, mark_given, name_given, integer_
 use Rattle.wb_syntax_expressions.proofs.AppendLemmas.{all_behind_len, more_nodes, more_places, if_nodes, if_root}
 use Rattle.wb_reader.proofs.ExpressionSound.{begun, grown, collecting, collected, recollect, rooted}
 
--- an integer of either kind
-number_given : (c : Bool) {f : Row} {w : List Lexeme} {a b : SpecBuilder} → Makes (Token (cond c kind.One kind.Number) ∷ f) w a b
-    → Makes (Nonterminal Part.Integer ∷ f) w a b
+-- an integer of each kind
+number_given : (c e : Bool) {f : Row} {w : List Lexeme} {a b : SpecBuilder}
+    → Makes (Token (cond c kind.One (cond e kind.Two kind.Number)) ∷ f) w a b → Makes (Nonterminal Part.Integer ∷ f) w a b
 unfolding right_sides
-number_given true d = expand 0 refl d
-number_given false d = expand 1 refl d
+number_given true e d = expand 0 refl d
+number_given false true d = expand 1 refl d
+number_given false false d = expand 2 refl d
 
 whole_given : {x : Lexeme} (z : ℤ) {f : Row} {v : List Lexeme} {a b : SpecBuilder} → IsInt z x → Makes f v (with_integer z a) b
     → Makes (Nonterminal Part.Integer ∷ f) (x ∷ v) a b
 unfolding right_sides
-whole_given (pos k) h d = number_given (k == 1) (integer_given h d)
-whole_given (negsuc k) h d = expand 1 refl (integer_given h d)
+whole_given (pos k) h d = number_given (k == 1) (k == 2) (integer_given h d)
+whole_given (negsuc k) h d = expand 2 refl (integer_given h d)
 
 -- a leaf's node
 leaf : (a : SpecBuilder) (list : List Node) (rest : List (List Node)) (f : Row) (v : List Lexeme) (b : SpecBuilder) (node : Node)

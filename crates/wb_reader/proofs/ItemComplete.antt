@@ -1,5 +1,5 @@
 -- Items, headers and specifications of the grammar are derived by the table's grammar.
-use Rattle.std.proofs.Common.{◌≡◌, ℕ, pos, List, [], ◌∷◌, ◌++◌, refl, sym, ap, ◌∙◌, subst}
+use Rattle.std.proofs.Common.{◌≡◌, ℕ, pos, List, [], ◌∷◌, ◌++◌, refl, sym, ap, ◌∙◌, subst, inl, inr}
 use Rattle.std.proofs.lemmas.List.{append_assoc, append-nil}
 use Rattle.wb_text_predictive.specs.declared.symbol.Symbol.TheVariants.{Nonterminal}
 use Rattle.wb_text_predictive.specs.Grammar.{expand, act as acts}
@@ -17,7 +17,7 @@ use Rattle.wb_syntax.specs.declared.production.ProductionRole.TheVariants as rol
 use Rattle.wb_syntax.specs.declared.written.WrittenSpec.{WrittenSpec}
 use Rattle.wb_syntax.specs.Tokens.{Lexeme, IsName, IsRegex, IsMark, IsWord, IsInt}
 use Rattle.wb_syntax.specs.ItemGrammar as grammar
-use Rattle.wb_syntax.specs.ItemGrammar.{IsItem, AreItems, IsHeader, IsSpecification, IsRole, IsProduction, IsProductionRole}
+use Rattle.wb_syntax.specs.ItemGrammar.{IsFormat, IsItem, AreItems, IsHeader, IsSpecification, IsRole, IsProduction, IsProductionRole}
 use Rattle.wb_reader.specs.declared.part.Part.{Part}
 use Rattle.wb_reader_builder.specs.declared.builder.SpecBuilder.{SpecBuilder}
 use Rattle.wb_reader.specs.Inner.RightSides.{right_sides}
@@ -25,7 +25,8 @@ use Rattle.wb_reader.proofs.Taking.{Row, Makes}
 use Rattle.wb_reader.proofs.Giving.{word_given, mark_given, name_given, regex_given, integer_given}
 use Rattle.wb_reader.proofs.PlainForms.{with_more, plain_given}
 use Rattle.wb_reader.proofs.EquationComplete.{block_given, production_given}
-use Rattle.wb_reader.proofs.ItemSound.{finished}
+use Rattle.wb_reader.proofs.ItemSound.{finished, begun_with}
+use Rattle.wb_reader_builder.specs.Builder.{with_integer}
 
 pattern_given : (a : SpecBuilder) (f : Row) (v : List Lexeme) (b : SpecBuilder) (role : Role) (x n y s : Lexeme) (name bytes : List ℕ)
     → IsRole role x → IsName name n → IsRegex bytes y → IsMark p.Semicolon s
@@ -79,17 +80,29 @@ header_given a f u v b name header (grammar.host h i j) d =
 header_given a f u v b name header (grammar.extension h i j k l) d =
     expand 1 refl (word_given word.Extension h (name_given i (word_given word.For j (name_given k (mark_given p.Semicolon l (acts d))))))
 
--- a specification of format 1
-one_given : (a : SpecBuilder) (fs : Row) (x n s : Lexeme) (y z v : List Lexeme) (b : SpecBuilder) (name : List ℕ) (header : Header)
-    (items : List (Item WrittenPattern))
-    → IsWord word.Format x → IsInt (pos 1) n → IsMark p.Semicolon s → IsHeader y name header → AreItems z items
-    → Makes fs v (record a { format = 1; name = name; header = header; items = a.items ++ items }) b
+-- the number of a format
+format_given : (a : SpecBuilder) (f : Row) (n : Lexeme) (v : List Lexeme) (b : SpecBuilder) (number : ℕ) → IsFormat number
+    → IsInt (pos number) n → Makes f v (with_integer (pos number) a) b → Makes (Nonterminal Part.Format ∷ f) (n ∷ v) a b
+unfolding right_sides
+format_given a f n v b number (inl e) i d =
+    expand 0 refl (integer_given (subst (λ m. IsInt (pos m) n) e i) (subst (λ m. Makes f v (with_integer (pos m) a) b) e d))
+format_given a f n v b number (inr e) i d =
+    expand 1 refl (integer_given (subst (λ m. IsInt (pos m) n) e i) (subst (λ m. Makes f v (with_integer (pos m) a) b) e d))
+
+-- a specification
+whole_given : (a : SpecBuilder) (fs : Row) (x n s : Lexeme) (y z v : List Lexeme) (b : SpecBuilder) (number : ℕ) (name : List ℕ)
+    (header : Header) (items : List (Item WrittenPattern))
+    → IsWord word.Format x → IsFormat number → IsInt (pos number) n → IsMark p.Semicolon s → IsHeader y name header → AreItems z items
+    → Makes fs v (record a { format = number; name = name; header = header; items = a.items ++ items }) b
     → Makes (Nonterminal Part.File ∷ fs) (x ∷ n ∷ s ∷ (y ++ (z ++ v))) a b
 unfolding right_sides
-one_given a fs x n s y z v b name header items h i j k r d =
-    let one : SpecBuilder = record a { format = 1 } in
-    expand 0 refl (word_given word.Format h (integer_given i (mark_given p.Semicolon j (acts (header_given one _ y (z ++ v) b name header k
-    (items_given (record one { name = name; header = header }) fs z v b items r d))))))
+whole_given a fs x n s y z v b number name header items h known i j k r d =
+    let begun : SpecBuilder = record a { format = number } in
+    let rest = header_given begun (Nonterminal Part.Items ∷ fs) y (z ++ v) b name header k
+    (items_given (record begun { name = name; header = header }) fs z v b items r d) in
+    expand 0 refl (word_given word.Format h (format_given a _ n (s ∷ (y ++ (z ++ v))) b number known i (mark_given p.Semicolon j
+    (acts (subst (λ q. Makes (Nonterminal Part.Header ∷ Nonterminal Part.Items ∷ fs) (y ++ (z ++ v)) q b) (sym (begun_with number known a))
+    rest)))))
 
 pub file_given : (a : SpecBuilder) (f : Row) (u v : List Lexeme) (b : SpecBuilder) (spec : WrittenSpec) → IsSpecification u spec
     → Makes f v (finished a spec) b → Makes (Nonterminal Part.File ∷ f) (u ++ v) a b
@@ -97,5 +110,4 @@ file_given a fs u v b spec (grammar.whole {f = x} {n = n} {s = s} {u = y} {v = z
     {items = items} h l i j k r e) d =
     let g : u ++ v ≡ x ∷ n ∷ s ∷ (y ++ (z ++ v)) = ap (λ q. q ++ v) e ∙ ap (λ q. x ∷ n ∷ s ∷ q) (append_assoc y z v) in
     subst (λ w. Makes (Nonterminal Part.File ∷ fs) w a b) (sym g)
-    (one_given a fs x n s y z v b name header items h (subst (λ m. IsInt (pos m) n) l i) j k r
-    (subst (λ m. Makes fs v (record a { format = m; name = name; header = header; items = a.items ++ items }) b) l d))
+    (whole_given a fs x n s y z v b format name header items h l i j k r d)

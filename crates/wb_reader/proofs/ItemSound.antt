@@ -1,5 +1,5 @@
 -- Items, headers and specifications that the table's grammar derives are in the grammar of specifications.
-use Rattle.std.proofs.Common.{ℕ, List, [], ◌∷◌, ◌++◌, ◌⊎◌, inl, inr, refl, ap, ◌∙◌, length, arith}
+use Rattle.std.proofs.Common.{ℕ, List, [], ◌∷◌, ◌++◌, ◌⊎◌, inl, inr, refl, sym, subst, pos, ◌≡◌, ap, ◌∙◌, length, arith}
 use Rattle.wb_text_predictive.specs.declared.symbol.Symbol.TheVariants.{Nonterminal}
 use Rattle.wb_text_tokens.specs.declared.word.Word.TheVariants as word
 use Rattle.wb_text_tokens.specs.declared.punctuation.Punctuation.TheVariants as p
@@ -12,13 +12,16 @@ use Rattle.wb_syntax.specs.declared.pattern.Role.TheVariants as r
 use Rattle.wb_syntax.specs.declared.pattern.WrittenPattern.{WrittenPattern}
 use Rattle.wb_syntax.specs.declared.production.ProductionRole.TheVariants as k
 use Rattle.wb_syntax.specs.declared.written.WrittenSpec.{WrittenSpec}
-use Rattle.wb_syntax.specs.Tokens.{Lexeme}
+use Rattle.wb_syntax.specs.Tokens.{Lexeme, IsInt}
 use Rattle.wb_syntax.specs.ItemGrammar as grammar
-use Rattle.wb_syntax.specs.ItemGrammar.{IsItem, AreItems, IsHeader, IsSpecification}
+use Rattle.wb_syntax.specs.ItemGrammar.{IsFormat, IsItem, AreItems, IsHeader, IsSpecification}
 use Rattle.wb_reader.specs.declared.part.Part.{Part}
 use Rattle.wb_reader_builder.specs.declared.builder.SpecBuilder.{SpecBuilder}
 use Rattle.wb_reader.specs.Inner.RightSides.{right_sides}
+use Rattle.wb_reader_builder.specs.Builder.{with_integer}
+use Rattle.wb_reader_builder.specs.Items.{with_begin}
 use Rattle.wb_reader.proofs.Taking.{Row, Makes, Split, OneOf, chosen, acted, word_taken, mark_taken, name_taken, regex_taken, one_taken}
+use Rattle.wb_reader.proofs.Taking.{two_taken}
 use Rattle.wb_reader.proofs.Many.{Element, many}
 use Rattle.wb_reader.proofs.PlainForms.{itemized, plain_of_rows}
 use Rattle.wb_reader.proofs.EquationSound.{block_sound, production_sound}
@@ -154,21 +157,38 @@ header_of_rows a f w b (inr (inr e)) = absurd e
 abbrev pub finished : SpecBuilder → WrittenSpec → SpecBuilder
 finished a spec = record a { format = spec.format; name = spec.name; header = spec.header; items = a.items ++ spec.items }
 
+-- the number of a format
+format_of_rows : (f : Row) (w : List Lexeme) (a b : SpecBuilder) → OneOf (right_sides Part.Format) f w a b
+    → Split (λ u number. (x : Lexeme) × IsFormat number × IsInt (pos number) x × (u ≡ x ∷ [])) (λ number. with_integer (pos number) a) f w b
+unfolding right_sides
+format_of_rows f w a b (inl d) = let r = one_taken d in (r.0 ∷ [], r.1, 1, (r.0, inl refl, r.2, refl), r.3, r.4)
+format_of_rows f w a b (inr (inl d)) = let r = two_taken d in (r.0 ∷ [], r.1, 2, (r.0, inr refl, r.2, refl), r.3, r.4)
+format_of_rows f w a b (inr (inr e)) = absurd e
+
+-- what begins with it has that format
+pub begun_with : (number : ℕ) → IsFormat number → (a : SpecBuilder)
+    → with_begin (with_integer (pos number) a) ≡ record a { format = number }
+begun_with number (inl e) a = subst (λ n. with_begin (with_integer (pos n) a) ≡ record a { format = n }) (sym e) refl
+begun_with number (inr e) a = subst (λ n. with_begin (with_integer (pos n) a) ≡ record a { format = n }) (sym e) refl
+
 file_of_rows : (a : SpecBuilder) (f : Row) (w : List Lexeme) (b : SpecBuilder) → OneOf (right_sides Part.File) f w a b
     → Split IsSpecification (finished a) f w b
 unfolding right_sides
 file_of_rows a f w b (inl d) =
     let x = word_taken word.Format d in
-    let n = one_taken x.4 in
-    let s = mark_taken p.Semicolon n.4 in
-    let one : SpecBuilder = record a { format = 1 } in
-    let head = header_of_rows one (Nonterminal Part.Items ∷ f) s.1 b (chosen (acted s.4)) in
-    let t = items_sound (headed one head.2) a.items f head.1 b head.5 in (
-      x.0 ∷ n.0 ∷ s.0 ∷ (head.0 ++ t.0),
+    let n = format_of_rows _ x.1 a b (chosen x.4) in
+    let (number, known, is, alone) = n.3 in
+    let s = mark_taken p.Semicolon n.5 in
+    let begun : SpecBuilder = record a { format = n.2 } in
+    let after = subst (λ y. Makes (Nonterminal Part.Header ∷ Nonterminal Part.Items ∷ f) s.1 y b) (begun_with n.2 known a) (acted s.4) in
+    let head = header_of_rows begun (Nonterminal Part.Items ∷ f) s.1 b (chosen after) in
+    let t = items_sound (headed begun head.2) a.items f head.1 b head.5 in (
+      x.0 ∷ number ∷ s.0 ∷ (head.0 ++ t.0),
       t.1,
-      record { format = 1; name = head.2.0; header = head.2.1; items = t.2 },
-      grammar.whole x.2 refl n.2 s.2 head.3 t.3 refl,
-      x.3 ∙ ap (λ z. x.0 ∷ z) (n.3 ∙ ap (λ z. n.0 ∷ z) (s.3 ∙ ap (λ z. s.0 ∷ z) (joined head.0 head.1 t.0 t.1 s.1 head.4 t.4))),
+      record { format = n.2; name = head.2.0; header = head.2.1; items = t.2 },
+      grammar.whole x.2 known is s.2 head.3 t.3 refl,
+      x.3 ∙ ap (λ z. x.0 ∷ z) ((n.4 ∙ ap (λ z. z ++ n.1) alone)
+          ∙ ap (λ z. number ∷ z) (s.3 ∙ ap (λ z. s.0 ∷ z) (joined head.0 head.1 t.0 t.1 s.1 head.4 t.4))),
       t.5,
     )
 file_of_rows a f w b (inr e) = absurd e

@@ -1,3 +1,5 @@
+pub mod ClosedLemmas
+pub mod DialectLemmas
 mod EquationComplete
 mod EquationSound
 pub mod Excluding
@@ -7,6 +9,8 @@ mod FaultLemmas
 mod Fields
 pub mod FormatLemmas
 mod Giving
+pub mod HeadLemmas
+pub mod HomeLemmas
 mod ItemComplete
 mod ItemSound
 mod Many

@@ -6,7 +6,7 @@ use Rattle.std.proofs.lemmas.List.{length-append, length-take, length-drop}
 use Rattle.std.specs.Prelude.{drop, ◌-◌, min}
 use Rattle.std.proofs.lemmas.List.Elements.{All-nil, All-cons}
 use Rattle.wb_text_predictive.specs.Reading.{Spells, next}
-use Rattle.wb_text_tokens.specs.declared.token.Layout.TheVariants.{WithComments}
+use Rattle.wb_text_tokens.specs.declared.token.Dialect.{Dialect}
 use Rattle.wb_text_tokens.specs.declared.token.Token.TheVariants as t
 use Rattle.wb_text_tokens.specs.NextToken.{NextToken}
 use Rattle.wb_text_tokens.specs.Spelling.{Spells as SpellsToken}
@@ -21,7 +21,7 @@ use Rattle.wb_syntax.specs.declared.written.WrittenSpec.{WrittenSpec}
 use Rattle.wb_syntax.specs.Tokens.{Lexeme, IsRegex}
 use Rattle.wb_syntax.specs.ItemGrammar as grammar
 use Rattle.wb_syntax.specs.ItemGrammar.{IsItem, AreItems, IsSpecification}
-use Rattle.wb_syntax.specs.SpecText.{SpecView, IsWrittenText, IsReadAs, IsReadForm, IsReadSpec, IsSpecText}
+use Rattle.wb_syntax.specs.SpecText.{SpecView, dialect_of, IsWrittenText, IsReadAs, IsReadForm, IsReadSpec, IsSpecText}
 use Rattle.wb_reader.specs.declared.refusal.SpecRefusal.{SpecRefusal}
 use Rattle.wb_reader.specs.declared.refusal.SpecRefusal.TheVariants.{TooLong, WrongFormat, Syntax, BadRegex, MatchesEmpty, NoMemory}
 use Rattle.wb_reader.specs.Refusals.{IsShort, IsTaken, IsTakenForm}
@@ -91,10 +91,11 @@ fit_right P (x ∷ u) v h = fit_right P u v h.1
 abbrev Fits : Lexeme → Type 0
 Fits x = (bytes : List ℕ) → IsRegex bytes x → x.at + length bytes + 2 ≤ 1048576
 
-one_fits : (text : List ℕ) (from : ℕ) (x : Lexeme) → IsShort text → NextToken WithComments text from x.token x.at x.end → Fits x
-one_fits text from x short r bytes e =
-    let s : SpellsToken (t.Regex bytes) (slice_range text x.at x.end) =
-    subst (λ y. SpellsToken y (slice_range text x.at x.end)) e r.stands.spelled in
+one_fits : (dialect : Dialect) (text : List ℕ) (from : ℕ) (x : Lexeme) → IsShort text → NextToken dialect text from x.token x.at x.end
+    → Fits x
+one_fits dialect text from x short r bytes e =
+    let s : SpellsToken dialect (t.Regex bytes) (slice_range text x.at x.end) =
+    subst (λ y. SpellsToken dialect y (slice_range text x.at x.end)) e r.stands.spelled in
     let l : length (slice_range text x.at x.end) ≡ length (47 ∷ (bytes ++ 47 ∷ [])) = ap length s.0 in
     let k = length-append bytes (47 ∷ []) in
     let m : length (slice_range text x.at x.end) ≡ min (x.end - x.at) (length (drop x.at text)) =
@@ -104,10 +105,11 @@ one_fits text from x short r bytes e =
     let w = r.stands.within in
     omega (arith, l, k, m, d, o, w, short)
 
-all_fit : (text : List ℕ) (from : ℕ) (xs : List Lexeme) (to : ℕ) → IsShort text → Spells (IsNextIn WithComments text) from xs to
+all_fit : (dialect : Dialect) (text : List ℕ) (from : ℕ) (xs : List Lexeme) (to : ℕ) → IsShort text
+    → Spells (IsNextIn dialect text) from xs to
     → AllFit Fits xs
-all_fit text from [] to short s = tt
-all_fit text from (x ∷ xs) to short (next i r) = (one_fits text from x short i, all_fit text x.end xs to short r)
+all_fit dialect text from [] to short s = tt
+all_fit dialect text from (x ∷ xs) to short (next i r) = (one_fits dialect text from x short i, all_fit dialect text x.end xs to short r)
 
 item_placed : (w : List Lexeme) (item : Item WrittenPattern) → IsItem w item → AllFit Fits w → IsPlaced item
 item_placed w item (grammar.lexical {bytes = bytes} h i j k) fit = fit.1.1.0 bytes j
@@ -128,7 +130,8 @@ spec_placed w spec (grammar.whole {f = x} {n = n} {s = s} {u = u} {v = v} {items
 
 -- the regular expressions of a text stand within it
 pub text_placed : (text : List ℕ) (spec : WrittenSpec) → IsShort text → IsWrittenText text spec → All IsPlaced spec.items
-text_placed text spec short r = spec_placed r.tokens spec r.specification (all_fit text 0 r.tokens r.to short r.spelled)
+text_placed text spec short r =
+    spec_placed r.tokens spec r.specification (all_fit (dialect_of spec.format) text 0 r.tokens r.to short r.spelled)
 
 -- a written item is one item
 one_form : (form : ItemForm WrittenPattern) (x y : ItemForm Pattern) → IsReadForm form x → IsReadForm form y → x ≡ y

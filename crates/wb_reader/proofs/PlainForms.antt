@@ -102,22 +102,25 @@ plain_of_rows a front f w b (inr (inr (inr (inl d)))) =
     (λ v xs places h. h))
     a front f w b d
 plain_of_rows a front f w b (inr (inr (inr (inr (inl d))))) =
+    one_taken (by_sample (i.Closed []) ItemAction.Closed (λ v. i.Closed v.1.0) (λ v. refl) (λ v places a. refl) (λ v xs places h. h))
+    a front f w b d
+plain_of_rows a front f w b (inr (inr (inr (inr (inr (inl d)))))) =
     one_taken (by_sample (i.Synthesized [] k.Int) ItemAction.Synthesized (λ v. i.Synthesized v.1.0 v.1.1.1.0) (λ v. refl)
     (λ v places a. refl) (λ v xs places h. h))
     a front f w b d
-plain_of_rows a front f w b (inr (inr (inr (inr (inr (inl d)))))) =
+plain_of_rows a front f w b (inr (inr (inr (inr (inr (inr (inl d))))))) =
     one_taken (by_sample (i.Inherited [] k.Int) ItemAction.Inherited (λ v. i.Inherited v.1.0 v.1.1.1.0) (λ v. refl) (λ v places a. refl)
     (λ v xs places h. h))
     a front f w b d
-plain_of_rows a front f w b (inr (inr (inr (inr (inr (inr (inl d))))))) =
+plain_of_rows a front f w b (inr (inr (inr (inr (inr (inr (inr (inl d)))))))) =
     one_taken (by_sample (i.Occurs [] [] None) ItemAction.Occurs (λ v. i.Occurs v.1.0 v.1.1.1.0 v.1.1.1.1.0) (λ v. refl)
     (λ v places a. refl) (λ v xs places h. h))
     a front f w b d
-plain_of_rows a front f w b (inr (inr (inr (inr (inr (inr (inr (inl d)))))))) =
+plain_of_rows a front f w b (inr (inr (inr (inr (inr (inr (inr (inr (inl d))))))))) =
     one_taken (by_sample (i.ForwardOn [] []) ItemAction.ForwardOn (λ v. i.ForwardOn v.1.1.0 v.1.1.1.0) (λ v. refl) (λ v places a. refl)
     (λ v xs places h. h))
     a front f w b d
-plain_of_rows a front f w b (inr (inr (inr (inr (inr (inr (inr (inr e)))))))) = absurd e
+plain_of_rows a front f w b (inr (inr (inr (inr (inr (inr (inr (inr (inr e))))))))) = absurd e
 
 -- the right side of a form
 record HasRule (one : PlainForm) : Type 0 where
@@ -138,14 +141,16 @@ rule_of (i.Start name) =
     record { number = 8; action = ItemAction.Start; right = refl; acts = λ places a. refl; begins = λ xs places h. h }
 rule_of (i.Extensible name) =
     record { number = 9; action = ItemAction.Extensible; right = refl; acts = λ places a. refl; begins = λ xs places h. h }
+rule_of (i.Closed name) =
+    record { number = 10; action = ItemAction.Closed; right = refl; acts = λ places a. refl; begins = λ xs places h. h }
 rule_of (i.Synthesized name kind) =
-    record { number = 10; action = ItemAction.Synthesized; right = refl; acts = λ places a. refl; begins = λ xs places h. h }
+    record { number = 11; action = ItemAction.Synthesized; right = refl; acts = λ places a. refl; begins = λ xs places h. h }
 rule_of (i.Inherited name kind) =
-    record { number = 11; action = ItemAction.Inherited; right = refl; acts = λ places a. refl; begins = λ xs places h. h }
+    record { number = 12; action = ItemAction.Inherited; right = refl; acts = λ places a. refl; begins = λ xs places h. h }
 rule_of (i.Occurs attribute nonterminal needs) =
-    record { number = 12; action = ItemAction.Occurs; right = refl; acts = λ places a. refl; begins = λ xs places h. h }
+    record { number = 13; action = ItemAction.Occurs; right = refl; acts = λ places a. refl; begins = λ xs places h. h }
 rule_of (i.ForwardOn nonterminal needs) =
-    record { number = 13; action = ItemAction.ForwardOn; right = refl; acts = λ places a. refl; begins = λ xs places h. h }
+    record { number = 14; action = ItemAction.ForwardOn; right = refl; acts = λ places a. refl; begins = λ xs places h. h }
 
 -- an item of names alone is derived
 pub plain_given : (a : SpecBuilder) (f : Row) (o : Lexeme) (u v : List Lexeme) (b : SpecBuilder) (one : PlainForm) → IsPlain (o ∷ u) one

@@ -12,7 +12,8 @@ use Rattle.wb_reader.specs.declared.part.Part.{Part}
 use Rattle.wb_reader_builder.specs.declared.actions.Action.{Action}
 use Rattle.wb_reader_builder.specs.declared.builder.SpecBuilder.{SpecBuilder}
 use Rattle.wb_text_tokens.specs.Kinds.{kind_of}
-use Rattle.wb_text_tokens.proofs.KindLaws.{word_by_kind, mark_by_kind, name_by_kind, number_by_kind, one_by_kind, string_by_kind}
+use Rattle.wb_text_tokens.proofs.KindLaws.{word_by_kind, mark_by_kind, name_by_kind, number_by_kind, one_by_kind, two_by_kind}
+use Rattle.wb_text_tokens.proofs.KindLaws.{string_by_kind}
 use Rattle.wb_text_tokens.proofs.KindLaws.{regex_by_kind}
 use Rattle.wb_reader.specs.Inner.RightSides.{right_sides}
 use Rattle.wb_reader_builder.specs.Builder.{with_name, with_integer, with_text, with_pattern}
@@ -70,6 +71,13 @@ pub one_taken : {f : Row} {w : List Lexeme} {a b : SpecBuilder} → Makes (Token
 one_taken {f = f} {a = a} {b = b} d =
     let r = taken d in
     let h = one_by_kind r.0.token r.2 in
+    (r.0, r.1, h, r.3, subst (λ z. Makes f r.1 (shift z r.0.at r.0.end a) b) h r.4)
+
+pub two_taken : {f : Row} {w : List Lexeme} {a b : SpecBuilder} → Makes (Token kind.Two ∷ f) w a b
+    → (x : Lexeme) × (v : List Lexeme) × IsInt (pos 2) x × (w ≡ x ∷ v) × Makes f v (with_integer (pos 2) a) b
+two_taken {f = f} {a = a} {b = b} d =
+    let r = taken d in
+    let h = two_by_kind r.0.token r.2 in
     (r.0, r.1, h, r.3, subst (λ z. Makes f r.1 (shift z r.0.at r.0.end a) b) h r.4)
 
 pub string_taken : {f : Row} {w : List Lexeme} {a b : SpecBuilder} → Makes (Token kind.String ∷ f) w a b

@@ -7,19 +7,20 @@ use Rattle.wb_text_predictive.specs.declared.symbol.Symbol.TheVariants.{Nontermi
 use Rattle.wb_text_predictive.specs.Grammar.{done, CanStart as CanStartTable}
 use Rattle.wb_text_predictive.specs.declared.reading.Outcome.{Outcome}
 use Rattle.wb_text_predictive.specs.declared.reading.Outcome.TheVariants.{Whole, Stopped}
-use Rattle.wb_text_predictive.specs.Reading.{IsOutcome, IsReading, IsFirstFault as IsTableFault, CannotFollow as CannotFollowTable}
-use Rattle.wb_text_tokens.specs.declared.token.Layout.TheVariants.{WithComments}
+use Rattle.wb_text_predictive.specs.Reading.{Spells, IsOutcome, IsReading, IsFirstFault as IsTableFault, CannotFollow as CannotFollowTable}
+use Rattle.wb_text_tokens.specs.declared.token.Dialect.{Dialect}
 use Rattle.wb_text_tokens.specs.declared.token.Token.{Token}
 use Rattle.wb_text_tokens.specs.NextToken.{IsNextIn}
 use Rattle.wb_syntax.specs.declared.written.WrittenSpec.{WrittenSpec}
 use Rattle.wb_syntax.specs.Tokens.{Lexeme}
 use Rattle.wb_syntax.specs.ItemGrammar.{IsSpecification, whole}
-use Rattle.wb_syntax.specs.SpecText.{IsWrittenText}
+use Rattle.wb_syntax.specs.SpecText.{IsWrittenText, dialect_of}
 use Rattle.wb_reader.specs.declared.part.Part.{Part}
 use Rattle.wb_reader_builder.specs.declared.builder.SpecBuilder.{SpecBuilder}
 use Rattle.wb_reader_builder.specs.Builder.{empty, written_of}
 use Rattle.wb_reader.specs.Inner.Table.{spec_grammar}
-use Rattle.wb_reader.specs.Refusals.{CanBegin, CannotFollow, IsSyntaxFault}
+use Rattle.wb_reader.specs.Refusals.{IsDialectOf, CanBegin, CannotFollow, IsFaultIn, IsSyntaxFault}
+use Rattle.wb_reader.proofs.HeadLemmas.{spec_head, spec_format, head_own}
 use Rattle.wb_reader.proofs.Taking.{Makes, Row}
 use Rattle.wb_reader.proofs.ItemSound.{file_sound, finished}
 use Rattle.wb_reader.proofs.ItemComplete.{file_given}
@@ -52,24 +53,25 @@ written_finished : (w : List Lexeme) (spec : WrittenSpec) → IsSpecification w 
 written_finished w spec (whole h known i j k l e) = refl
 
 -- a text that the table has read whole
-pub written_whole : (bytes : List ℕ) (last : SpecBuilder) → IsReading spec_grammar (IsNextIn WithComments bytes) empty last
-    → IsWrittenText bytes (written_of last)
-written_whole bytes last r =
+pub written_whole : (bytes : List ℕ) (dialect : Dialect) → IsDialectOf bytes dialect → (last : SpecBuilder)
+    → IsReading spec_grammar (IsNextIn dialect bytes) empty last → IsWrittenText bytes (written_of last)
+written_whole bytes dialect own last r =
     let s = spec_of_text r.tokens last r.text in
     let e : written_of last ≡ s.0 = ap written_of (sym s.2) ∙ written_finished r.tokens s.0 s.1 in
-    record {
+    let said : dialect ≡ dialect_of s.0.format =
+    head_own bytes dialect s.0.format r.tokens r.to own (spec_format r.tokens s.0 s.1) r.spelled (spec_head r.tokens s.0 s.1) in
+    subst (λ x. IsWrittenText bytes x) (sym e) (record {
       tokens = r.tokens;
       to = r.to;
       at = r.at;
-      spelled = r.spelled;
-      ended = r.ended;
-      specification =
-          subst (λ x. IsSpecification r.tokens x) (sym e) s.1;
-    }
+      spelled = subst (λ d. Spells (IsNextIn d bytes) 0 r.tokens r.to) said r.spelled;
+      ended = subst (λ d. IsNextIn d bytes r.to (End r.at)) said r.ended;
+      specification = s.1;
+    })
 
 -- and one that is in the grammar is read whole
 pub whole_written : (bytes : List ℕ) (spec : WrittenSpec) → IsWrittenText bytes spec
-    → IsReading spec_grammar (IsNextIn WithComments bytes) empty (finished empty spec)
+    → IsReading spec_grammar (IsNextIn (dialect_of spec.format) bytes) empty (finished empty spec)
 whole_written bytes spec r =
     record {
       tokens = r.tokens;
@@ -98,8 +100,9 @@ follows_table front (End at) h = λ last d. let s = spec_of_text front last d in
 follows_table front (NoToken at) h = tt
 
 -- where the table has its first error the text does
-pub syntax_fault : (bytes : List ℕ) (at : ℕ) → IsTableFault spec_grammar (IsNextIn WithComments bytes) empty at → IsSyntaxFault bytes at
-syntax_fault bytes at r =
+pub fault_in : (bytes : List ℕ) (dialect : Dialect) (at : ℕ) → IsTableFault spec_grammar (IsNextIn dialect bytes) empty at
+    → IsFaultIn dialect bytes at
+fault_in bytes dialect at r =
     record {
       front = r.front;
       from = r.from;
@@ -111,8 +114,9 @@ syntax_fault bytes at r =
       place = r.place;
     }
 
-pub table_fault : (bytes : List ℕ) (at : ℕ) → IsSyntaxFault bytes at → IsTableFault spec_grammar (IsNextIn WithComments bytes) empty at
-table_fault bytes at r =
+pub table_fault : (bytes : List ℕ) (dialect : Dialect) (at : ℕ) → IsFaultIn dialect bytes at
+    → IsTableFault spec_grammar (IsNextIn dialect bytes) empty at
+table_fault bytes dialect at r =
     record {
       front = r.front;
       from = r.from;
@@ -125,18 +129,22 @@ table_fault bytes at r =
     }
 
 -- the same of an outcome that a reading from the empty parts has
-pub whole_outcome : (bytes : List ℕ) (first : SpecBuilder) → first ≡ empty → (o : Outcome SpecBuilder)
-    → IsOutcome spec_grammar (IsNextIn WithComments bytes) first o → (last : SpecBuilder) → o ≡ Whole last
+pub whole_outcome : (bytes : List ℕ) (dialect : Dialect) → IsDialectOf bytes dialect → (first : SpecBuilder) → first ≡ empty
+    → (o : Outcome SpecBuilder) → IsOutcome spec_grammar (IsNextIn dialect bytes) first o → (last : SpecBuilder) → o ≡ Whole last
     → IsWrittenText bytes (written_of last)
-whole_outcome bytes first e o r last h =
-    written_whole bytes last (subst (λ x. IsOutcome spec_grammar (IsNextIn WithComments bytes) x (Whole last)) e
-    (subst (λ x. IsOutcome spec_grammar (IsNextIn WithComments bytes) first x) h r))
+whole_outcome bytes dialect own first e o r last h =
+    written_whole bytes dialect own last (subst (λ x. IsOutcome spec_grammar (IsNextIn dialect bytes) x (Whole last)) e
+    (subst (λ x. IsOutcome spec_grammar (IsNextIn dialect bytes) first x) h r))
 
-pub stopped_outcome : (bytes : List ℕ) (first : SpecBuilder) → first ≡ empty → (o : Outcome SpecBuilder)
-    → IsOutcome spec_grammar (IsNextIn WithComments bytes) first o → (at : ℕ) → o ≡ Stopped at → IsSyntaxFault bytes at
-stopped_outcome bytes first e o r at h =
-    syntax_fault bytes at (subst (λ x. IsOutcome spec_grammar (IsNextIn WithComments bytes) x (Stopped at)) e
-    (subst (λ x. IsOutcome spec_grammar (IsNextIn WithComments bytes) first x) h r))
+pub stopped_outcome : (bytes : List ℕ) (dialect : Dialect) → IsDialectOf bytes dialect → (first : SpecBuilder) → first ≡ empty
+    → (o : Outcome SpecBuilder) → IsOutcome spec_grammar (IsNextIn dialect bytes) first o → (at : ℕ) → o ≡ Stopped at
+    → IsSyntaxFault bytes at
+stopped_outcome bytes dialect own first e o r at h = record {
+  dialect = dialect;
+  own = own;
+  fault = fault_in bytes dialect at (subst (λ x. IsOutcome spec_grammar (IsNextIn dialect bytes) x (Stopped at)) e
+      (subst (λ x. IsOutcome spec_grammar (IsNextIn dialect bytes) first x) h r));
+}
 
 -- the parts of a text's specification are that specification
 pub written_finished_of : (bytes : List ℕ) (spec : WrittenSpec) → IsWrittenText bytes spec → written_of (finished empty spec) ≡ spec

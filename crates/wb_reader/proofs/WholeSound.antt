@@ -19,7 +19,7 @@ use Rattle.wb_reader_builder.specs.declared.builder.SpecBuilder.{SpecBuilder}
 use Rattle.wb_reader.specs.Inner.RightSides.{right_sides}
 use Rattle.wb_reader_builder.specs.Builder.{with_name, with_integer}
 use Rattle.wb_reader.proofs.Taking.{Row, Makes, Split, OneOf, chosen, acted, word_taken, mark_taken, name_taken, number_taken, one_taken}
-use Rattle.wb_reader.proofs.Taking.{string_taken}
+use Rattle.wb_reader.proofs.Taking.{two_taken, string_taken}
 use Rattle.wb_syntax_expressions.proofs.AppendLemmas.{all_behind_len, if_nodes, if_root}
 use Rattle.wb_reader.proofs.ExpressionSound.{begun, grown, ExpressionBelow, rooted, arguments_of_rows, tail_of_rows}
 use Rattle.wb_lemmas.proofs.Parts.{joined_one}
@@ -29,8 +29,9 @@ integer_of_rows : {f : Row} {w : List Lexeme} {a b : SpecBuilder} → OneOf (rig
     → Split (λ u z. (x : Lexeme) × IsInt z x × (u ≡ x ∷ [])) (λ z. with_integer z a) f w b
 unfolding right_sides
 integer_of_rows (inl d) = let r = one_taken d in (r.0 ∷ [], r.1, pos 1, (r.0, r.2, refl), r.3, r.4)
-integer_of_rows (inr (inl d)) = let r = number_taken d in (r.0 ∷ [], r.1, r.2, (r.0, r.3, refl), r.4, r.5)
-integer_of_rows (inr (inr e)) = absurd e
+integer_of_rows (inr (inl d)) = let r = two_taken d in (r.0 ∷ [], r.1, pos 2, (r.0, r.2, refl), r.3, r.4)
+integer_of_rows (inr (inr (inl d))) = let r = number_taken d in (r.0 ∷ [], r.1, r.2, (r.0, r.3, refl), r.4, r.5)
+integer_of_rows (inr (inr (inr e))) = absurd e
 
 -- a choice, where expressions over fewer tokens are known
 if_split : (m : ℕ) (E : ExpressionBelow m) (a : SpecBuilder) (list : List Node) (rest : List (List Node)) (f : Row) (w v : List Lexeme)

@@ -1,12 +1,13 @@
 -- What the place of a first error says of bytes.
 use Rattle.std.specs.Prelude.{◌≡◌, ◌≤◌, ◌<◌, ◌⊎◌, ℕ, List, [], ◌∷◌, ◌++◌, All, length, slice_index, take}
+use Rattle.wb_text_tokens.specs.declared.token.Dialect.{Dialect}
 use Rattle.wb_text_tokens.specs.declared.token.Token.{Token}
 use Rattle.wb_text_tokens.specs.NextToken.{IsTokenAt, GoesOver}
 use Rattle.wb_text_tokens.specs.Skipping.{IsComment}
 use Rattle.wb_syntax.specs.declared.written.WrittenSpec.{WrittenSpec}
-use Rattle.wb_syntax.specs.SpecText.{IsWrittenText}
+use Rattle.wb_syntax.specs.SpecText.{IsWrittenText, dialect_of}
 use Rattle.wb_reader.specs.declared.refusal.SpecRefusal.TheVariants.{Syntax}
-use Rattle.wb_reader.specs.Refusals.{HasCause}
+use Rattle.wb_reader.specs.Refusals.{HasCause, IsDialectOf}
 
 -- some specification's text begins with these bytes
 pub record BeginsText (front : List ℕ) : Type 0 where
@@ -26,8 +27,8 @@ pub record IsLineEnd (bytes : List ℕ) (at end : ℕ) : Type 0 where
   pub ended : end < length bytes → slice_index bytes end ≡ 10
 
 -- a token of the text begins at the first place or before it, or a comment at it, and goes on over the second
-abbrev pub SomethingGoesOver : List ℕ → ℕ → ℕ → Type 0
-SomethingGoesOver text at end = GoesOver text at end ⊎ ((behind : ℕ) × IsComment text at behind × (end < behind))
+abbrev pub SomethingGoesOver : Dialect → List ℕ → ℕ → ℕ → Type 0
+SomethingGoesOver dialect text at end = GoesOver dialect text at end ⊎ ((behind : ℕ) × IsComment text at behind × (end < behind))
 
 -- The bytes before the place begin some specification's text, and with what is at the place none does.
 pub record IsFaultOfBytes (bytes : List ℕ) (at : ℕ) : Type 0 where
@@ -36,15 +37,17 @@ pub record IsFaultOfBytes (bytes : List ℕ) (at : ℕ) : Type 0 where
   -- the bytes themselves are none
   pub none : (written : WrittenSpec) → ¬ IsWrittenText bytes written
   -- with the token at the place, ended by a line feed, no text begins
-  pub token : (token : Token) (end : ℕ) → IsTokenAt bytes token at end → BeginsNone (take end bytes ++ 10 ∷ [])
+  pub token : (dialect : Dialect) → IsDialectOf bytes dialect → (token : Token) (end : ℕ) → IsTokenAt dialect bytes token at end
+      → BeginsNone (take end bytes ++ 10 ∷ [])
   -- and without that line feed, only a text in which a token goes on over that end, as `f` goes on to be `format`
-  pub over : (token : Token) (end : ℕ) → IsTokenAt bytes token at end → (rest : List ℕ) (written : WrittenSpec)
-      → IsWrittenText (take end bytes ++ rest) written → GoesOver (take end bytes ++ rest) at end
+  pub over : (dialect : Dialect) → IsDialectOf bytes dialect → (token : Token) (end : ℕ) → IsTokenAt dialect bytes token at end
+      → (rest : List ℕ) (written : WrittenSpec) → IsWrittenText (take end bytes ++ rest) written
+      → GoesOver (dialect_of written.format) (take end bytes ++ rest) at end
   -- whether a token is at the place or not: with the bytes up to the end of its line, or of a later one, and a line feed, no text begins
   pub line : (end : ℕ) → IsLineEnd bytes at end → BeginsNone (take end bytes ++ 10 ∷ [])
   -- and without that line feed, only a text in which a token or a comment goes on over that end, as a string that was not ended
   pub over_line : (end : ℕ) → IsLineEnd bytes at end → (rest : List ℕ) (written : WrittenSpec)
-      → IsWrittenText (take end bytes ++ rest) written → SomethingGoesOver (take end bytes ++ rest) at end
+      → IsWrittenText (take end bytes ++ rest) written → SomethingGoesOver (dialect_of written.format) (take end bytes ++ rest) at end
 
 -- this is so of the place of each refusal for syntax
 abbrev pub FaultsAreFirst : Type 0

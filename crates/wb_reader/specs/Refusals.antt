@@ -3,7 +3,8 @@ use Rattle.std.specs.Prelude.{◌≡◌, ◌≢◌, ◌≤◌, ◌<◌, ◌+◌,
 use Rattle.wb_text_predictive.specs.declared.table.Next.{Next}
 use Rattle.wb_text_predictive.specs.declared.table.Next.TheVariants.{Found, End, NoToken}
 use Rattle.wb_text_predictive.specs.Reading.{Spells, place_of}
-use Rattle.wb_text_tokens.specs.declared.token.Layout.TheVariants.{WithComments}
+use Rattle.wb_text_tokens.specs.declared.token.Dialect.{Dialect}
+use Rattle.wb_text_tokens.specs.declared.token.Dialect.TheVariants.{Terms, FormatOne, FormatTwo}
 use Rattle.wb_text_tokens.specs.declared.token.Token.{Token}
 use Rattle.wb_text_tokens.specs.declared.token.Token.TheVariants as t
 use Rattle.wb_text_tokens.specs.declared.word.Word.TheVariants as w
@@ -28,20 +29,34 @@ use Rattle.wb_reader.specs.declared.refusal.SpecRefusal.TheVariants.{TooLong, Wr
 abbrev pub IsShort : List ℕ → Type 0
 IsShort bytes = length bytes ≤ 1048576
 
--- the token is an integer other than 1
-abbrev pub IsOtherNumber : Token → Type 0
-IsOtherNumber token = (value : ℤ) × (token ≡ t.Int value) × (value ≢ pos 1)
-
--- the bytes begin with `format`, an integer other than 1, and `;`
-pub record IsOtherFormat (bytes : List ℕ) : Type 0 where
+-- the bytes begin with `format`, such an integer, and `;`, which are the same tokens in both formats
+pub record BeginsWithFormat (bytes : List ℕ) (IsNumber : Token → Type 0) : Type 0 where
   pub word : Lexeme
   pub number : Lexeme
   pub mark : Lexeme
   pub to : ℕ
-  pub spelled : Spells (IsNextIn WithComments bytes) 0 (word ∷ number ∷ mark ∷ []) to
+  pub spelled : Spells (IsNextIn FormatOne bytes) 0 (word ∷ number ∷ mark ∷ []) to
   pub is_format : IsWord w.Format word
-  pub is_other : IsOtherNumber number.token
+  pub is_number : IsNumber number.token
   pub is_semicolon : IsMark p.Semicolon mark
+
+-- the token is an integer other than 1 and 2
+abbrev pub IsOtherNumber : Token → Type 0
+IsOtherNumber token = (value : ℤ) × (token ≡ t.Int value) × (value ≢ pos 1) × (value ≢ pos 2)
+
+-- the bytes begin with `format`, an integer other than 1 and 2, and `;`
+abbrev pub IsOtherFormat : List ℕ → Type 0
+IsOtherFormat bytes = BeginsWithFormat bytes IsOtherNumber
+
+-- the token is the integer 2
+abbrev pub IsTwo : Token → Type 0
+IsTwo token = token ≡ t.Int (pos 2)
+
+-- the dialect of the bytes: that of format 2 where they begin with `format`, the integer 2 and `;`, and else that of format 1
+abbrev pub IsDialectOf : List ℕ → Dialect → Type 0
+IsDialectOf bytes Terms = ⊥
+IsDialectOf bytes FormatOne = ¬ BeginsWithFormat bytes IsTwo
+IsDialectOf bytes FormatTwo = BeginsWithFormat bytes IsTwo
 
 -- some specification begins with these tokens
 pub record CanBegin (front : List Lexeme) : Type 0 where
@@ -55,16 +70,23 @@ CannotFollow front (Found x) = ¬ CanBegin (front ++ x ∷ [])
 CannotFollow front (End at) = (spec : WrittenSpec) → ¬ IsSpecification front spec
 CannotFollow front (NoToken at) = Unit {0}
 
--- at this place stands the first thing that can't follow the tokens before it, with which some specification begins
-pub record IsSyntaxFault (bytes : List ℕ) (at : ℕ) : Type 0 where
+-- by the tokens of the dialect, at this place stands the first thing that can't follow the tokens before it, with which some specification
+-- begins
+pub record IsFaultIn (dialect : Dialect) (bytes : List ℕ) (at : ℕ) : Type 0 where
   pub front : List Lexeme
   pub from : ℕ
   pub next : Next Token
-  pub spelled : Spells (IsNextIn WithComments bytes) 0 front from
+  pub spelled : Spells (IsNextIn dialect bytes) 0 front from
   pub before : CanBegin front
-  pub stands : IsNextIn WithComments bytes from next
+  pub stands : IsNextIn dialect bytes from next
   pub fault : CannotFollow front next
   pub place : place_of next ≡ at
+
+-- by the tokens of the bytes' own dialect, the first thing that can't follow stands at this place
+pub record IsSyntaxFault (bytes : List ℕ) (at : ℕ) : Type 0 where
+  pub dialect : Dialect
+  pub own : IsDialectOf bytes dialect
+  pub fault : IsFaultIn dialect bytes at
 
 -- the form has no regular expression, or one that is taken
 abbrev pub IsTakenForm : ItemForm WrittenPattern → Type 0

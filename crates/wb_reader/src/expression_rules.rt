@@ -17,7 +17,7 @@ use wb_text_tokens::{Punctuation, TokenKind, Word};
 
 pub(crate) static EXPRESSION: [SpecRule; 9] = [
     Rule {
-        kinds: &[TokenKind::One, TokenKind::Number],
+        kinds: &[TokenKind::One, TokenKind::Two, TokenKind::Number],
         right: &[
             Nonterminal(Part::Integer),
             Act(Action::Expression(ExpressionAction::Number)),
@@ -154,6 +154,7 @@ pub(crate) static ARGUMENTS: [SpecRule; 2] = [
             TokenKind::Mark(Punctuation::At),
             TokenKind::Name,
             TokenKind::One,
+            TokenKind::Two,
             TokenKind::Number,
             TokenKind::String,
         ],
@@ -181,10 +182,14 @@ pub(crate) static FURTHER_ARGUMENTS: [SpecRule; 2] = [
     },
 ];
 
-pub(crate) static INTEGER: [SpecRule; 2] = [
+pub(crate) static INTEGER: [SpecRule; 3] = [
     Rule {
         kinds: &[TokenKind::One],
         right: &[Token(TokenKind::One)],
+    },
+    Rule {
+        kinds: &[TokenKind::Two],
+        right: &[Token(TokenKind::Two)],
     },
     Rule {
         kinds: &[TokenKind::Number],

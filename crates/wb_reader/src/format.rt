@@ -1,4 +1,4 @@
-//! Does a text say that it is of another format?
+//! Of which format does a text say that it is?
 //!
 //! It does by its first three tokens, whatever comes after. Each is let go before the next is read.
 
@@ -6,32 +6,47 @@ ghost use Rattle.std.specs.Prelude.{◌≡◌, ◌≤◌, ◌↔◌, IfOk, IsTru
 ghost use Rattle.wb_text_tokens.specs.declared.token.Token.TheVariants as t;
 ghost use Rattle.wb_text_tokens.specs.declared.word.Word.TheVariants as w;
 ghost use Rattle.wb_text_tokens.specs.declared.punctuation.Punctuation.TheVariants as p;
-ghost use Rattle.wb_reader.specs.Refusals.{IsOtherNumber, IsOtherFormat};
-ghost use Rattle.wb_reader.specs.Inner.Format.{IsWanted, IsEndWhere, IsNextEnd};
+ghost use Rattle.wb_reader.specs.Refusals.{BeginsWithFormat, IsOtherNumber, IsTwo};
+ghost use Rattle.wb_reader.specs.Inner.Format.{IsWanted, IsEndWhere, IsNextEnd, IsDialectFound};
 
 use std::alloc::{AllocError, Global};
 use wb_text_predictive::{Next, Placed};
-use wb_text_tokens::{Layout, Punctuation, Token, Word, next_token};
+use wb_text_tokens::{Dialect, Punctuation, Token, Word, next_token};
 
 // What the three tokens are, in their order.
 #[derive(Clone, Copy)]
 pub(crate) enum Wanted {
     // The word `format`.
     Format,
-    // An integer other than 1.
+    // An integer other than 1 and 2.
     OtherNumber,
+    // The integer 2.
+    Two,
     // A semicolon.
     Semicolon,
 }
 
-// Whether a text begins with `format`, an integer other than 1, and `;`.
-pub(crate) fn is_other_format(alloc: Global, bytes: &[u8]) -> Result<bool, AllocError>
-    ensures { IfOk result (λ other. IsTrue other ↔ IsOtherFormat bytes.now) }
+// The dialect of a text's tokens, or none where it says that it is of another format.
+pub(crate) fn dialect_in(alloc: Global, bytes: &[u8]) -> Result<Option<Dialect>, AllocError>
+    ensures { IfOk result (IsDialectFound bytes.now) }
+{
+    if begins_with(alloc, bytes, Wanted::OtherNumber)? {
+        return Ok(None);
+    }
+    if begins_with(alloc, bytes, Wanted::Two)? {
+        return Ok(Some(Dialect::FormatTwo));
+    }
+    Ok(Some(Dialect::FormatOne))
+}
+
+// Whether a text begins with `format`, an integer as wanted, and `;`.
+fn begins_with(alloc: Global, bytes: &[u8], wanted: Wanted) -> Result<bool, AllocError>
+    ensures { IfOk result (λ so. IsTrue so ↔ BeginsWithFormat bytes.now (IsWanted wanted)) }
 {
     let Some(word) = next_end(alloc, bytes, 0, Wanted::Format)? else {
         return Ok(false);
     };
-    let Some(number) = next_end(alloc, bytes, word, Wanted::OtherNumber)? else {
+    let Some(number) = next_end(alloc, bytes, word, wanted)? else {
         return Ok(false);
     };
     let mark = next_end(alloc, bytes, number, Wanted::Semicolon)?;
@@ -49,7 +64,7 @@ fn next_end(
     ensures next { IfOk result (IsNextEnd bytes.now from wanted) }
     ensures within { IfOk result (λ found. MatchOption found (Unit {0}) (λ end. end ≤ length bytes.now)) }
 {
-    match next_token(alloc, bytes, from, Layout::WithComments)? {
+    match next_token(alloc, bytes, from, Dialect::FormatOne)? {
         Next::Found(lexeme) => Ok(end_where(wanted, &lexeme)),
         Next::End { at: _ } => Ok(None),
         Next::NoToken { at: _ } => Ok(None),
@@ -74,6 +89,7 @@ fn is_wanted(wanted: Wanted, token: &Token) -> bool
     match wanted {
         Wanted::Format => is_format(token),
         Wanted::OtherNumber => is_other_number(token),
+        Wanted::Two => is_two(token),
         Wanted::Semicolon => is_semicolon(token),
     }
 }
@@ -88,12 +104,22 @@ fn is_format(token: &Token) -> bool
     }
 }
 
-// Whether a token is an integer other than 1.
+// Whether a token is an integer other than 1 and 2.
 fn is_other_number(token: &Token) -> bool
     ensures { IsTrue result ↔ IsOtherNumber token.now }
 {
     match token {
-        Token::Int(value) => *value != 1,
+        Token::Int(value) => *value != 1 && *value != 2,
+        _ => false,
+    }
+}
+
+// Whether a token is the integer 2.
+fn is_two(token: &Token) -> bool
+    ensures { IsTrue result ↔ IsTwo token.now }
+{
+    match token {
+        Token::Int(value) => *value == 2,
         _ => false,
     }
 }

@@ -1,13 +1,14 @@
 //! The rules of headers, items and productions.
 //!
 //! ```text
-//! file       = 'format' 1 ';' header item*
+//! file       = 'format' format ';' header item*
+//! format     = 1 | 2
 //! header     = 'host' NAME ';' | 'extension' NAME 'for' NAME ';'
 //! item       = ('terminal' | 'ignore' | 'marking') NAME REGEX ';'
 //!            | ('concrete' | 'abstract') production
 //!            | 'aspect' NAME block
 //!            | 'prefer' NAME 'over' NAME ';'
-//!            | ('nonterminal' | 'start' | 'extensible') NAME ';'
+//!            | ('nonterminal' | 'start' | 'extensible' | 'closed') NAME ';'
 //!            | ('syn' | 'inh') NAME ':' kind ';'
 //!            | 'occurs' NAME 'on' NAME [needs] ';'
 //!            | 'forward' 'on' NAME needs ';'
@@ -25,13 +26,24 @@ pub(crate) static FILE: [SpecRule; 1] = [Rule {
     kinds: &[TokenKind::Word(Word::Format)],
     right: &[
         Token(TokenKind::Word(Word::Format)),
-        Token(TokenKind::One),
+        Nonterminal(Part::Format),
         Token(TokenKind::Mark(Punctuation::Semicolon)),
         Act(Action::Item(ItemAction::Begin)),
         Nonterminal(Part::Header),
         Nonterminal(Part::Items),
     ],
 }];
+
+pub(crate) static FORMAT: [SpecRule; 2] = [
+    Rule {
+        kinds: &[TokenKind::One],
+        right: &[Token(TokenKind::One)],
+    },
+    Rule {
+        kinds: &[TokenKind::Two],
+        right: &[Token(TokenKind::Two)],
+    },
+];
 
 pub(crate) static HEADER: [SpecRule; 2] = [
     Rule {
@@ -73,6 +85,7 @@ pub(crate) static ITEMS: [SpecRule; 2] = [
             TokenKind::Word(Word::Nonterminal),
             TokenKind::Word(Word::Start),
             TokenKind::Word(Word::Extensible),
+            TokenKind::Word(Word::Closed),
             TokenKind::Word(Word::Syn),
             TokenKind::Word(Word::Inh),
             TokenKind::Word(Word::Occurs),
@@ -82,7 +95,7 @@ pub(crate) static ITEMS: [SpecRule; 2] = [
     },
 ];
 
-pub(crate) static ITEM: [SpecRule; 14] = [
+pub(crate) static ITEM: [SpecRule; 15] = [
     Rule {
         kinds: &[TokenKind::Word(Word::Terminal)],
         right: &[
@@ -174,6 +187,15 @@ pub(crate) static ITEM: [SpecRule; 14] = [
             Token(TokenKind::Name),
             Token(TokenKind::Mark(Punctuation::Semicolon)),
             Act(Action::Item(ItemAction::Extensible)),
+        ],
+    },
+    Rule {
+        kinds: &[TokenKind::Word(Word::Closed)],
+        right: &[
+            Token(TokenKind::Word(Word::Closed)),
+            Token(TokenKind::Name),
+            Token(TokenKind::Mark(Punctuation::Semicolon)),
+            Act(Action::Item(ItemAction::Closed)),
         ],
     },
     Rule {

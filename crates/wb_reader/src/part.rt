@@ -10,6 +10,7 @@ use wb_text_tokens::TokenKind;
 #[derive(Clone, Copy)]
 pub(crate) enum Part {
     File,
+    Format,
     Header,
     Items,
     Item,

@@ -217,6 +217,7 @@ pub(crate) static VALUE: [SpecRule; 1] = [Rule {
         TokenKind::Mark(Punctuation::At),
         TokenKind::Name,
         TokenKind::One,
+        TokenKind::Two,
         TokenKind::Number,
         TokenKind::String,
     ],

@@ -10,7 +10,7 @@ use wb_base::Bytes;
 pub enum SpecRefusal {
     /// S2: there are more than 1,048,576 bytes.
     TooLong,
-    /// S3: they begin with `format`, an integer other than 1, and `;`.
+    /// S3: they begin with `format`, an integer other than 1 and 2, and `;`.
     WrongFormat,
     /// S1: at this offset stands the first token that can't follow those before it in any specification, or bytes that no token
     /// begins. Where the file ends too early, the offset is its length.

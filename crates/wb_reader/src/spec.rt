@@ -6,7 +6,7 @@ ghost use Rattle.std.specs.Prelude.{◌≡◌, IfOk, IfErr};
 ghost use Rattle.wb_syntax.specs.SpecText.{SpecView};
 ghost use Rattle.wb_reader.specs.Refusals.{HasCause, IsAcceptedText};
 
-use crate::format::is_other_format;
+use crate::format::dialect_in;
 use crate::patterns::read_items;
 use crate::refusal::SpecRefusal;
 use crate::written::read_written;
@@ -27,10 +27,10 @@ pub fn read_spec(alloc: Global, bytes: &[u8]) -> Result<Spec, SpecRefusal>
     if bytes.len() > FILE_LIMIT {
         return Err(SpecRefusal::TooLong);
     }
-    if is_other_format(alloc, bytes)? {
+    let Some(dialect) = dialect_in(alloc, bytes)? else {
         return Err(SpecRefusal::WrongFormat);
-    }
-    let written = read_written(alloc, bytes)?;
+    };
+    let written = read_written(alloc, bytes, dialect)?;
     let items = read_items(alloc, written.items.into_vec())?;
     let spec = Spec::new(
         written.format,

@@ -13,7 +13,7 @@ ghost use Rattle.wb_text_tokens.specs.NextToken.{IsNextIn};
 ghost use Rattle.wb_text_tokens.proofs.PlacedLaws.{one_next, advances};
 
 use crate::expression_rules::{ARGUMENTS, EXPRESSION, FURTHER_ARGUMENTS, INTEGER, READ, TAIL};
-use crate::item_rules::{FILE, HEADER, ITEM, ITEMS, PRODUCTION};
+use crate::item_rules::{FILE, FORMAT, HEADER, ITEM, ITEMS, PRODUCTION};
 use crate::part::Part;
 use crate::part_rules::{
     BLOCK, CHILDREN, EQUATION, EQUATIONS, FURTHER_NAMES, KIND, NAMES, NEEDS, OPTIONAL_NEEDS, VALUE,
@@ -21,10 +21,13 @@ use crate::part_rules::{
 use std::alloc::{AllocError, Global};
 use wb_reader_builder::{Action, SpecBuilder, act};
 use wb_text_predictive::{Next, Rule, Table};
-use wb_text_tokens::{Layout, Token, TokenKind, next_token};
+use wb_text_tokens::{Dialect, Token, TokenKind, next_token};
 
-// The table of specifications.
-pub(crate) struct SpecTable;
+// The table of specifications whose tokens are of this dialect.
+#[derive(Clone, Copy)]
+pub(crate) struct SpecTable {
+    pub(crate) dialect: Dialect,
+}
 
 impl Table for SpecTable {
     type Kind = TokenKind;
@@ -38,7 +41,6 @@ impl Table for SpecTable {
     type Values = SpecBuilder;
 
     ghost use Rattle.wb_text_tokens.specs.declared.kind.TokenKind.TheVariants.{End};
-    ghost use Rattle.wb_text_tokens.specs.declared.token.Layout.TheVariants.{WithComments};
 
     ghost grammar = { spec_grammar };
 
@@ -46,15 +48,15 @@ impl Table for SpecTable {
 
     ghost entries = { lookahead_table };
 
-    ghost IsNext = { IsNextIn WithComments };
+    ghost IsNext = { λ table. IsNextIn table.dialect };
 
     ghost same = { kinds_same };
 
     ghost sampled = { kinds_sampled };
 
-    ghost one_next = { one_next WithComments };
+    ghost one_next = { λ table. one_next table.dialect };
 
-    ghost advances = { advances WithComments };
+    ghost advances = { λ table. advances table.dialect };
 
     ghost decided = { spec_decided };
 
@@ -76,6 +78,7 @@ impl Table for SpecTable {
     fn rules(&self, part: Part) -> &[Rule<'_, TokenKind, Part, Action>] {
         match part {
             Part::File => &FILE,
+            Part::Format => &FORMAT,
             Part::Header => &HEADER,
             Part::Items => &ITEMS,
             Part::Item => &ITEM,
@@ -100,7 +103,7 @@ impl Table for SpecTable {
     }
 
     fn next(&self, alloc: Global, text: &[u8], from: usize) -> Result<Next<Token>, AllocError> {
-        next_token(alloc, text, from, Layout::WithComments)
+        next_token(alloc, text, from, self.dialect)
     }
 
     fn shift(

@@ -20,6 +20,7 @@ use Rattle.wb_reader_builder.specs.Builder.{with_start, on_top}
 abbrev pub word_shift : Word → ℕ → SpecBuilder → SpecBuilder
 word_shift w.Abstract at v = with_start at v
 word_shift w.Aspect at v = with_start at v
+word_shift w.Closed at v = with_start at v
 word_shift w.Concrete at v = with_start at v
 word_shift w.Extensible at v = with_start at v
 word_shift w.Forward at v = with_start at v
@@ -39,7 +40,7 @@ word_shift word at v = v
 
 -- the format of which this is the number, or 0 where it is of none that is known
 abbrev pub format_of : ℤ → ℕ
-format_of (pos n) = if n == 1 then 1 else 0
+format_of (pos n) = if n == 1 then 1 else if n == 2 then 2 else 0
 format_of (negsuc n) = 0
 
 -- the number of the format was read
@@ -134,6 +135,7 @@ item_act ItemAction.Prefer v = with_pair (λ first second. f.Plain (i.Prefer fir
 item_act ItemAction.Nonterminal v = with_named (λ name. f.Plain (i.Nonterminal name)) v
 item_act ItemAction.Start v = with_named (λ name. f.Plain (i.Start name)) v
 item_act ItemAction.Extensible v = with_named (λ name. f.Plain (i.Extensible name)) v
+item_act ItemAction.Closed v = with_named (λ name. f.Plain (i.Closed name)) v
 item_act ItemAction.Synthesized v = with_attribute (λ name kind. i.Synthesized name kind) v
 item_act ItemAction.Inherited v = with_attribute (λ name kind. i.Inherited name kind) v
 item_act ItemAction.Occurs v = with_occurs v

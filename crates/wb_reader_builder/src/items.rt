@@ -27,6 +27,7 @@ pub enum ItemAction {
     Nonterminal,
     Start,
     Extensible,
+    Closed,
     Synthesized,
     Inherited,
     Occurs,
@@ -63,6 +64,7 @@ pub(crate) fn item_act(
         ItemAction::Nonterminal => values.add_nonterminal(),
         ItemAction::Start => values.add_start(),
         ItemAction::Extensible => values.add_extensible(),
+        ItemAction::Closed => values.add_closed(),
         ItemAction::Synthesized => values.add_synthesized(),
         ItemAction::Inherited => values.add_inherited(),
         ItemAction::Occurs => values.add_occurs(),
@@ -78,7 +80,13 @@ pub(crate) fn item_act(
 fn format_of(value: i64) -> u32
     ensures { result ≡ format_of value }
 {
-    if value == 1 { 1 } else { 0 }
+    if value == 1 {
+        1
+    } else if value == 2 {
+        2
+    } else {
+        0
+    }
 }
 
 impl SpecBuilder {
@@ -89,6 +97,7 @@ impl SpecBuilder {
         match word {
             Word::Abstract => self.read_start(at),
             Word::Aspect => self.read_start(at),
+            Word::Closed => self.read_start(at),
             Word::Concrete => self.read_start(at),
             Word::Extensible => self.read_start(at),
             Word::Forward => self.read_start(at),
@@ -223,6 +232,16 @@ impl SpecBuilder {
             return Ok(());
         };
         self.add_item(ItemForm::Plain(PlainForm::Extensible(name.bytes)))
+    }
+
+    // A nonterminal is closed.
+    fn add_closed(&mut self) -> Result<(), AllocError>
+        ensures ok { OnOk result (self.new ≡ with_named (λ name. f.Plain (i.Closed name)) self.old) }
+    {
+        let Some(name) = self.names.pop() else {
+            return Ok(());
+        };
+        self.add_item(ItemForm::Plain(PlainForm::Closed(name.bytes)))
     }
 
     // A synthesized attribute is whole.

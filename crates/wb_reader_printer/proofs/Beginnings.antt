@@ -11,7 +11,7 @@ use Rattle.wb_text_tokens.specs.declared.word.Word.{Word}
 use Rattle.wb_text_tokens.specs.contracts.word.Word as words
 use Rattle.wb_text_tokens.proofs.Enumerations.{each_value}
 use Rattle.wb_lemmas.proofs.Booleans.{not_true}
-use Rattle.wb_text_tokens.specs.declared.token.Layout.TheVariants.{WithComments}
+use Rattle.wb_text_tokens.specs.declared.token.Dialect.{Dialect}
 use Rattle.wb_text_tokens.specs.declared.token.Token.{Token}
 use Rattle.wb_text_tokens.specs.declared.token.Token.TheVariants as t
 use Rattle.wb_text_tokens.specs.Printing.{printed_text}
@@ -61,18 +61,21 @@ mark_clear mark =
     (each_value marks.enum (λ x. not (begins_layout (get_or (punctuation_text x) 0 0))) refl mark)
 
 -- no layout is where the bytes from there on begin with one that begins none
-clear_piece : (text : List ℕ) (at : ℕ) → begins_layout (get_or text at 0) ≡ false → (behind : ℕ)
-    → ¬ IsLayoutPiece WithComments text at behind
-clear_piece text at clear behind (blank within is after) = let e = sym clear ∙ ap (λ t. t || eqb (get_or text at 0) 47) is in absurd (cc)
-clear_piece text at clear behind (comment layout k) = let e = sym clear ∙ ap begins_layout k.first.is in absurd (cc)
+clear_piece : (dialect : Dialect) (text : List ℕ) (at : ℕ) → begins_layout (get_or text at 0) ≡ false → (behind : ℕ)
+    → ¬ IsLayoutPiece dialect text at behind
+clear_piece dialect text at clear behind (blank within is after) =
+    let e = sym clear ∙ ap (λ t. t || eqb (get_or text at 0) 47) is in absurd (cc)
+clear_piece dialect text at clear behind (comment layout k) = let e = sym clear ∙ ap begins_layout k.first.is in absurd (cc)
 
 -- nor where a regular expression does
-regex_piece : (text : List ℕ) (at : ℕ) (body rest : List ℕ) → get_or text at 0 ≡ 47 → get_or text (at + 1) 0 ≡ get_or (body ++ rest) 0 0
-    → ¬ (body ≡ []) → IsRegexBody body
-    → (behind : ℕ) → ¬ IsLayoutPiece WithComments text at behind
-regex_piece text at body rest first second some stands behind (blank within is after) = let e = sym is ∙ ap is_blank first in absurd (cc)
-regex_piece text at [] rest first second some stands behind (comment layout k) = some refl
-regex_piece text at (d ∷ body) rest first second some stands behind (comment layout k) = no_slash d body stands (sym second ∙ k.second.is)
+regex_piece : (dialect : Dialect) (text : List ℕ) (at : ℕ) (body rest : List ℕ) → get_or text at 0 ≡ 47
+    → get_or text (at + 1) 0 ≡ get_or (body ++ rest) 0 0 → ¬ (body ≡ []) → IsRegexBody body
+    → (behind : ℕ) → ¬ IsLayoutPiece dialect text at behind
+regex_piece dialect text at body rest first second some stands behind (blank within is after) =
+    let e = sym is ∙ ap is_blank first in absurd (cc)
+regex_piece dialect text at [] rest first second some stands behind (comment layout k) = some refl
+regex_piece dialect text at (d ∷ body) rest first second some stands behind (comment layout k) =
+    no_slash d body stands (sym second ∙ k.second.is)
 
 -- the first byte after a prefix of a text
 second_byte : (text front y : List ℕ) (at : ℕ) → text ≡ front ++ y → at ≡ length front → get_or text at 0 ≡ get_or y 0 0
@@ -81,11 +84,11 @@ second_byte text front y at e f =
     ap (λ l. get_or l at 0) e ∙ (ap (λ k. get_or (front ++ y) k 0) same ∙ get_or-append-add front y 0 0)
 
 -- no layout is where the first of the bytes begins none
-front_piece : (text front x rest : List ℕ) (at : ℕ) → text ≡ front ++ (x ++ rest) → at ≡ length front → 0 < length x → IsClear x
-    → (behind : ℕ) → ¬ IsLayoutPiece WithComments text at behind
-front_piece text front [] rest at e f some clear behind piece = omega (arith, some)
-front_piece text front (c ∷ x) rest at e f some clear behind piece =
-    clear_piece text at (ap begins_layout (second_byte text front (c ∷ (x ++ rest)) at e f) ∙ clear) behind piece
+front_piece : (dialect : Dialect) (text front x rest : List ℕ) (at : ℕ) → text ≡ front ++ (x ++ rest) → at ≡ length front → 0 < length x
+    → IsClear x → (behind : ℕ) → ¬ IsLayoutPiece dialect text at behind
+front_piece dialect text front [] rest at e f some clear behind piece = omega (arith, some)
+front_piece dialect text front (c ∷ x) rest at e f some clear behind piece =
+    clear_piece dialect text at (ap begins_layout (second_byte text front (c ∷ (x ++ rest)) at e f) ∙ clear) behind piece
 
 -- a name begins with a letter or `_`
 name_clear : (name : List ℕ) → IsIdentifier name → IsClear name
@@ -93,19 +96,21 @@ name_clear [] s = absurd s
 name_clear (b ∷ x) s = letter_clear b s.0
 
 -- no layout is where a token is printed
-pub no_piece : (text front rest : List ℕ) (at : ℕ) (token : Token) → 0 < length (printed token) → Spells token (printed token)
-    → text ≡ front ++ (printed token ++ rest) → at ≡ length front → (behind : ℕ) → ¬ IsLayoutPiece WithComments text at behind
-no_piece text front rest at (t.Name name) some s e f = front_piece text front name rest at e f some (name_clear name s.1)
-no_piece text front rest at (t.Word word) some s e f = front_piece text front (word_text word) rest at e f some (word_clear word)
-no_piece text front rest at (t.Int z) some s e f =
-    front_piece text front (signed_decimal z) rest at e f some (integer_clear (signed_decimal z) s)
-no_piece text front rest at (t.Text string) some s e f = front_piece text front (printed_text string) rest at e f some refl
-no_piece text front rest at (t.Regex body) some s e f =
+pub no_piece : (dialect : Dialect) (text front rest : List ℕ) (at : ℕ) (token : Token) → 0 < length (printed token)
+    → Spells dialect token (printed token) → text ≡ front ++ (printed token ++ rest) → at ≡ length front → (behind : ℕ)
+    → ¬ IsLayoutPiece dialect text at behind
+no_piece dialect text front rest at (t.Name name) some s e f = front_piece dialect text front name rest at e f some (name_clear name s.1)
+no_piece dialect text front rest at (t.Word word) some s e f =
+    front_piece dialect text front (word_text word) rest at e f some (word_clear word)
+no_piece dialect text front rest at (t.Int z) some s e f =
+    front_piece dialect text front (signed_decimal z) rest at e f some (integer_clear (signed_decimal z) s)
+no_piece dialect text front rest at (t.Text string) some s e f = front_piece dialect text front (printed_text string) rest at e f some refl
+no_piece dialect text front rest at (t.Regex body) some s e f =
     let behind = (body ++ 47 ∷ []) ++ rest in
     let first = second_byte text front (47 ∷ behind) at e f in
     let second =
     second_byte text (front ++ 47 ∷ []) behind (at + 1) (e ∙ sym (append_assoc front (47 ∷ []) behind))
     (omega (arith, f, length-append front (47 ∷ []))) in
-    regex_piece text at body (47 ∷ rest) first (second ∙ ap (λ l. get_or l 0 0) (append_assoc body (47 ∷ []) rest)) s.1 s.2
-no_piece text front rest at (t.Punctuation mark) some s e f =
-    front_piece text front (punctuation_text mark) rest at e f some (mark_clear mark)
+    regex_piece dialect text at body (47 ∷ rest) first (second ∙ ap (λ l. get_or l 0 0) (append_assoc body (47 ∷ []) rest)) s.1 s.2
+no_piece dialect text front rest at (t.Punctuation mark) some s e f =
+    front_piece dialect text front (punctuation_text mark) rest at e f some (mark_clear mark)

@@ -2,6 +2,7 @@
 use Rattle.std.proofs.Common.{◌≡◌, ℕ, List, [], ◌∷◌, ◌++◌, Bool, true, false, ◌||◌, cond, eqb, refl, sym, ap, ◌∙◌, subst, append_assoc}
 use Rattle.std.specs.Char.{is_ascii_digit}
 use Rattle.wb_text_tokens.specs.declared.punctuation.Punctuation.TheVariants as p
+use Rattle.wb_text_tokens.specs.declared.token.Dialect.{Dialect}
 use Rattle.wb_text_tokens.specs.declared.token.Token.{Token}
 use Rattle.wb_text_tokens.specs.declared.token.Token.TheVariants as t
 use Rattle.wb_base.specs.Identifiers.{is_name_byte}
@@ -96,19 +97,19 @@ ends_behind a [] rest = ends_before a 10 rest refl refl refl
 ends_behind a (b ∷ ts) rest = subst (Ends a) (sym (behind_parts a b ts (10 ∷ rest))) (ends_gap a b (behind b ts ++ 10 ∷ rest))
 
 -- the tokens after one on its line
-behind_flows : (a : Token) (ts more : List Token) (rest : List ℕ) → ArePrinted ts → Flows (10 ∷ rest) more
-    → Flows (behind a ts ++ 10 ∷ rest) (ts ++ more)
-behind_flows a [] more rest h r = r
-behind_flows a (b ∷ ts) more rest h r =
-    flow (gap a b) (behind b ts ++ 10 ∷ rest) (gap_blanks a b) h.0 (ends_behind b ts rest) (behind_flows b ts more rest h.1 r)
+behind_flows : (dialect : Dialect) (a : Token) (ts more : List Token) (rest : List ℕ) → ArePrinted dialect ts
+    → Flows dialect (10 ∷ rest) more → Flows dialect (behind a ts ++ 10 ∷ rest) (ts ++ more)
+behind_flows dialect a [] more rest h r = r
+behind_flows dialect a (b ∷ ts) more rest h r =
+    flow (gap a b) (behind b ts ++ 10 ∷ rest) (gap_blanks a b) h.0 (ends_behind b ts rest) (behind_flows dialect b ts more rest h.1 r)
     (behind_parts a b ts (10 ∷ rest))
 
 -- a line
-line_flows : (front : List ℕ) (ts more : List Token) (rest : List ℕ) → AreBlanks front → ArePrinted ts → Flows (10 ∷ rest) more
-    → Flows (front ++ (line_of ts ++ 10 ∷ rest)) (ts ++ more)
-line_flows front [] more rest g h r = more_blanks front (10 ∷ rest) more g r
-line_flows front (a ∷ ts) more rest g h r =
-    flow front (behind a ts ++ 10 ∷ rest) g h.0 (ends_behind a ts rest) (behind_flows a ts more rest h.1 r)
+line_flows : (dialect : Dialect) (front : List ℕ) (ts more : List Token) (rest : List ℕ) → AreBlanks front → ArePrinted dialect ts
+    → Flows dialect (10 ∷ rest) more → Flows dialect (front ++ (line_of ts ++ 10 ∷ rest)) (ts ++ more)
+line_flows dialect front [] more rest g h r = more_blanks dialect front (10 ∷ rest) more g r
+line_flows dialect front (a ∷ ts) more rest g h r =
+    flow front (behind a ts ++ 10 ∷ rest) g h.0 (ends_behind a ts rest) (behind_flows dialect a ts more rest h.1 r)
     (ap (λ l. front ++ l) (ap (λ l. l ++ 10 ∷ rest) (behind_line a ts) ∙ append_assoc (printed a) (behind a ts) (10 ∷ rest)))
 
 -- the tokens of lines
@@ -117,9 +118,9 @@ joined [] = []
 joined (ts ∷ lines) = ts ++ joined lines
 
 -- lines
-pub lines_flow : (front : List ℕ) (lines : List (List Token)) → AreBlanks front → ArePrinted (joined lines)
-    → Flows (front ++ text_of lines) (joined lines)
-lines_flow front [] g h = at_end (both_blanks front [] g refl)
-lines_flow front (ts ∷ lines) g h =
-    line_flows front ts (joined lines) (text_of lines) g (printed_front ts (joined lines) h)
-    (lines_flow (10 ∷ []) lines refl (printed_back ts (joined lines) h))
+pub lines_flow : (dialect : Dialect) (front : List ℕ) (lines : List (List Token)) → AreBlanks front → ArePrinted dialect (joined lines)
+    → Flows dialect (front ++ text_of lines) (joined lines)
+lines_flow dialect front [] g h = at_end (both_blanks front [] g refl)
+lines_flow dialect front (ts ∷ lines) g h =
+    line_flows dialect front ts (joined lines) (text_of lines) g (printed_front dialect ts (joined lines) h)
+    (lines_flow dialect (10 ∷ []) lines refl (printed_back dialect ts (joined lines) h))

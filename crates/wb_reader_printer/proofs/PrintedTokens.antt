@@ -5,14 +5,15 @@ use Rattle.std.specs.List.{All}
 use Rattle.std.proofs.lemmas.List.Elements.{All-take, All-drop, All-nil, All-cons}
 use Rattle.std.proofs.Math.Seq.{take-append_seam, drop-append_seam}
 use Rattle.wb_text_predictive.specs.Reading.{Spells, none, next}
-use Rattle.wb_text_tokens.specs.declared.token.Layout.TheVariants.{WithComments}
+use Rattle.wb_text_tokens.specs.declared.token.Dialect.{Dialect}
 use Rattle.wb_text_tokens.specs.declared.token.Token.{Token}
 use Rattle.wb_text_tokens.specs.declared.token.Token.TheVariants as t
 use Rattle.wb_text_tokens.specs.NextToken.{IsTokenAt}
 use Rattle.wb_text_tokens.specs.NextToken.{IsNextIn}
+use Rattle.wb_text_tokens.specs.Words.{IsReservedIn}
 use Rattle.wb_text_tokens.specs.Spelling.{IsToken, escaped_byte, IsStringPart, IsStringBody, IsString}
 use Rattle.wb_base.specs.Decimal.{hex_value}
-use Rattle.wb_base.specs.Identifiers.{IsIdentifier, IsReserved}
+use Rattle.wb_base.specs.Identifiers.{IsIdentifier}
 use Rattle.wb_text_tokens.proofs.CallerLemmas.{printed_integer, printed_string}
 use Rattle.wb_syntax.specs.Tokens.{Lexeme}
 use Rattle.wb_syntax.specs.Canonical.{printed}
@@ -92,39 +93,39 @@ string_bytes x text small s =
     body_bytes s.body text (front_bytes s.body (34 ∷ []) (back_bytes (34 ∷ []) (s.body ++ 34 ∷ []) quoted)) s.stands
 
 -- a token that is in a text of bytes is printed as what it is
-token_printed : (text : List ℕ) (token : Token) (at behind : ℕ) → AreBytes text → IsTokenAt text token at behind
-    → IsToken token (printed token)
-token_printed text (t.Name name) at behind small s =
+token_printed : (dialect : Dialect) (text : List ℕ) (token : Token) (at behind : ℕ) → AreBytes text
+    → IsTokenAt dialect text token at behind → IsToken dialect token (printed token)
+token_printed dialect text (t.Name name) at behind small s =
     let h = s.spelled in
-    ((refl, subst IsIdentifier h.0 h.1, λ r. h.2 (subst IsReserved (sym h.0) r)), tt)
-token_printed text (t.Word word) at behind small s = (refl, tt)
-token_printed text (t.Int z) at behind small s = printed_integer z s.in_range
-token_printed text (t.Text string) at behind small s =
+    ((refl, subst IsIdentifier h.0 h.1, λ r. h.2 (subst (IsReservedIn dialect) (sym h.0) r)), tt)
+token_printed dialect text (t.Word word) at behind small s = (record { reserved = s.spelled.reserved; is = refl }, tt)
+token_printed dialect text (t.Int z) at behind small s = printed_integer dialect z s.in_range
+token_printed dialect text (t.Text string) at behind small s =
     let piece : AreBytes (take (behind - at) (drop at text)) =
     All-take (λ b. b < 256) (behind - at) (drop at text) (All-drop (λ b. b < 256) at text small) in
     let bytes = string_bytes (take (behind - at) (drop at text)) string piece s.spelled in
-    printed_string string (λ k h. bytes k 0 h)
-token_printed text (t.Regex body) at behind small s = let h = s.spelled in ((refl, h.1, h.2), tt)
-token_printed text (t.Punctuation mark) at behind small s = (refl, tt)
+    printed_string dialect string (λ k h. bytes k 0 h)
+token_printed dialect text (t.Regex body) at behind small s = let h = s.spelled in ((refl, h.1, h.2), tt)
+token_printed dialect text (t.Punctuation mark) at behind small s = (refl, tt)
 
--- each of these is printed as what it is
-abbrev pub ArePrinted : List Token → Type 0
-ArePrinted [] = Unit {0}
-ArePrinted (a ∷ ts) = IsToken a (printed a) × ArePrinted ts
+-- each of these is printed as what it is in the dialect
+abbrev pub ArePrinted : Dialect → List Token → Type 0
+ArePrinted dialect [] = Unit {0}
+ArePrinted dialect (a ∷ ts) = IsToken dialect a (printed a) × ArePrinted dialect ts
 
 -- the tokens of a text of bytes are
-pub tokens_printed : (text : List ℕ) (from to : ℕ) (xs : List Lexeme) → AreBytes text → Spells (IsNextIn WithComments text) from xs to
-    → ArePrinted (tokens xs)
-tokens_printed text from to xs small (none e) = tt
-tokens_printed text from to xs small (next {x = x} {xs = rest} h r) =
-    (token_printed text x.token x.at x.end small h.stands, tokens_printed text x.end to rest small r)
+pub tokens_printed : (dialect : Dialect) (text : List ℕ) (from to : ℕ) (xs : List Lexeme) → AreBytes text
+    → Spells (IsNextIn dialect text) from xs to → ArePrinted dialect (tokens xs)
+tokens_printed dialect text from to xs small (none e) = tt
+tokens_printed dialect text from to xs small (next {x = x} {xs = rest} h r) =
+    (token_printed dialect text x.token x.at x.end small h.stands, tokens_printed dialect text x.end to rest small r)
 
 -- the first of them are
-pub printed_front : (ts us : List Token) → ArePrinted (ts ++ us) → ArePrinted ts
-printed_front [] us h = tt
-printed_front (a ∷ ts) us h = (h.0, printed_front ts us h.1)
+pub printed_front : (dialect : Dialect) (ts us : List Token) → ArePrinted dialect (ts ++ us) → ArePrinted dialect ts
+printed_front dialect [] us h = tt
+printed_front dialect (a ∷ ts) us h = (h.0, printed_front dialect ts us h.1)
 
 -- and the others
-pub printed_back : (ts us : List Token) → ArePrinted (ts ++ us) → ArePrinted us
-printed_back [] us h = h
-printed_back (a ∷ ts) us h = printed_back ts us h.1
+pub printed_back : (dialect : Dialect) (ts us : List Token) → ArePrinted dialect (ts ++ us) → ArePrinted dialect us
+printed_back dialect [] us h = h
+printed_back dialect (a ∷ ts) us h = printed_back dialect ts us h.1

@@ -1,6 +1,10 @@
 -- A canonical text reads back as the same specification but for places, and is the canonical text of each such specification.
 use Rattle.std.proofs.Common.{◌≡◌, ℕ, List, [], ◌∷◌, ◌++◌, pos, map, refl, sym, ap, ◌∙◌, subst}
 use Rattle.std.specs.List.{AllZip}
+use Rattle.wb_text_predictive.specs.declared.table.Next.TheVariants.{End}
+use Rattle.wb_text_predictive.specs.Reading.{Spells}
+use Rattle.wb_text_tokens.specs.NextToken.{IsNextIn}
+use Rattle.wb_text_tokens.specs.declared.token.Dialect.{Dialect}
 use Rattle.wb_text_tokens.specs.declared.token.Token.{Token}
 use Rattle.wb_text_tokens.specs.declared.token.Token.TheVariants as t
 use Rattle.wb_syntax.specs.declared.header.Header.{Header}
@@ -11,7 +15,7 @@ use Rattle.wb_syntax.specs.declared.written.WrittenSpec.{WrittenSpec}
 use Rattle.wb_syntax.specs.Tokens.{Lexeme}
 use Rattle.wb_syntax.specs.ItemGrammar as item
 use Rattle.wb_syntax.specs.ItemGrammar.{AreItems, IsHeader, IsSpecification}
-use Rattle.wb_syntax.specs.SpecText.{SpecView, IsReadAs, IsReadSpec, HasText}
+use Rattle.wb_syntax.specs.SpecText.{SpecView, dialect_of, IsReadAs, IsReadSpec, HasText}
 use Rattle.wb_syntax.specs.Offsets.{unplaced, AreSameButPlaces, ReadsBack}
 use Rattle.wb_syntax.specs.Canonical as canonical
 use Rattle.wb_syntax.specs.Canonical.{line_of, format_line, IsItemLine, AreItemLines, IsCanonical}
@@ -149,16 +153,26 @@ spec_alike xs written spec (item.whole {f = f} {n = n} {s = s} {u = u} {v = v} {
 -- the lines of the lexemes of a text read back
 reads_lines : (spec : SpecView) (xs : List Lexeme) (written : WrittenSpec) (lines : List (List Token)) → IsSpecification xs written
     → IsReadSpec written spec
-    → ArePrinted (tokens xs) → tokens xs ≡ joined lines → ReadsBack spec (text_of lines)
+    → ArePrinted (dialect_of written.format) (tokens xs) → tokens xs ≡ joined lines → ReadsBack spec (text_of lines)
 reads_lines spec xs written lines grammar read printed same =
-    let flows = lines_flow [] lines refl (subst ArePrinted same printed) in
-    let r = flows_read (text_of lines) [] (text_of lines) 0 (joined lines) refl refl flows in
+    let dialect = dialect_of written.format in
+    let text = text_of lines in
+    let flows = lines_flow dialect [] lines refl (subst (ArePrinted dialect) same printed) in
+    let r = flows_read dialect text [] text 0 (joined lines) refl refl flows in
     let m = spec_alike xs written spec grammar read r.lexemes (alike xs r.lexemes (r.same ∙ sym same)) in
+    let kept : dialect ≡ dialect_of m.written.format = ap dialect_of (sym read.format ∙ (sym m.same.format ∙ m.read.format)) in
     record {
       other = m.other;
       read = record {
         written = m.written;
-        text = record { tokens = r.lexemes; to = r.to; at = r.at; spelled = r.spelled; ended = r.ended; specification = m.grammar };
+        text = record {
+          tokens = r.lexemes;
+          to = r.to;
+          at = r.at;
+          spelled = subst (λ (d : Dialect). Spells (IsNextIn d text) 0 r.lexemes r.to) kept r.spelled;
+          ended = subst (λ (d : Dialect). IsNextIn d text r.to (End r.at)) kept r.ended;
+          specification = m.grammar;
+        };
         read = m.read;
       };
       same = m.same;
@@ -168,7 +182,7 @@ reads_lines spec xs written lines grammar read printed same =
 pub reads_back : (spec : SpecView) → HasText spec → (text : List ℕ) → IsCanonical spec text → ReadsBack spec text
 reads_back spec (bytes, small, r) text is =
     let l = spec_lines r.text.tokens r.written spec r.text.specification r.read in
-    let printed = tokens_printed bytes 0 r.text.to r.text.tokens small r.text.spelled in
+    let printed = tokens_printed (dialect_of r.written.format) bytes 0 r.text.to r.text.tokens small r.text.spelled in
     subst (ReadsBack spec) (one_canonical spec (text_of l.lines) text l.is is)
     (reads_lines spec r.text.tokens r.written l.lines r.text.specification r.read printed l.same)
 

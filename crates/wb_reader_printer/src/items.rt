@@ -163,6 +163,7 @@ fn write_plain(line: &mut Line, form: &PlainForm) -> Result<(), AllocError>
         PlainForm::Nonterminal(name) => write_named(line, Word::Nonterminal, name.as_slice()),
         PlainForm::Start(name) => write_named(line, Word::Start, name.as_slice()),
         PlainForm::Extensible(name) => write_named(line, Word::Extensible, name.as_slice()),
+        PlainForm::Closed(name) => write_named(line, Word::Closed, name.as_slice()),
         PlainForm::Synthesized { name, kind } => {
             write_attribute(line, Word::Syn, name.as_slice(), kind)
         }

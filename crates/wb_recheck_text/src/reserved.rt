@@ -1,12 +1,12 @@
 //! Is an identifier reserved?
 
-ghost use Rattle.std.specs.Prelude.{◌≡◌, ◌≢◌, ◌<◌, ℕ, MatchBool, length, slice_index_or};
+ghost use Rattle.std.specs.Prelude.{Contains, MatchBool, map};
 ghost use Rattle.wb_base.specs.Identifiers.{IsReserved};
 ghost use Rattle.wb_text_tokens.specs.Words.{word_text};
-ghost use Rattle.wb_text_tokens.specs.declared.word.Word.{Word};
 
 use wb_text_tokens::Word;
 
+// What is a word in every format. `closed` is one in format 2 alone, and a name in format 1.
 static WORDS: [Word; 35] = [
     Word::Abstract,
     Word::Aspect,
@@ -54,9 +54,7 @@ pub(crate) fn is_reserved(text: &[u8]) -> bool
 
 // Whether one of the words is spelled so.
 fn is_among(words: &[Word], text: &[u8]) -> bool
-    ensures { MatchBool result
-        ((word : Word) × (text.now ≡ word_text word))
-        ((k : ℕ) (d : Word) → k < length words.now → text.now ≢ word_text (slice_index_or words.now k d)) }
+    ensures { MatchBool result (Contains (map word_text words.now) text.now) (¬ Contains (map word_text words.now) text.now) }
 {
     for word in words {
         if word.text() == text {

@@ -3,7 +3,6 @@ use Rattle.std.proofs.Common.{◌≡◌, List, [], ◌∷◌, All, refl, sym, ap
 use Rattle.std.specs.List.{AllZip}
 use Rattle.std.proofs.lemmas.List.Elements.{All-nil, All-cons, All-head, All-tail}
 use Rattle.wb_base.specs.Identifiers.{IsName as IsNamed}
-use Rattle.wb_text_tokens.specs.declared.token.Layout.TheVariants.{WithComments}
 use Rattle.wb_syntax_expressions.specs.Expression.{IsWhole, nodes_of}
 use Rattle.wb_syntax.specs.PartGrammar as part
 use Rattle.wb_syntax.specs.PartGrammar.{AreEquations}
@@ -20,7 +19,7 @@ use Rattle.wb_syntax.specs.declared.production.Production.{Production}
 use Rattle.wb_syntax.specs.declared.written.WrittenSpec.{WrittenSpec}
 use Rattle.wb_syntax.specs.Equations.{equations_of, HasWholeEquations}
 use Rattle.wb_syntax.specs.Names.{HasNames, FormHasNames, header_names}
-use Rattle.wb_syntax.specs.SpecText.{SpecView, IsReadForm, IsReadAs, HasText}
+use Rattle.wb_syntax.specs.SpecText.{SpecView, dialect_of, IsReadForm, IsReadAs, HasText}
 use Rattle.wb_syntax.proofs.NameLemmas.{spelled, written_names}
 
 -- the equations of the grammar are whole expressions
@@ -78,7 +77,7 @@ pub text_names : (spec : SpecView) → HasText spec → HasNames spec
 text_names spec text =
     let r = text.2 in
     let w = written_names r.text.tokens r.written r.text.specification
-    (spelled WithComments text.0 0 r.text.tokens r.text.to r.text.spelled) in
+    (spelled (dialect_of r.written.format) text.0 0 r.text.tokens r.text.to r.text.spelled) in
     record {
       name = subst IsNamed (sym r.read.name) w.name;
       header = subst (λ h. All IsNamed (header_names h)) (sym r.read.header) w.header;

@@ -4,11 +4,12 @@ use Rattle.std.proofs.lemmas.List.Elements.{All-nil, All-cons, All-head, All-tai
 use Rattle.wb_base.specs.Identifiers.{IsName as IsNamed}
 use Rattle.wb_lemmas.proofs.Elements.{all_left, all_right}
 use Rattle.wb_text_predictive.specs.Reading.{Spells, none as spells_none, next as spells_next}
-use Rattle.wb_text_tokens.specs.declared.token.Layout.{Layout}
+use Rattle.wb_text_tokens.specs.declared.token.Dialect.{Dialect}
 use Rattle.wb_text_tokens.specs.declared.token.Token.{Token}
 use Rattle.wb_text_tokens.specs.declared.token.Token.TheVariants as t
 use Rattle.wb_text_tokens.specs.NextToken.{IsNextIn}
 use Rattle.wb_text_tokens.specs.Spelling as spelling
+use Rattle.wb_text_tokens.proofs.CallerLemmas.{reserved_word}
 use Rattle.wb_syntax_expressions.specs.declared.node.Node.TheVariants as n
 use Rattle.wb_syntax_expressions.specs.Expression.{size, nodes_from, all_nodes_from, places_from, nodes_of}
 use Rattle.wb_syntax.specs.Expression.{Expression, Expressions, Node}
@@ -42,21 +43,22 @@ IsNameToken token = Unit {0}
 abbrev pub AreNamed : List Lexeme → Type 0
 AreNamed xs = All (λ x. IsNameToken x.token) xs
 
--- a token that is spelled
-spelled_token : (token : Token) (bytes : List ℕ) → spelling.Spells token bytes → IsNameToken token
-spelled_token (t.Name text) bytes s = subst IsNamed s.0 (record { identifier = s.1; free = s.2 })
-spelled_token (t.Word word) bytes s = tt
-spelled_token (t.Int value) bytes s = tt
-spelled_token (t.Text text) bytes s = tt
-spelled_token (t.Regex body) bytes s = tt
-spelled_token (t.Punctuation mark) bytes s = tt
+-- a token that is spelled in some dialect
+spelled_token : (dialect : Dialect) (token : Token) (bytes : List ℕ) → spelling.Spells dialect token bytes → IsNameToken token
+spelled_token dialect (t.Name text) bytes s =
+    subst IsNamed s.0 (record { identifier = s.1; free = λ reserved. s.2 (reserved_word dialect bytes reserved) })
+spelled_token dialect (t.Word word) bytes s = tt
+spelled_token dialect (t.Int value) bytes s = tt
+spelled_token dialect (t.Text text) bytes s = tt
+spelled_token dialect (t.Regex body) bytes s = tt
+spelled_token dialect (t.Punctuation mark) bytes s = tt
 
 -- the tokens that a text spells
-pub spelled : (layout : Layout) (bytes : List ℕ) (from : ℕ) (xs : List Lexeme) (to : ℕ) → Spells (IsNextIn layout bytes) from xs to
+pub spelled : (dialect : Dialect) (bytes : List ℕ) (from : ℕ) (xs : List Lexeme) (to : ℕ) → Spells (IsNextIn dialect bytes) from xs to
     → AreNamed xs
-spelled layout bytes from xs to (spells_none e) = All-nil (λ x. IsNameToken x.token)
-spelled layout bytes from xs to (spells_next {x = x} {xs = rest} h s) =
-    All-cons (λ y. IsNameToken y.token) x rest (spelled_token x.token _ h.stands.spelled) (spelled layout bytes x.end rest to s)
+spelled dialect bytes from xs to (spells_none e) = All-nil (λ x. IsNameToken x.token)
+spelled dialect bytes from xs to (spells_next {x = x} {xs = rest} h s) =
+    All-cons (λ y. IsNameToken y.token) x rest (spelled_token dialect x.token _ h.stands.spelled) (spelled dialect bytes x.end rest to s)
 
 -- a name among them
 named : (x : Lexeme) (name : List ℕ) → IsName name x → IsNameToken x.token → IsNamed name

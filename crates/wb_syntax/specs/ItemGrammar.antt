@@ -1,5 +1,5 @@
 -- Which tokens are which items, and which are a specification.
-use Rattle.std.specs.Prelude.{◌≡◌, ℕ, pos, List, [], ◌∷◌, ◌++◌}
+use Rattle.std.specs.Prelude.{◌≡◌, ◌⊎◌, ℕ, pos, List, [], ◌∷◌, ◌++◌}
 use Rattle.wb_text_tokens.specs.declared.word.Word.TheVariants as w
 use Rattle.wb_text_tokens.specs.declared.punctuation.Punctuation.TheVariants as p
 use Rattle.wb_syntax.specs.declared.production.Child.{Child}
@@ -46,6 +46,7 @@ plain_fields (i.Prefer first second) =
 plain_fields (i.Nonterminal one) = field.word w.Nonterminal ∷ field.name one ∷ field.mark p.Semicolon ∷ []
 plain_fields (i.Start one) = field.word w.Start ∷ field.name one ∷ field.mark p.Semicolon ∷ []
 plain_fields (i.Extensible one) = field.word w.Extensible ∷ field.name one ∷ field.mark p.Semicolon ∷ []
+plain_fields (i.Closed one) = field.word w.Closed ∷ field.name one ∷ field.mark p.Semicolon ∷ []
 plain_fields (i.Synthesized one its) = field.word w.Syn ∷ field.name one ∷ field.mark p.Colon ∷ field.kind its ∷ field.mark p.Semicolon ∷ []
 plain_fields (i.Inherited one its) = field.word w.Inh ∷ field.name one ∷ field.mark p.Colon ∷ field.kind its ∷ field.mark p.Semicolon ∷ []
 plain_fields (i.Occurs attribute nonterminal its) =
@@ -90,7 +91,7 @@ pub data IsHeader : List Lexeme → List ℕ → Header → Type 0 where
 
 -- the number is that of a format that is known
 abbrev pub IsFormat : ℕ → Type 0
-IsFormat format = format ≡ 1
+IsFormat format = (format ≡ 1) ⊎ (format ≡ 2)
 
 -- spec = 'format' INT ';' header item*, where the INT is the number of its format
 pub data IsSpecification : List Lexeme → WrittenSpec → Type 0 where

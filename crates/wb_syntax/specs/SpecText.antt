@@ -1,9 +1,10 @@
 -- Which bytes are a specification, and which one.
-use Rattle.std.specs.Prelude.{◌≡◌, ℕ, ◌<◌, List, []}
+use Rattle.std.specs.Prelude.{◌≡◌, ◌==◌, ℕ, ◌<◌, List, [], if◌then◌else◌}
 use Rattle.std.specs.List.{All, AllZip}
 use Rattle.wb_text_predictive.specs.declared.table.Next.TheVariants.{End}
 use Rattle.wb_text_predictive.specs.Reading.{Spells}
-use Rattle.wb_text_tokens.specs.declared.token.Layout.TheVariants.{WithComments}
+use Rattle.wb_text_tokens.specs.declared.token.Dialect.{Dialect}
+use Rattle.wb_text_tokens.specs.declared.token.Dialect.TheVariants.{FormatOne, FormatTwo}
 use Rattle.wb_text_tokens.specs.NextToken.{IsNextIn}
 use Rattle.wb_regex.specs.Tree.{Tree}
 use Rattle.wb_regex.specs.Matches.{Matches}
@@ -25,13 +26,17 @@ pub record SpecView : Type 0 where
   pub header : Header
   pub items : List (Item Pattern)
 
--- the bytes, with layout and comments between the tokens, are written so
+-- the dialect in which the tokens of a format are spelled
+abbrev pub dialect_of : ℕ → Dialect
+dialect_of format = if format == 2 then FormatTwo else FormatOne
+
+-- the bytes, with layout and comments between the tokens of the format, are written so
 pub record IsWrittenText (bytes : List ℕ) (written : WrittenSpec) : Type 0 where
   pub tokens : List Lexeme
   pub to : ℕ
   pub at : ℕ
-  pub spelled : Spells (IsNextIn WithComments bytes) 0 tokens to
-  pub ended : IsNextIn WithComments bytes to (End at)
+  pub spelled : Spells (IsNextIn (dialect_of written.format) bytes) 0 tokens to
+  pub ended : IsNextIn (dialect_of written.format) bytes to (End at)
   pub specification : IsSpecification tokens written
 
 -- the bytes are a regular expression that doesn't match the empty text

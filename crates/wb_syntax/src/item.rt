@@ -61,6 +61,8 @@ pub enum PlainForm {
     Start(Bytes),
     /// Extensions may add productions to the nonterminal of this name.
     Extensible(Bytes),
+    /// No extension adds an occurrence to the nonterminal of this name, and its productions on it needn't forward.
+    Closed(Bytes),
     /// A synthesized attribute.
     Synthesized {
         /// Its name.

@@ -1,5 +1,5 @@
 -- That extensions declare occurrences and write equations only where they may.
-use Rattle.std.specs.Prelude.{◌≡◌, ◌⊎◌, ℕ, Some, All, Contains, option_map, slice_get}
+use Rattle.std.specs.Prelude.{◌≡◌, ◌⊎◌, ℕ, true, Some, All, Contains, option_map, slice_get}
 use Rattle.wb_base.specs.declared.symbol.Kind.TheVariants as kind
 use Rattle.wb_syntax_resolved.specs.declared.attributes.Attribute.{Attribute}
 use Rattle.wb_syntax_resolved.specs.declared.attributes.Nonterminal.{Nonterminal}
@@ -19,6 +19,15 @@ abbrev pub IsOwnOccurrence : AttributionParts → Occurrence → Type 0
 IsOwnOccurrence a occurrence =
     (option_map (λ (r : Attribute). r.owner) (slice_get a.attributes occurrence.attribute) ≡ Some occurrence.owner)
     ⊎ (option_map (λ (r : Nonterminal). r.owner) (slice_get a.nonterminals occurrence.nonterminal) ≡ Some occurrence.owner)
+
+-- there is a nonterminal of this number, and it is closed
+abbrev pub IsClosed : AttributionParts → ℕ → Type 0
+IsClosed a number = option_map (λ (r : Nonterminal). r.closed) (slice_get a.nonterminals number) ≡ Some true
+
+-- on a closed nonterminal only its owner declares an occurrence
+abbrev pub IsOpenTo : AttributionParts → Occurrence → Type 0
+IsOpenTo a occurrence = IsClosed a occurrence.nonterminal
+    → option_map (λ (r : Nonterminal). r.owner) (slice_get a.nonterminals occurrence.nonterminal) ≡ Some occurrence.owner
 
 -- the occurrence is the one that an equation with this target is for
 abbrev pub IsTargetOf : Production → Target → Occurrence → Type 0
@@ -51,4 +60,5 @@ IsOwnEquation a production equation =
 -- each occurrence and each equation is one that its owner may declare or write
 pub record IsOwned (a : AttributionParts) : Type 0 where
   pub occurrences : All (IsOwnOccurrence a) a.occurrences
+  pub open_to : All (IsOpenTo a) a.occurrences
   pub equations : All (λ (production : Production). All (IsOwnEquation a production) production.equations) a.productions

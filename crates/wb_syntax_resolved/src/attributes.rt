@@ -10,6 +10,8 @@ pub struct Nonterminal {
     pub name: Bytes,
     /// Its owner, by number.
     pub owner: usize,
+    /// Whether no other owner may declare that an attribute occurs on it.
+    pub closed: bool,
     /// The numbers of the inherited attributes that what its productions forward to may need.
     pub forward_needs: Sequence<usize>,
 }
@@ -19,6 +21,7 @@ impl Drop for Nonterminal {
         let Nonterminal {
             name,
             owner: _,
+            closed: _,
             forward_needs,
         } = self;
         drop(name);

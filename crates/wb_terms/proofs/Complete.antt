@@ -54,14 +54,19 @@ complete_head name place w rest f a b (owned {owner = owner} {second = second} {
     (take_token (k.Mark p.Colon) _ colon _ (y ∷ rest) _ _ b mark refl refl
     (take_token k.Name _ y (t.Name second) rest _ _ b its refl refl (act d'))))
 
--- an integer is of one of two kinds
-integer_kinds : (z : ℤ) → (kind_of (t.Int z) ≡ k.One) ⊎ (kind_of (t.Int z) ≡ k.Number)
-integer_kinds (pos n) = by_test (n == 1)
+-- a kind is one of the three of integers
+abbrev IsIntegerKind : TokenKind → Type 0
+IsIntegerKind kind = (kind ≡ k.One) ⊎ (kind ≡ k.Two) ⊎ (kind ≡ k.Number)
+
+-- an integer is of one of them
+integer_kinds : (z : ℤ) → IsIntegerKind (kind_of (t.Int z))
+integer_kinds (pos n) = by_tests (n == 1) (n == 2)
   where
-    by_test : (c : Truth) → (cond c k.One k.Number ≡ k.One) ⊎ (cond c k.One k.Number ≡ k.Number)
-    by_test true = inl refl
-    by_test false = inr refl
-integer_kinds (negsuc n) = inr refl
+    by_tests : (c d : Truth) → IsIntegerKind (cond c k.One (cond d k.Two k.Number))
+    by_tests true d = inl refl
+    by_tests false true = inr (inl refl)
+    by_tests false false = inr (inr refl)
+integer_kinds (negsuc n) = inr (inr refl)
 
 -- an argument that is a number
 complete_number : (z : ℤ) (f : Row) (x : Placed Lexeme) (rest w : Tokens) (a b : List Event) → Is (t.Int z) x → w ≡ x ∷ rest
@@ -70,9 +75,10 @@ complete_number : (z : ℤ) (f : Row) (x : Placed Lexeme) (rest w : Tokens) (a b
 unfolding term_rights
 complete_number z f x rest w a b is e d = by_kind (integer_kinds z)
   where
-    by_kind : (kind_of (t.Int z) ≡ k.One) ⊎ (kind_of (t.Int z) ≡ k.Number) → Gives (Nonterminal Part.Argument ∷ f) w a b
+    by_kind : IsIntegerKind (kind_of (t.Int z)) → Gives (Nonterminal Part.Argument ∷ f) w a b
     by_kind (inl of) = expand 0 refl (take_token k.One f x (t.Int z) rest w a b is of e d)
-    by_kind (inr of) = expand 1 refl (take_token k.Number f x (t.Int z) rest w a b is of e d)
+    by_kind (inr (inl of)) = expand 1 refl (take_token k.Two f x (t.Int z) rest w a b is of e d)
+    by_kind (inr (inr of)) = expand 2 refl (take_token k.Number f x (t.Int z) rest w a b is of e d)
 
 mutual
   unfolding term_rights
@@ -109,9 +115,9 @@ mutual
   complete_argument {w = w} {rest = rest} f a b (number {z = z} {x = x} is at e) d =
       complete_number z f x rest w a b is e (subst (λ q. Gives f rest (Int z q ∷ a) b) at d)
   complete_argument {w = w} {rest = rest} f a b (string {s = s} {x = x} is at e) d =
-      expand 2 refl (take_token k.String f x (t.Text s) rest w a b is refl e (subst (λ q. Gives f rest (Text s q ∷ a) b) at d))
+      expand 3 refl (take_token k.String f x (t.Text s) rest w a b is refl e (subst (λ q. Gives f rest (Text s q ∷ a) b) at d))
   complete_argument {w = w} {rest = rest} f a b (truth {x = x} is at e) d =
-      expand 3 refl (take_token (k.Word words.True) f x _ rest w a b is refl e (subst (λ q. Gives f rest (Bool true q ∷ a) b) at d))
+      expand 4 refl (take_token (k.Word words.True) f x _ rest w a b is refl e (subst (λ q. Gives f rest (Bool true q ∷ a) b) at d))
   complete_argument {w = w} {rest = rest} f a b (untruth {x = x} is at e) d =
-      expand 4 refl (take_token (k.Word words.False) f x _ rest w a b is refl e (subst (λ q. Gives f rest (Bool false q ∷ a) b) at d))
-  complete_argument f a b (below inner) d = expand 5 refl (complete_term f a b inner d)
+      expand 5 refl (take_token (k.Word words.False) f x _ rest w a b is refl e (subst (λ q. Gives f rest (Bool false q ∷ a) b) at d))
+  complete_argument f a b (below inner) d = expand 6 refl (complete_term f a b inner d)

@@ -10,7 +10,7 @@ use Rattle.wb_text_predictive.specs.declared.reading.Outcome.TheVariants.{Whole,
 use Rattle.wb_text_predictive.specs.Grammar.{done, IsText, CanStart}
 use Rattle.wb_text_predictive.specs.Reading as R
 use Rattle.wb_text_predictive.proofs.CallerLemmas.{one_text_value, one_outcome}
-use Rattle.wb_text_tokens.specs.declared.token.Layout.TheVariants.{Plain}
+use Rattle.wb_text_tokens.specs.declared.token.Dialect.TheVariants.{Terms}
 use Rattle.wb_text_tokens.specs.declared.token.Token.{Token}
 use Rattle.wb_terms.specs.declared.event.Event.{Event}
 use Rattle.wb_text_tokens.specs.NextToken.{IsNextIn}
@@ -60,7 +60,7 @@ cant_follow front (End at) never = λ last d. let t = term_of_text front last d 
 cant_follow front (NoToken at) never = tt
 
 -- the outcome of the table is what a reading finds
-pub term_reading : (bytes : List ℕ) (o : Outcome (List Event)) → R.IsOutcome term_grammar (IsNextIn Plain bytes) [] o
+pub term_reading : (bytes : List ℕ) (o : Outcome (List Event)) → R.IsOutcome term_grammar (IsNextIn Terms bytes) [] o
     → IsTermReading bytes o
 term_reading bytes (Whole events) r =
     let t = term_of_text r.tokens events r.text in
@@ -78,12 +78,12 @@ term_reading bytes (Stopped at) f = record {
 
 -- a term text is an outcome of the table
 whole_outcome : (bytes : List ℕ) (term : Term) → IsTermText bytes term
-    → R.IsOutcome term_grammar (IsNextIn Plain bytes) [] (Whole (term_onto term []))
+    → R.IsOutcome term_grammar (IsNextIn Terms bytes) [] (Whole (term_onto term []))
 whole_outcome bytes term t =
     record { tokens = t.tokens; to = t.to; at = t.at; spelled = t.spelled; ended = t.ended; text = text_of_term t.tokens term t.whole }
 
 -- and so is a first fault
-stopped_outcome : (bytes : List ℕ) (at : ℕ) → IsFirstFault bytes at → R.IsOutcome term_grammar (IsNextIn Plain bytes) [] (Stopped at)
+stopped_outcome : (bytes : List ℕ) (at : ℕ) → IsFirstFault bytes at → R.IsOutcome term_grammar (IsNextIn Terms bytes) [] (Stopped at)
 stopped_outcome bytes at f = record {
   front = f.front;
   from = f.from;
@@ -95,11 +95,11 @@ stopped_outcome bytes at f = record {
   place = f.here;
 }
 
-one : (bytes : List ℕ) (o p : Outcome (List Event)) → R.IsOutcome term_grammar (IsNextIn Plain bytes) [] o
-    → R.IsOutcome term_grammar (IsNextIn Plain bytes) [] p → o ≡ p
+one : (bytes : List ℕ) (o p : Outcome (List Event)) → R.IsOutcome term_grammar (IsNextIn Terms bytes) [] o
+    → R.IsOutcome term_grammar (IsNextIn Terms bytes) [] p → o ≡ p
 one bytes o p r s =
-    one_outcome same_kind kinds_same End term_entries term_grammar term_decided term_ends (IsNextIn Plain bytes)
-    (one_next Plain bytes) [] o r p s
+    one_outcome same_kind kinds_same End term_entries term_grammar term_decided term_ends (IsNextIn Terms bytes)
+    (one_next Terms bytes) [] o r p s
 
 -- what is met in two terms of one text is the same
 pub one_onto : (bytes : List ℕ) (s t : Term) → IsTermText bytes s → IsTermText bytes t → term_onto s [] ≡ term_onto t []

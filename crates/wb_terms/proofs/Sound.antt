@@ -12,7 +12,8 @@ use Rattle.wb_terms.specs.declared.event.Event.{Event}
 use Rattle.wb_text_tokens.specs.declared.kind.TokenKind.{TokenKind}
 use Rattle.wb_text_tokens.specs.declared.kind.TokenKind.TheVariants as k
 use Rattle.wb_text_tokens.specs.Kinds.{kind_of}
-use Rattle.wb_text_tokens.proofs.KindLaws.{name_by_kind, mark_by_kind, word_by_kind, string_by_kind, number_by_kind, one_by_kind}
+use Rattle.wb_text_tokens.proofs.KindLaws.{name_by_kind, mark_by_kind, word_by_kind, string_by_kind}
+use Rattle.wb_text_tokens.proofs.KindLaws.{number_by_kind, one_by_kind, two_by_kind}
 use Rattle.wb_terms.specs.declared.rules.Part.{Part}
 use Rattle.wb_terms.specs.declared.rules.Action.{Action}
 use Rattle.wb_terms.specs.Term.{Term, Argument, Arguments}
@@ -106,19 +107,21 @@ expanded Part.More (suc (suc p)) right f w e m = absurd (cc)
 expanded Part.Argument zero right f w e m =
     token_by k.One f w (λ x v is whole. (_, number (one_by_kind x.token is) refl whole)) (the_right f w _ right e m)
 expanded Part.Argument (suc zero) right f w e m =
-    token_by k.Number f w (λ x v is whole. let i = number_by_kind x.token is in (_, number i.1 refl whole)) (the_right f w _ right e m)
+    token_by k.Two f w (λ x v is whole. (_, number (two_by_kind x.token is) refl whole)) (the_right f w _ right e m)
 expanded Part.Argument (suc (suc zero)) right f w e m =
-    token_by k.String f w (λ x v is whole. let i = string_by_kind x.token is in (_, string i.1 refl whole)) (the_right f w _ right e m)
+    token_by k.Number f w (λ x v is whole. let i = number_by_kind x.token is in (_, number i.1 refl whole)) (the_right f w _ right e m)
 expanded Part.Argument (suc (suc (suc zero))) right f w e m =
+    token_by k.String f w (λ x v is whole. let i = string_by_kind x.token is in (_, string i.1 refl whole)) (the_right f w _ right e m)
+expanded Part.Argument (suc (suc (suc (suc zero)))) right f w e m =
     token_by (k.Word words.True) f w (λ x v is whole. (_, truth (word_by_kind x.token words.True is) refl whole))
     (the_right f w _ right e m)
-expanded Part.Argument (suc (suc (suc (suc zero)))) right f w e m =
+expanded Part.Argument (suc (suc (suc (suc (suc zero))))) right f w e m =
     token_by (k.Word words.False) f w (λ x v is whole. (_, untruth (word_by_kind x.token words.False is) refl whole))
     (the_right f w _ right e m)
-expanded Part.Argument (suc (suc (suc (suc (suc zero))))) right f w e m =
+expanded Part.Argument (suc (suc (suc (suc (suc (suc zero)))))) right f w e m =
     let m' : Means (Nonterminal Part.Term ∷ f) w = the_right f w _ right e m in
     (m'.0, (_, below m'.1.1), m'.2)
-expanded Part.Argument (suc (suc (suc (suc (suc (suc p)))))) right f w e m = absurd (cc)
+expanded Part.Argument (suc (suc (suc (suc (suc (suc (suc p))))))) right f w e m = absurd (cc)
 
 -- what a row derives it means
 means : {row : Row} {w : Tokens} {a b : List Event} → Gives row w a b → Means row w

@@ -3,7 +3,7 @@ use Rattle.std.specs.Prelude.{◌≡◌, ℕ, List, [], ◌∷◌, ◌++◌}
 use Rattle.wb_text_predictive.specs.declared.table.Next.{Next}
 use Rattle.wb_text_predictive.specs.declared.table.Next.TheVariants.{Found, End, NoToken}
 use Rattle.wb_text_predictive.specs.Reading.{Spells, place_of}
-use Rattle.wb_text_tokens.specs.declared.token.Layout.TheVariants.{Plain}
+use Rattle.wb_text_tokens.specs.declared.token.Dialect.TheVariants.{Terms}
 use Rattle.wb_text_tokens.specs.declared.token.Token.{Token}
 use Rattle.wb_text_tokens.specs.NextToken.{IsNextIn}
 use Rattle.wb_terms.specs.Term.{Term}
@@ -14,8 +14,8 @@ pub record IsTermText (bytes : List ℕ) (term : Term) : Type 0 where
   pub tokens : Tokens
   pub to : ℕ
   pub at : ℕ
-  pub spelled : Spells (IsNextIn Plain bytes) 0 tokens to
-  pub ended : IsNextIn Plain bytes to (End at)
+  pub spelled : Spells (IsNextIn Terms bytes) 0 tokens to
+  pub ended : IsNextIn Terms bytes to (End at)
   pub whole : IsTerm term tokens []
 
 -- some term begins with these tokens
@@ -35,8 +35,8 @@ pub record IsFirstFault (bytes : List ℕ) (place : ℕ) : Type 0 where
   pub front : Tokens
   pub from : ℕ
   pub next : Next Token
-  pub spelled : Spells (IsNextIn Plain bytes) 0 front from
+  pub spelled : Spells (IsNextIn Terms bytes) 0 front from
   pub before : CanBegin front
-  pub stands : IsNextIn Plain bytes from next
+  pub stands : IsNextIn Terms bytes from next
   pub fault : CannotFollow front next
   pub here : place_of next ≡ place

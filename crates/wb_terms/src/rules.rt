@@ -62,6 +62,7 @@ pub(crate) static ARGUMENTS: [TermRule; 2] = [
         kinds: &[
             TokenKind::Name,
             TokenKind::One,
+            TokenKind::Two,
             TokenKind::Number,
             TokenKind::String,
             TokenKind::Word(Word::True),
@@ -86,10 +87,14 @@ pub(crate) static MORE: [TermRule; 2] = [
     },
 ];
 
-pub(crate) static ARGUMENT: [TermRule; 6] = [
+pub(crate) static ARGUMENT: [TermRule; 7] = [
     Rule {
         kinds: &[TokenKind::One],
         right: &[Token(TokenKind::One)],
+    },
+    Rule {
+        kinds: &[TokenKind::Two],
+        right: &[Token(TokenKind::Two)],
     },
     Rule {
         kinds: &[TokenKind::Number],

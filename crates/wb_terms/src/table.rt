@@ -16,7 +16,7 @@ use crate::events::Events;
 use crate::rules::{ARGUMENT, ARGUMENTS, Action, MORE, OWNER, Part, TERM};
 use std::alloc::{AllocError, Global};
 use wb_text_predictive::{Next, Rule, Table};
-use wb_text_tokens::{Layout, Token, TokenKind, Word, next_token};
+use wb_text_tokens::{Dialect, Token, TokenKind, Word, next_token};
 
 // What a reserved word makes of what was met.
 fn shift_word(word: Word, at: usize, values: &mut Events) -> Result<(), AllocError>
@@ -44,7 +44,7 @@ impl Table for TermTable {
     type Values = Events;
 
     ghost use Rattle.wb_text_tokens.specs.declared.kind.TokenKind.TheVariants.{End};
-    ghost use Rattle.wb_text_tokens.specs.declared.token.Layout.TheVariants.{Plain};
+    ghost use Rattle.wb_text_tokens.specs.declared.token.Dialect.TheVariants.{Terms};
 
     ghost grammar = { term_grammar };
 
@@ -52,15 +52,15 @@ impl Table for TermTable {
 
     ghost entries = { term_entries };
 
-    ghost IsNext = { IsNextIn Plain };
+    ghost IsNext = { λ table. IsNextIn Terms };
 
     ghost same = { kinds_same };
 
     ghost sampled = { kinds_sampled };
 
-    ghost one_next = { one_next Plain };
+    ghost one_next = { λ table. one_next Terms };
 
-    ghost advances = { advances Plain };
+    ghost advances = { λ table. advances Terms };
 
     ghost decided = { term_decided };
 
@@ -90,7 +90,7 @@ impl Table for TermTable {
     }
 
     fn next(&self, alloc: Global, text: &[u8], from: usize) -> Result<Next<Token>, AllocError> {
-        next_token(alloc, text, from, Layout::Plain)
+        next_token(alloc, text, from, Dialect::Terms)
     }
 
     fn shift(

@@ -10,6 +10,8 @@ mod certify;
 #[cfg(test)]
 mod check;
 #[cfg(test)]
+mod closed;
+#[cfg(test)]
 mod compose;
 #[cfg(test)]
 mod failing_runs;

@@ -7,7 +7,7 @@ use crate::extensions::extensions_get;
 use crate::files::{FORWARD_NEEDS, TWO_INHERITED};
 
 // A nonterminal that inherits two attributes. Its forward may need none of them.
-static CLOSED: &str = "format 1; host h; \
+static NOT_LOOKING: &str = "format 1; host h; \
     terminal X /x/; \
     nonterminal P; nonterminal N; start P; extensible N; \
     inh env : bool; inh store : bool; syn value : bool; \
@@ -22,6 +22,15 @@ static LOOKING: &str = "format 1; host h; \
     inh env : bool; inh store : bool; syn value : bool; \
     occurs env on N; occurs store on N; occurs value on P; occurs value on N needs { env, store }; \
     forward on N needs { env }; \
+    concrete root : P ::= n : N { n.env = true; n.store = false; top.value = n.value; } \
+    concrete leaf : N ::= x : X { top.value = top.env; }";
+
+// The same nonterminal, closed.
+static CLOSED: &str = "format 2; host h; \
+    terminal X /x/; \
+    nonterminal P; nonterminal N; start P; extensible N; closed N; \
+    inh env : bool; inh store : bool; syn value : bool; \
+    occurs env on N; occurs store on N; occurs value on P; occurs value on N needs { env, store }; \
     concrete root : P ::= n : N { n.env = true; n.store = false; top.value = n.value; } \
     concrete leaf : N ::= x : X { top.value = top.env; }";
 
@@ -49,7 +58,7 @@ fn equations_for_a_forwarded_tree_may_need_what_its_flow_type_has(rt: HostRuntim
 
 // Extensions `f` are right alone. With one of them, a refused `e` would need what isn't there: one `e` swaps what its forwarded tree
 // inherits, one doesn't forward, and one needs an attribute to choose its forwarded tree.
-static OF_CLOSED: [Row; 7] = [
+static OF_NOT_LOOKING: [Row; 7] = [
     (
         "format 1; extension e for h; marking M /m/; concrete p : N ::= m : M n : N { forwards to n; forward.env = top.store; }",
         ("E8", "p", "env", "store"),
@@ -82,7 +91,7 @@ static OF_CLOSED: [Row; 7] = [
 
 #[test]
 fn an_extension_is_right_with_any_other(rt: HostRuntime) {
-    extensions_get(&rt, CLOSED, &OF_CLOSED);
+    extensions_get(&rt, NOT_LOOKING, &OF_NOT_LOOKING);
 }
 
 // The first is right. So the second is refused, whose attribute doesn't need what a forward may need.
@@ -108,4 +117,50 @@ static OF_LOOKING: [Row; 4] = [
 #[test]
 fn attributes_need_what_forwards_look_at(rt: HostRuntime) {
     extensions_get(&rt, LOOKING, &OF_LOOKING);
+}
+
+// A production on it needn't forward, and is else as all are; an attribute of an extension is on P alone.
+static OF_CLOSED: [Row; 9] = [
+    (
+        "format 1; extension e for h; marking M /m/; concrete p : N ::= m : M { top.value = true; }",
+        ("ok", "", "", ""),
+    ),
+    (
+        "format 2; extension e for h; marking M /m/; \
+            concrete p : N ::= m : M n : N { n.env = top.store; n.store = top.env; top.value = n.value; }",
+        ("ok", "", "", ""),
+    ),
+    (
+        "format 1; extension e for h; marking M /m/; concrete p : N ::= m : M n : N { forwards to n; }",
+        ("ok", "", "", ""),
+    ),
+    (
+        "format 1; extension e for h; marking M /m/; concrete p : N ::= m : M { }",
+        ("A1", "p", "value", ""),
+    ),
+    (
+        "format 1; extension e for h; marking M /m/; concrete p : N ::= m : M n : N { n.env = true; top.value = n.value; }",
+        ("A2", "p", "n", "store"),
+    ),
+    (
+        "format 1; extension e for h; marking M /m/; concrete p : N ::= m : M n : N { forwards to n; forward.env = top.store; }",
+        ("E8", "p", "env", "store"),
+    ),
+    (
+        "format 1; extension e for h; abstract p : P ::= { top.value = true; }",
+        ("E7", "p", "", ""),
+    ),
+    (
+        "format 1; extension f for h; syn seen : bool; occurs seen on N needs { env }; aspect leaf { top.seen = true; }",
+        ("N3", "seen", "", ""),
+    ),
+    (
+        "format 1; extension f for h; syn seen : bool; occurs seen on P; aspect root { top.seen = n.value; }",
+        ("ok", "", "", ""),
+    ),
+];
+
+#[test]
+fn on_a_closed_nonterminal_all_attributes_are_the_hosts(rt: HostRuntime) {
+    extensions_get(&rt, CLOSED, &OF_CLOSED);
 }

@@ -8,7 +8,7 @@ use wb_reader::read_spec;
 use wb_reader_printer::print_spec;
 use wb_syntax::Spec;
 
-static TEXTS: [(&str, &str); 4] = [
+static TEXTS: [(&str, &str); 6] = [
     (
         "format 01;host h;aspect p{top.a=@add(-05 ,\"a\\\"b\\n\");}terminal N/[0-9]+/;",
         "format 1;\nhost h;\naspect p { top.a = @add(-5, \"a\\\"b\\n\"); }\nterminal N /[0-9]+/;\n",
@@ -24,6 +24,14 @@ static TEXTS: [(&str, &str); 4] = [
     (
         "format 1; host h; prefer A over B; ignore S / /; marking M /m/; inh i : bool; start N; extensible N; nonterminal N;",
         "format 1;\nhost h;\nprefer A over B;\nignore S / /;\nmarking M /m/;\ninh i : bool;\nstart N;\nextensible N;\nnonterminal N;\n",
+    ),
+    (
+        "format 02;host h;nonterminal E ;closed E;",
+        "format 2;\nhost h;\nnonterminal E;\nclosed E;\n",
+    ),
+    (
+        "format 1; host closed; nonterminal closed;",
+        "format 1;\nhost closed;\nnonterminal closed;\n",
     ),
 ];
 

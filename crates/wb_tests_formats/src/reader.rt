@@ -79,6 +79,62 @@ static ITEMS: [(&str, &str, usize); 16] = [
     ("format 1; host h; aspect p { a.b.c = 1; }", "S1", 32),
 ];
 
+static FORMATS: [(&str, &str, usize); 17] = [
+    ("format 1; host h; closed E;", "S1", 18),
+    ("format 2; host h; nonterminal E; closed E;", "items", 2),
+    ("format 02; host h; closed E;", "items", 1),
+    ("format // c\n 2 ; extension e for h; closed E;", "items", 1),
+    ("format 3; host h; closed E;", "S3", 0),
+    ("format 0; closed", "S3", 0),
+    ("format 2", "S1", 8),
+    ("format 2;", "S1", 9),
+    ("format 2 host h;", "S1", 9),
+    ("format 2 closed;", "S1", 9),
+    ("closed", "S1", 0),
+    ("format 1; host closed; nonterminal closed;", "items", 1),
+    ("format 2; host closed;", "S1", 15),
+    ("format 2; host h; nonterminal closed;", "S1", 30),
+    ("format 2; host h; closed", "S1", 24),
+    ("format 2; host h; closed closed;", "S1", 25),
+    (
+        "format 2; host h; prefer A over B; aspect p { top.a = 2; }",
+        "items",
+        2,
+    ),
+];
+
+#[test]
+fn a_text_is_read_by_the_words_of_its_format(rt: HostRuntime) {
+    assert!(rt; have_outcomes(rt.alloc(), &FORMATS));
+}
+
+// Whether a text is a specification, or has its first error in its last 11 bytes or at its end.
+fn stops_late(alloc: Global, text: &[u8]) -> bool {
+    match read_spec(alloc, text) {
+        Ok(_) => true,
+        Err(refusal) => {
+            let (is, at) = shown(&refusal);
+            is == "S1" && at <= text.len() && text.len() - at <= 11
+        }
+    }
+}
+
+// Whether each beginning of a text is so.
+fn stop_late(alloc: Global, text: &[u8]) -> bool {
+    for end in 0..=text.len() {
+        if !stops_late(alloc, &text[..end]) {
+            return false;
+        }
+    }
+    true
+}
+
+// The longest word, `nonterminal`, has 11 bytes.
+#[test]
+fn a_beginning_of_a_text_has_no_error_before_its_last_token(rt: HostRuntime) {
+    assert!(rt; stop_late(rt.alloc(), b"format 2; host h; nonterminal E; closed E;"));
+}
+
 #[test]
 fn a_header_has_its_outcome(rt: HostRuntime) {
     assert!(rt; have_outcomes(rt.alloc(), &HEADERS));

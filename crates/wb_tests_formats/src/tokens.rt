@@ -8,7 +8,7 @@ use itoa::Buffer;
 use std::alloc::{AllocError, Global};
 use std::test::Fail;
 use wb_text_predictive::Next;
-use wb_text_tokens::{Layout, Token, next_token, print_int, print_text};
+use wb_text_tokens::{Dialect, Token, next_token, print_int, print_text};
 
 // Appends a text between two others.
 fn append_between(
@@ -59,12 +59,12 @@ fn append_next(
     alloc: Global,
     text: &[u8],
     from: usize,
-    layout: Layout,
+    dialect: Dialect,
     out: &mut Vec<u8>,
 ) -> Result<Option<usize>, AllocError>
     requires { from ≤ length text.now }
 {
-    match next_token(alloc, text, from, layout)? {
+    match next_token(alloc, text, from, dialect)? {
         Next::Found(found) => {
             append_placed(out, &found.token, found.at)?;
             Ok(Some(found.end))
@@ -78,7 +78,7 @@ fn append_next(
 fn append_all(
     alloc: Global,
     text: &[u8],
-    layout: Layout,
+    dialect: Dialect,
     out: &mut Vec<u8>,
 ) -> Result<(), AllocError> {
     let mut from = 0;
@@ -86,7 +86,7 @@ fn append_all(
         if from > text.len() {
             return Ok(());
         }
-        match append_next(alloc, text, from, layout, out)? {
+        match append_next(alloc, text, from, dialect, out)? {
             Some(end) => from = end,
             None => return Ok(()),
         }
@@ -95,16 +95,21 @@ fn append_all(
 }
 
 // Whether the tokens of a text are shown as this text.
-fn is_shown(alloc: Global, text: &[u8], layout: Layout, tokens: &[u8]) -> Result<bool, AllocError> {
+fn is_shown(
+    alloc: Global,
+    text: &[u8],
+    dialect: Dialect,
+    tokens: &[u8],
+) -> Result<bool, AllocError> {
     let mut out = Vec::new(alloc);
-    append_all(alloc, text, layout, &mut out)?;
+    append_all(alloc, text, dialect, &mut out)?;
     Ok(out.as_slice() == tokens)
 }
 
 // Whether the tokens of each text are shown as its row says.
-fn are_shown(alloc: Global, cases: &[(&str, &str)], layout: Layout) -> Result<bool, AllocError> {
+fn are_shown(alloc: Global, cases: &[(&str, &str)], dialect: Dialect) -> Result<bool, AllocError> {
     for (text, tokens) in cases {
-        if !is_shown(alloc, text.as_bytes(), layout, tokens.as_bytes())? {
+        if !is_shown(alloc, text.as_bytes(), dialect, tokens.as_bytes())? {
             return Ok(false);
         }
     }
@@ -128,7 +133,29 @@ static NAMES: [(&str, &str); 6] = [
 
 #[test]
 fn names_and_marks_go_on_as_long_as_they_can(rt: HostRuntime) -> Result<(), Fail> {
-    assert!(rt; are_shown(rt.alloc(), &NAMES, Layout::WithComments)?);
+    assert!(rt; are_shown(rt.alloc(), &NAMES, Dialect::FormatOne)?);
+    Ok(())
+}
+
+static CLOSED: [(Dialect, &str); 3] = [
+    (Dialect::Terms, "closed@0 closedx@7 <start>@15 $20"),
+    (Dialect::FormatOne, "closed@0 closedx@7 <start>@15 $20"),
+    (Dialect::FormatTwo, "<closed>@0 closedx@7 <start>@15 $20"),
+];
+
+// Whether the words of each dialect are shown as its row says.
+fn are_words_shown(alloc: Global) -> Result<bool, AllocError> {
+    for (dialect, tokens) in &CLOSED {
+        if !is_shown(alloc, b"closed closedx start", *dialect, tokens.as_bytes())? {
+            return Ok(false);
+        }
+    }
+    Ok(true)
+}
+
+#[test]
+fn closed_is_a_word_of_format_2_alone(rt: HostRuntime) -> Result<(), Fail> {
+    assert!(rt; are_words_shown(rt.alloc())?);
     Ok(())
 }
 
@@ -148,7 +175,7 @@ static INTEGERS: [(&str, &str); 8] = [
 
 #[test]
 fn integers_out_of_range_are_no_tokens(rt: HostRuntime) -> Result<(), Fail> {
-    assert!(rt; are_shown(rt.alloc(), &INTEGERS, Layout::WithComments)?);
+    assert!(rt; are_shown(rt.alloc(), &INTEGERS, Dialect::FormatOne)?);
     Ok(())
 }
 
@@ -168,7 +195,7 @@ static STRINGS: [(&str, &str); 8] = [
 
 #[test]
 fn strings_stand_for_their_text(rt: HostRuntime) -> Result<(), Fail> {
-    assert!(rt; are_shown(rt.alloc(), &STRINGS, Layout::WithComments)?);
+    assert!(rt; are_shown(rt.alloc(), &STRINGS, Dialect::FormatOne)?);
     Ok(())
 }
 
@@ -186,7 +213,7 @@ static REGULAR_EXPRESSIONS: [(&str, &str); 6] = [
 
 #[test]
 fn regular_expressions_keep_their_bytes(rt: HostRuntime) -> Result<(), Fail> {
-    assert!(rt; are_shown(rt.alloc(), &REGULAR_EXPRESSIONS, Layout::WithComments)?);
+    assert!(rt; are_shown(rt.alloc(), &REGULAR_EXPRESSIONS, Dialect::FormatOne)?);
     Ok(())
 }
 
@@ -205,7 +232,7 @@ static LAYOUT: [(&str, &str); 10] = [
 
 #[test]
 fn layout_goes_to_the_next_token(rt: HostRuntime) -> Result<(), Fail> {
-    assert!(rt; are_shown(rt.alloc(), &LAYOUT, Layout::WithComments)?);
+    assert!(rt; are_shown(rt.alloc(), &LAYOUT, Dialect::FormatOne)?);
     Ok(())
 }
 
@@ -217,7 +244,7 @@ static COMMENTS: [(&str, &str); 3] = [
 
 #[test]
 fn comments_are_no_layout_in_plain_texts(rt: HostRuntime) -> Result<(), Fail> {
-    assert!(rt; are_shown(rt.alloc(), &COMMENTS, Layout::Plain)?);
+    assert!(rt; are_shown(rt.alloc(), &COMMENTS, Dialect::Terms)?);
     Ok(())
 }
 
@@ -234,6 +261,13 @@ fn reserved_words_are_no_names(rt: HostRuntime) -> Result<(), Fail> {
         <needs>@138 <nonterminal>@144 <occurs>@156 <on>@163 <over>@166 <prefer>@171 \
         <start>@178 <syn>@184 <terminal>@188 <text>@197 <then>@202 <to>@207 <top>@210 \
         <true>@214 $218";
-    assert!(rt; is_shown(rt.alloc(), text.as_bytes(), Layout::Plain, shown.as_bytes())?);
+    assert!(rt;
+        is_shown(
+            rt.alloc(),
+            text.as_bytes(),
+            Dialect::Terms,
+            shown.as_bytes()
+        )?
+    );
     Ok(())
 }

@@ -79,6 +79,61 @@ fn what_is_right_in_an_extension_is_resolved(rt: HostRuntime) {
     assert!(rt; extensions_get(rt.alloc(), &NAMES, HOST, &RIGHT));
 }
 
+// The host closed E, and left F open.
+const CLOSING: &str = "format 2; host h; \
+    nonterminal E; nonterminal F; syn v : int; occurs v on E; closed E; \
+    abstract p : E ::= x : F { top.v = 1; }";
+
+static IN_FORMAT_2: Asked = Asked {
+    tested: Tested::Names,
+    first_line: "format 2; extension e for h; ",
+};
+
+static ON_CLOSED: [Row; 9] = [
+    ("syn u : int; occurs u on E;", "N3 u"),
+    ("inh j : int; occurs j on E;", "N3 j"),
+    ("closed E;", "N3 E"),
+    ("closed F;", "N3 F"),
+    ("nonterminal Q; closed Q;", "N3 Q"),
+    ("closed E; closed E;", "N2 E"),
+    ("closed Q;", "N1 Q"),
+    ("closed v;", "N1 v"),
+    ("closed p;", "N4 p"),
+];
+
+#[test]
+fn an_extension_closes_nothing_and_adds_nothing_to_what_is_closed(rt: HostRuntime) {
+    assert!(rt; extensions_get(rt.alloc(), &IN_FORMAT_2, CLOSING, &ON_CLOSED));
+}
+
+static BESIDE_CLOSED: [Row; 3] = [
+    (
+        "syn u : int; occurs u on F; inh j : int; occurs j on F; aspect p { x.j = 1; }",
+        "ok",
+    ),
+    ("abstract r : E ::= { top.v = 1; }", "ok"),
+    (
+        "nonterminal Q; syn u : int; occurs u on Q; occurs v on Q;",
+        "ok",
+    ),
+];
+
+#[test]
+fn what_is_not_closed_is_as_it_was(rt: HostRuntime) {
+    assert!(rt; extensions_get(rt.alloc(), &IN_FORMAT_2, CLOSING, &BESIDE_CLOSED));
+}
+
+// In files of format 1 no name is closed, and `closed` is a name.
+static IN_FORMAT_1: [Row; 2] = [
+    ("abstract closed : E ::= { top.v = 1; }", "ok"),
+    ("nonterminal closed; syn u : int; occurs u on closed;", "ok"),
+];
+
+#[test]
+fn the_word_is_a_name_in_format_1(rt: HostRuntime) {
+    assert!(rt; extensions_get(rt.alloc(), &NAMES, CLOSING, &IN_FORMAT_1));
+}
+
 static WITH_FIRST_LINES: Asked = Asked {
     tested: Tested::Names,
     first_line: "",

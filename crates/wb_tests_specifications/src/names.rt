@@ -249,3 +249,23 @@ static RIGHT: [Row; 8] = [
 fn what_is_right_in_a_host_is_resolved(rt: HostRuntime) {
     assert!(rt; hosts_get(rt.alloc(), &NAMES, &RIGHT));
 }
+
+static IN_FORMAT_2: Asked = Asked {
+    tested: Tested::Names,
+    first_line: "format 2; host h; ",
+};
+
+// Hosts that close a nonterminal.
+static CLOSING: [Row; 6] = [
+    ("nonterminal E; closed E;", "ok"),
+    ("closed E; extensible E; nonterminal E; start E;", "ok"),
+    ("nonterminal E; closed E; closed E;", "N2 E"),
+    ("closed Q; closed Q;", "N2 Q"),
+    ("syn E : int; closed E;", "N1 E"),
+    ("terminal E /e/; closed E;", "N4 E"),
+];
+
+#[test]
+fn what_a_host_closes_is_a_nonterminal(rt: HostRuntime) {
+    assert!(rt; hosts_get(rt.alloc(), &IN_FORMAT_2, &CLOSING));
+}

@@ -28,7 +28,7 @@ use Rattle.wb_syntax_resolved.specs.Named.{IsNamedProduction}
 use Rattle.wb_syntax_resolved.specs.Named.{IsNamedNonterminal, IsNamedAttribute, IsNamedOccurrence}
 use Rattle.wb_syntax_resolved.specs.Numbered.{IsNumbered, IsGrouped}
 use Rattle.wb_syntax_resolved.specs.Once.{Entry, NamesDiffer, IsOnce, IsOnceIn, OccursOnce, symbol_names}
-use Rattle.wb_syntax_resolved.specs.Owned.{IsOwned, IsOwnOccurrence, IsOwnEquation}
+use Rattle.wb_syntax_resolved.specs.Owned.{IsOwned, IsOwnOccurrence, IsOpenTo, IsOwnEquation}
 use Rattle.wb_syntax_resolved.specs.Resolved.{IsNamedTerminal, IsNamedPreference, HasGrammarTerminals, IsResolved}
 use Rattle.wb_syntax_resolved.specs.Visible.{SeesNonterminal, SeesAttribute, SeesOccurrence}
 use Rattle.wb_tests_values.specs.Inner.Empty.{no_parts}
@@ -158,6 +158,7 @@ module _ (node : Node) (is : IsSampleNode node) where
     };
     owned = record {
       occurrences = one_all (IsOwnOccurrence (sample node)) v_on_n (inl refl);
+      open_to = one_all (IsOpenTo (sample node)) v_on_n (λ shut. refl);
       equations = one_all (λ (p : Production). All (IsOwnEquation (sample node) p) p.equations) (production_p node)
           (one_all (IsOwnEquation (sample node) (production_p node)) (equation_of node) (inl refl));
     };
@@ -194,6 +195,7 @@ is_nothing a same = subst IsAttribution (sym same) (record {
   };
   owned = record {
     occurrences = All-nil (IsOwnOccurrence no_parts);
+    open_to = All-nil (IsOpenTo no_parts);
     equations = All-nil (λ (p : Production). All (IsOwnEquation no_parts p) p.equations);
   };
   once = record {

@@ -54,6 +54,7 @@ fn nonterminals(alloc: Global) -> Result<Sequence<Nonterminal>, AllocError>
         Nonterminal {
             name,
             owner: 0,
+            closed: false,
             forward_needs: nothing(alloc)
         },
     ]?;

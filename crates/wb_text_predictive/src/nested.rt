@@ -181,15 +181,15 @@ impl Table for Nested {
 
     ghost entries = { nested_entries };
 
-    ghost IsNext = { IsNestedNext };
+    ghost IsNext = { λ table. IsNestedNext };
 
     ghost same = { λ a b. (same_true the_type tt a b, true_same the_type a b) };
 
     ghost sampled = { nested_sampled };
 
-    ghost one_next = { nested_one_next };
+    ghost one_next = { λ table. nested_one_next };
 
-    ghost advances = { nested_advances };
+    ghost advances = { λ table. nested_advances };
 
     ghost decided = { nested_decided };
 

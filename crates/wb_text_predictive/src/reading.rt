@@ -48,7 +48,7 @@ fn advance<T: Table>(
     ensures ok { IfOk result (λ step. (first : T.Values) (read : List (Placed T.Token)) →
         Stands T.Kind.eq T.end_kind T.entries T.grammar
         first read (reverse stack.old.items) values.old Any →
-        StepIs T.Kind.eq T.end_kind T.entries T.grammar (T.IsNext text.now)
+        StepIs T.Kind.eq T.end_kind T.entries T.grammar (T.IsNext table.now text.now)
         from first read (reverse stack.new.items) values.new step) }
     ensures progress { IfOk result (λ step. GoesOn from (length text.now) step) }
 {
@@ -84,9 +84,9 @@ pub fn read_all<T: Table>(
     text: &[u8],
     values: T::Values,
 ) -> Result<Outcome<T::Values>, AllocError>
-    ensures ok { IfOk result (λ outcome. IsOutcome T.grammar (T.IsNext text.now) values outcome) }
+    ensures ok { IfOk result (λ outcome. IsOutcome T.grammar (T.IsNext table.now text.now) values outcome) }
     ensures only { (outcome : Outcome T.Values) →
-        IsOutcome T.grammar (T.IsNext text.now) values outcome →
+        IsOutcome T.grammar (T.IsNext table.now text.now) values outcome →
         IfOk result (λ found. found ≡ outcome) }
 {
     let mut made = values;

@@ -66,8 +66,8 @@ pub trait Table {
     /// What is given of each nonterminal, and only checked.
     ghost entries: { Self.Nonterminal → Entry Self.Kind };
 
-    /// This is next after a place of the text.
-    ghost IsNext: { List ℕ → ℕ → Next Self.Token → Type 0 };
+    /// By the table, this is next after a place of the text.
+    ghost IsNext: { Self → List ℕ → ℕ → Next Self.Token → Type 0 };
 
     /// The nonterminal that derives whole texts.
     fn start(&self) -> Self::Nonterminal
@@ -92,7 +92,7 @@ pub trait Table {
     /// What is next after a place.
     fn next(&self, alloc: Global, text: &[u8], from: usize) -> Result<Next<Self::Token>, AllocError>
         requires { from ≤ length text.now }
-        ensures ok { IfOk result (λ next. IsNext text.now from next) };
+        ensures ok { IfOk result (λ next. IsNext self.now text.now from next) };
 
     /// Changes the values by a token, which begins at `at` and ends before `end`. If memory runs out, the values may be anything.
     fn shift(
@@ -122,12 +122,12 @@ pub trait Table {
         (token : Self.Token) × (grammar.kind_of token ≡ kind) };
 
     /// One thing is next.
-    ghost one_next: { (text : List ℕ) (from : ℕ) (a b : Next Self.Token) →
-        IsNext text from a → IsNext text from b → a ≡ b };
+    ghost one_next: { (table : Self) (text : List ℕ) (from : ℕ) (a b : Next Self.Token) →
+        IsNext table text from a → IsNext table text from b → a ≡ b };
 
     /// A token ends after the place and within the text.
-    ghost advances: { (text : List ℕ) (from : ℕ) (x : Placed Self.Token) → from ≤ length text →
-        IsNext text from (Found x) → (from < x.end) × (x.end ≤ length text) };
+    ghost advances: { (table : Self) (text : List ℕ) (from : ℕ) (x : Placed Self.Token) → from ≤ length text →
+        IsNext table text from (Found x) → (from < x.end) × (x.end ≤ length text) };
 
     /// One token of lookahead decides between the right sides of each nonterminal.
     ghost decided: { (n : Self.Nonterminal) →

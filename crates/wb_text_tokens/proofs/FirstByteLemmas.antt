@@ -14,6 +14,7 @@ use Rattle.wb_text_tokens.specs.declared.token_class.TokenClass.{TokenClass}
 use Rattle.wb_text_tokens.specs.declared.token_class.TokenClass.TheVariants.{Letter, Number, Quote, Slash, Mark}
 use Rattle.wb_text_tokens.specs.declared.punctuation.Punctuation.{Punctuation}
 use Rattle.wb_text_tokens.specs.declared.punctuation.Punctuation.TheVariants as p
+use Rattle.wb_text_tokens.specs.declared.token.Dialect.{Dialect}
 use Rattle.wb_text_tokens.specs.declared.token.Token.{Token}
 use Rattle.wb_text_tokens.specs.declared.token.Token.TheVariants as t
 use Rattle.wb_text_tokens.specs.declared.word.Word.{Word}
@@ -94,36 +95,36 @@ numeral_begins [] h = absurd (omega (arith, h.0))
 numeral_begins (c ∷ cs) h = let r = digit_from_value c h.1.0 in digit_begins c r.0 r.1
 
 -- a token has a byte
-pub spelled_some : (token : Token) (x : List ℕ) → Spells token x → 0 < length x
-spelled_some (t.Name text) [] s = absurd s.1
-spelled_some (t.Name text) (b ∷ x) s = omega arith
-spelled_some (t.Word word) x s = subst (λ y. 0 < length y) (sym s) (word_is word).some
-spelled_some (t.Int value) x (IsInteger.positive n e) = n.0
-spelled_some (t.Int value) x (IsInteger.negative n e f) = subst (λ y. 0 < length y) (sym e) (omega arith)
-spelled_some (t.Text text) x s = subst (λ y. 0 < length y) (sym s.quoted) (omega arith)
-spelled_some (t.Regex body) x s = subst (λ y. 0 < length y) (sym s.0) (omega arith)
-spelled_some (t.Punctuation mark) x s = subst (λ y. 0 < length y) (sym s) (mark_is mark).some
+pub spelled_some : (dialect : Dialect) (token : Token) (x : List ℕ) → Spells dialect token x → 0 < length x
+spelled_some dialect (t.Name text) [] s = absurd s.1
+spelled_some dialect (t.Name text) (b ∷ x) s = omega arith
+spelled_some dialect (t.Word word) x s = subst (λ y. 0 < length y) (sym s.is) (word_is word).some
+spelled_some dialect (t.Int value) x (IsInteger.positive n e) = n.0
+spelled_some dialect (t.Int value) x (IsInteger.negative n e f) = subst (λ y. 0 < length y) (sym e) (omega arith)
+spelled_some dialect (t.Text text) x s = subst (λ y. 0 < length y) (sym s.quoted) (omega arith)
+spelled_some dialect (t.Regex body) x s = subst (λ y. 0 < length y) (sym s.0) (omega arith)
+spelled_some dialect (t.Punctuation mark) x s = subst (λ y. 0 < length y) (sym s) (mark_is mark).some
 
 -- the first byte of a token tells its kind
-pub spelled_beginning : (token : Token) (x : List ℕ) → Spells token x → first_class (get_or x 0 0) ≡ class_of token
-spelled_beginning (t.Name text) [] s = absurd s.1
-spelled_beginning (t.Name text) (b ∷ x) s = letter_is b s.1.0
-spelled_beginning (t.Word word) x s = ap (λ y. first_class (get_or y 0 0)) s ∙ (word_is word).letter
-spelled_beginning (t.Int value) x (IsInteger.positive n e) = numeral_begins x n
-spelled_beginning (t.Int value) x (IsInteger.negative n e f) = ap (λ y. first_class (get_or y 0 0)) e
-spelled_beginning (t.Text text) x s = ap (λ y. first_class (get_or y 0 0)) s.quoted
-spelled_beginning (t.Regex body) x s = ap (λ y. first_class (get_or y 0 0)) s.0
-spelled_beginning (t.Punctuation mark) x s = ap (λ y. first_class (get_or y 0 0)) s ∙ (mark_is mark).mark
+pub spelled_beginning : (dialect : Dialect) (token : Token) (x : List ℕ) → Spells dialect token x → first_class (get_or x 0 0) ≡ class_of token
+spelled_beginning dialect (t.Name text) [] s = absurd s.1
+spelled_beginning dialect (t.Name text) (b ∷ x) s = letter_is b s.1.0
+spelled_beginning dialect (t.Word word) x s = ap (λ y. first_class (get_or y 0 0)) s.is ∙ (word_is word).letter
+spelled_beginning dialect (t.Int value) x (IsInteger.positive n e) = numeral_begins x n
+spelled_beginning dialect (t.Int value) x (IsInteger.negative n e f) = ap (λ y. first_class (get_or y 0 0)) e
+spelled_beginning dialect (t.Text text) x s = ap (λ y. first_class (get_or y 0 0)) s.quoted
+spelled_beginning dialect (t.Regex body) x s = ap (λ y. first_class (get_or y 0 0)) s.0
+spelled_beginning dialect (t.Punctuation mark) x s = ap (λ y. first_class (get_or y 0 0)) s ∙ (mark_is mark).mark
 
 -- a letter begins names and reserved words, and their bytes are letters, digits and `_`
-pub name_bytes : (token : Token) (x : List ℕ) → Spells token x → class_of token ≡ Letter → list_all is_name_byte x ≡ true
-name_bytes (t.Name text) [] s k = refl
-name_bytes (t.Name text) (b ∷ x) s k = ap (λ t. (t || is_ascii_digit b) && list_all is_name_byte x) s.1.0 ∙ s.1.1
-name_bytes (t.Word word) x s k = ap (list_all is_name_byte) s ∙ (word_is word).bytes
-name_bytes (t.Int value) x s k = cc
-name_bytes (t.Text text) x s k = cc
-name_bytes (t.Regex body) x s k = cc
-name_bytes (t.Punctuation mark) x s k = cc
+pub name_bytes : (dialect : Dialect) (token : Token) (x : List ℕ) → Spells dialect token x → class_of token ≡ Letter → list_all is_name_byte x ≡ true
+name_bytes dialect (t.Name text) [] s k = refl
+name_bytes dialect (t.Name text) (b ∷ x) s k = ap (λ t. (t || is_ascii_digit b) && list_all is_name_byte x) s.1.0 ∙ s.1.1
+name_bytes dialect (t.Word word) x s k = ap (list_all is_name_byte) s.is ∙ (word_is word).bytes
+name_bytes dialect (t.Int value) x s k = cc
+name_bytes dialect (t.Text text) x s k = cc
+name_bytes dialect (t.Regex body) x s k = cc
+name_bytes dialect (t.Punctuation mark) x s k = cc
 
 -- which test holds where the choice is a letter
 choice_letter : (l d q s : Bool) → cond l Letter (cond d Number (cond q Quote (cond s Slash Mark))) ≡ Letter → l ≡ true
@@ -162,40 +163,40 @@ pub begins_slash : (b : ℕ) → first_class b ≡ Slash → b ≡ 47
 begins_slash b h = eqb-true b 47 (choice_slash (is_letter b) (is_ascii_digit b || eqb b 45) (eqb b 34) (eqb b 47) h)
 
 -- a token that begins with a digit or a minus is an integer
-pub number_is : (token : Token) (x : List ℕ) → Spells token x → class_of token ≡ Number → (z : ℤ) × (token ≡ t.Int z) × IsInteger x z
-number_is (t.Name text) x s k = cc
-number_is (t.Word word) x s k = cc
-number_is (t.Int value) x s k = (value, refl, s)
-number_is (t.Text text) x s k = cc
-number_is (t.Regex body) x s k = cc
-number_is (t.Punctuation mark) x s k = cc
+pub number_is : (dialect : Dialect) (token : Token) (x : List ℕ) → Spells dialect token x → class_of token ≡ Number → (z : ℤ) × (token ≡ t.Int z) × IsInteger x z
+number_is dialect (t.Name text) x s k = cc
+number_is dialect (t.Word word) x s k = cc
+number_is dialect (t.Int value) x s k = (value, refl, s)
+number_is dialect (t.Text text) x s k = cc
+number_is dialect (t.Regex body) x s k = cc
+number_is dialect (t.Punctuation mark) x s k = cc
 
 -- a token that begins with a quote is a string
-pub string_is : (token : Token) (x : List ℕ) → Spells token x → class_of token ≡ Quote
+pub string_is : (dialect : Dialect) (token : Token) (x : List ℕ) → Spells dialect token x → class_of token ≡ Quote
     → (text : List ℕ) × (token ≡ t.Text text) × IsString x text
-string_is (t.Name text) x s k = cc
-string_is (t.Word word) x s k = cc
-string_is (t.Int value) x s k = cc
-string_is (t.Text text) x s k = (text, refl, s)
-string_is (t.Regex body) x s k = cc
-string_is (t.Punctuation mark) x s k = cc
+string_is dialect (t.Name text) x s k = cc
+string_is dialect (t.Word word) x s k = cc
+string_is dialect (t.Int value) x s k = cc
+string_is dialect (t.Text text) x s k = (text, refl, s)
+string_is dialect (t.Regex body) x s k = cc
+string_is dialect (t.Punctuation mark) x s k = cc
 
 -- a token that begins with a slash is a regular expression
-pub regex_is : (token : Token) (x : List ℕ) → Spells token x → class_of token ≡ Slash
+pub regex_is : (dialect : Dialect) (token : Token) (x : List ℕ) → Spells dialect token x → class_of token ≡ Slash
     → (body : List ℕ) × (token ≡ t.Regex body) × (x ≡ 47 ∷ (body ++ 47 ∷ [])) × (body ≢ []) × IsRegexBody body
-regex_is (t.Name text) x s k = cc
-regex_is (t.Word word) x s k = cc
-regex_is (t.Int value) x s k = cc
-regex_is (t.Text text) x s k = cc
-regex_is (t.Regex body) x s k = (body, refl, s.0, s.1, s.2)
-regex_is (t.Punctuation mark) x s k = cc
+regex_is dialect (t.Name text) x s k = cc
+regex_is dialect (t.Word word) x s k = cc
+regex_is dialect (t.Int value) x s k = cc
+regex_is dialect (t.Text text) x s k = cc
+regex_is dialect (t.Regex body) x s k = (body, refl, s.0, s.1, s.2)
+regex_is dialect (t.Punctuation mark) x s k = cc
 
 -- any other token is a punctuation mark
-pub punctuation_is : (token : Token) (x : List ℕ) → Spells token x → class_of token ≡ Mark
+pub punctuation_is : (dialect : Dialect) (token : Token) (x : List ℕ) → Spells dialect token x → class_of token ≡ Mark
     → (mark : Punctuation) × (token ≡ t.Punctuation mark) × (x ≡ punctuation_text mark)
-punctuation_is (t.Name text) x s k = cc
-punctuation_is (t.Word word) x s k = cc
-punctuation_is (t.Int value) x s k = cc
-punctuation_is (t.Text text) x s k = cc
-punctuation_is (t.Regex body) x s k = cc
-punctuation_is (t.Punctuation mark) x s k = (mark, refl, s)
+punctuation_is dialect (t.Name text) x s k = cc
+punctuation_is dialect (t.Word word) x s k = cc
+punctuation_is dialect (t.Int value) x s k = cc
+punctuation_is dialect (t.Text text) x s k = cc
+punctuation_is dialect (t.Regex body) x s k = cc
+punctuation_is dialect (t.Punctuation mark) x s k = (mark, refl, s)

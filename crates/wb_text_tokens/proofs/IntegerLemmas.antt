@@ -15,6 +15,7 @@ use Rattle.wb_lemmas.proofs.Digits.{digits_pass, digit_is}
 use Rattle.wb_base.specs.Decimal.{signed, digit_count}
 use Rattle.wb_text_tokens.specs.Spelling.{IsInteger}
 use Rattle.wb_text_tokens.specs.declared.token_class.TokenClass.TheVariants.{Number}
+use Rattle.wb_text_tokens.specs.declared.token.Dialect.{Dialect}
 use Rattle.wb_text_tokens.specs.declared.token.Token.{Token}
 use Rattle.wb_text_tokens.specs.declared.token.Token.TheVariants as t
 use Rattle.wb_text_tokens.proofs.FirstByteLemmas.{number_is}
@@ -118,32 +119,32 @@ whole_at text negative digits s some =
     (whole negative digits some)
 
 -- a number in range is the longest token
-pub integer_longest : (text : List ℕ) (negative : Bool) (digits : List ℕ) → IsSigned text negative digits
+pub integer_longest : (dialect : Dialect) (text : List ℕ) (negative : Bool) (digits : List ℕ) → IsSigned text negative digits
     → first_class (get_or text 0 0) ≡ Number
     → (value : ℤ) (n count : ℕ) → FindsNumber negative digits (Some (value, n)) → count ≡ length (sign negative) + n
-    → IsLongest text (t.Int value) count
-integer_longest text negative digits s begins value n count found e =
+    → IsLongest dialect text (t.Int value) count
+integer_longest dialect text negative digits s begins value n count found e =
     let at : count ≡ length (sign negative) + digit_count digits = omega (arith, e, found.1) in
     let spelled : IsInteger (take count text) value =
     subst (λ k. IsInteger (take k text) value) (sym at) (subst (λ z. IsInteger (take (length (sign negative) + digit_count digits) text) z)
     (sym found.0) (whole_at text negative digits s found.2)) in
     record {
-      some = prefix_some text (t.Int value) count spelled;
+      some = prefix_some dialect text (t.Int value) count spelled;
       within = omega (arith, at, ap length s.joined, length-append (sign negative) digits, prefix_len-le-length is_ascii_digit digits);
       spelled = spelled;
       in_range = found.3;
       longest = λ other more lt le o.
-          let i = number_is other (take more text) o (sym (prefix_kind text other more o) ∙ begins) in
+          let i = number_is dialect other (take more text) o (sym (prefix_kind dialect text other more o) ∙ begins) in
           let h = shape text negative digits s more i.0 le i.2 in
           let no_more = digits_within h.taken digits h.within h.numeral.1 in
           omega (arith, at, lt, h.counted, no_more);
     }
 
 -- an integer that is cut before its last digit isn't the longest
-no_shorter : (text : List ℕ) (negative : Bool) (digits : List ℕ) → IsSigned text negative digits
-    → (z : ℤ) (count : ℕ) → IsLongest text (t.Int z) count
+no_shorter : (dialect : Dialect) (text : List ℕ) (negative : Bool) (digits : List ℕ) → IsSigned text negative digits
+    → (z : ℤ) (count : ℕ) → IsLongest dialect text (t.Int z) count
     → count < length (sign negative) + digit_count digits → ⊥
-no_shorter text negative digits s z count l less =
+no_shorter dialect text negative digits s z count l less =
     let more = length (sign negative) + digit_count digits in
     let some : 0 < digit_count digits =
     let h = shape text negative digits s count z l.within l.spelled in
@@ -158,15 +159,15 @@ no_shorter text negative digits s z count l less =
     l.longest (t.Int (number_of negative digits)) more less within (whole_at text negative digits s some)
 
 -- no integer is the longest token where there is no digit or the number is out of range
-no_token : (text : List ℕ) (negative : Bool) (digits : List ℕ) → IsSigned text negative digits
-    → (z : ℤ) (count : ℕ) → IsLongest text (t.Int z) count
+no_token : (dialect : Dialect) (text : List ℕ) (negative : Bool) (digits : List ℕ) → IsSigned text negative digits
+    → (z : ℤ) (count : ℕ) → IsLongest dialect text (t.Int z) count
     → (digit_count digits ≡ 0) ⊎ (¬ FitsSigned w64 (number_of negative digits)) → ⊥
-no_token text negative digits s z count l none =
+no_token dialect text negative digits s z count l none =
     let h = shape text negative digits s count z l.within l.spelled in
     let no_more = digits_within h.taken digits h.within h.numeral.1 in
     let some : 0 < h.taken = omega (arith, h.numeral.0, length-take h.taken digits) in
     ⊎_elim
-    (λ less. no_shorter text negative digits s z count l (omega (arith, less, h.counted)))
+    (λ less. no_shorter dialect text negative digits s z count l (omega (arith, less, h.counted)))
     (λ all.
     let same : h.taken ≡ digit_count digits = omega (arith, all, no_more) in
     let value : z ≡ number_of negative digits = h.value ∙ ap (λ n. signed negative (digits_value 10 (take n digits))) same in
@@ -174,12 +175,12 @@ no_token text negative digits s z count l none =
     (cases_lt h.taken (digit_count digits))
 
 -- where there is no digit, or the number is out of range, no token begins
-pub integer_none : (text : List ℕ) (negative : Bool) (digits : List ℕ) → IsSigned text negative digits
+pub integer_none : (dialect : Dialect) (text : List ℕ) (negative : Bool) (digits : List ℕ) → IsSigned text negative digits
     → first_class (get_or text 0 0) ≡ Number
-    → FindsNumber negative digits None → (token : Token) (count : ℕ) → IsLongest text token count → ⊥
-integer_none text negative digits s begins none token count l =
-    let i = number_is token (take count text) l.spelled (sym (prefix_kind text token count l.spelled) ∙ begins) in
-    no_token text negative digits s i.0 count (subst (λ k. IsLongest text k count) i.1 l) none
+    → FindsNumber negative digits None → (token : Token) (count : ℕ) → IsLongest dialect text token count → ⊥
+integer_none dialect text negative digits s begins none token count l =
+    let i = number_is dialect token (take count text) l.spelled (sym (prefix_kind dialect text token count l.spelled) ∙ begins) in
+    no_token dialect text negative digits s i.0 count (subst (λ k. IsLongest dialect text k count) i.1 l) none
 
 -- a text with a minus, and one without
 pub signed_text : (text : List ℕ) → 0 < length text → get_or text 0 0 ≡ 45 → IsSigned text true (drop 1 text)

@@ -14,6 +14,7 @@ use Rattle.wb_lemmas.proofs.Digits.{pass_digits}
 use Rattle.wb_text_tokens.specs.Spelling.{is_plain, escaped_byte, IsInteger, IsStringPart, IsStringBody, IsRegexPart, IsRegexBody, Spells}
 use Rattle.wb_text_tokens.specs.Words.{punctuation_text}
 use Rattle.wb_text_tokens.specs.contracts.punctuation.Punctuation as marks
+use Rattle.wb_text_tokens.specs.declared.token.Dialect.{Dialect}
 use Rattle.wb_text_tokens.specs.declared.token.Token.{Token}
 use Rattle.wb_text_tokens.specs.declared.token.Token.TheVariants as t
 use Rattle.wb_text_tokens.specs.declared.punctuation.Punctuation.TheVariants as p
@@ -87,28 +88,28 @@ regex_line body (IsRegexBody.next {part = part} {x = x} h r e) =
     subst IsOneLine (sym e) (both_lines part x (regex_part_line part h) (regex_line x r))
 
 -- no token has a line feed
-pub one_line : (token : Token) (x : List ℕ) → Spells token x → IsOneLine x
-one_line (t.Name text) x s = all_tested is_name_byte refl x (name_bytes (t.Name text) x s refl)
-one_line (t.Word word) x s = all_tested is_name_byte refl x (name_bytes (t.Word word) x s refl)
-one_line (t.Int value) x (IsInteger.positive n e) = all_tested is_ascii_digit refl x (pass_digits x n.1)
-one_line (t.Int value) x (IsInteger.negative {y = y} n e f) =
+pub one_line : (dialect : Dialect) (token : Token) (x : List ℕ) → Spells dialect token x → IsOneLine x
+one_line dialect (t.Name text) x s = all_tested is_name_byte refl x (name_bytes dialect (t.Name text) x s refl)
+one_line dialect (t.Word word) x s = all_tested is_name_byte refl x (name_bytes dialect (t.Word word) x s refl)
+one_line dialect (t.Int value) x (IsInteger.positive n e) = all_tested is_ascii_digit refl x (pass_digits x n.1)
+one_line dialect (t.Int value) x (IsInteger.negative {y = y} n e f) =
     subst IsOneLine (sym e) (all_tested is_ascii_digit refl y (pass_digits y n.1))
-one_line (t.Text text) x s = subst IsOneLine (sym s.quoted) (both_lines s.body (34 ∷ []) (string_line s.body text s.stands) refl)
-one_line (t.Regex body) x s = subst IsOneLine (sym s.0) (both_lines body (47 ∷ []) (regex_line body s.2) refl)
-one_line (t.Punctuation mark) x s =
+one_line dialect (t.Text text) x s = subst IsOneLine (sym s.quoted) (both_lines s.body (34 ∷ []) (string_line s.body text s.stands) refl)
+one_line dialect (t.Regex body) x s = subst IsOneLine (sym s.0) (both_lines body (47 ∷ []) (regex_line body s.2) refl)
+one_line dialect (t.Punctuation mark) x s =
     subst IsOneLine (sym s) (each_value marks.enum (λ m. list_all is_other (punctuation_text m)) refl mark)
 
 -- so none goes over a line feed
-pub crosses_none : (text : List ℕ) (token : Token) (at end place : ℕ) → Spells token (slice_range text at end) → end ≤ length text
+pub crosses_none : (dialect : Dialect) (text : List ℕ) (token : Token) (at end place : ℕ) → Spells dialect token (slice_range text at end) → end ≤ length text
     → at ≤ place → place < end → get_or text place 0 ≢ 10
-crosses_none text token at end place s within low high e =
+crosses_none dialect text token at end place s within low high e =
     let x = take (end - at) (drop at text) in
     let k = place - at in
     let here : get_or x k 0 ≡ get_or text place 0 =
     get_or-take (end - at) (drop at text) k 0 (omega arith) ∙ (get_or-drop at text k 0 ∙ ap (λ i. get_or text i 0) (omega arith)) in
     let inside : k < length x = omega (arith, length-take (end - at) (drop at text), length-drop at text) in
     let fails = list_all_at is_other x k 0 inside (ap is_other (here ∙ e)) in
-    let all = one_line token x s in
+    let all = one_line dialect token x s in
     absurd (cc)
 
 -- and a token isn't gone on by one

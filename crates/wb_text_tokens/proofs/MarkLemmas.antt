@@ -10,6 +10,7 @@ use Rattle.wb_text_tokens.specs.Words.{punctuation_text}
 use Rattle.wb_text_tokens.specs.declared.token_class.TokenClass.TheVariants.{Mark}
 use Rattle.wb_text_tokens.specs.declared.punctuation.Punctuation.{Punctuation}
 use Rattle.wb_text_tokens.specs.declared.punctuation.Punctuation.TheVariants as p
+use Rattle.wb_text_tokens.specs.declared.token.Dialect.{Dialect}
 use Rattle.wb_text_tokens.specs.declared.token.Token.{Token}
 use Rattle.wb_text_tokens.specs.declared.token.Token.TheVariants as t
 use Rattle.wb_text_tokens.proofs.FirstByteLemmas.{punctuation_is}
@@ -110,19 +111,19 @@ reaches_at text mark count h =
     subst (λ l. Reaches l mark) (ap (λ l. l ++ drop count text) (sym h) ∙ take-append-drop count text) (reaches mark (drop count text))
 
 -- the mark that is found is the longest token
-pub mark_longest : (text : List ℕ) (found : Punctuation) → first_class (get_or text 0 0) ≡ Mark → mark_at text ≡ Some found
-    → IsLongest text (t.Punctuation found) (length (punctuation_text found))
-mark_longest text found begins h =
+pub mark_longest : (dialect : Dialect) (text : List ℕ) (found : Punctuation) → first_class (get_or text 0 0) ≡ Mark → mark_at text ≡ Some found
+    → IsLongest dialect text (t.Punctuation found) (length (punctuation_text found))
+mark_longest dialect text found begins h =
     let f = mark_found text found h in
     let s : take (length (punctuation_text found)) text ≡ punctuation_text found =
     ap (take (length (punctuation_text found))) f.1 ∙ take-append_seam (punctuation_text found) f.0 in
     record {
-      some = prefix_some text (t.Punctuation found) _ s;
+      some = prefix_some dialect text (t.Punctuation found) _ s;
       within = omega (arith, ap length f.1, length-append (punctuation_text found) f.0);
       spelled = s;
       in_range = tt;
       longest = λ other more lt le o.
-          let i = punctuation_is other (take more text) o (sym (prefix_kind text other more o) ∙ begins) in
+          let i = punctuation_is dialect other (take more text) o (sym (prefix_kind dialect text other more o) ∙ begins) in
           let r = reaches_at text i.0 more i.2 in
           let e : Some r.found ≡ Some found = sym r.finds ∙ h in
           let same : r.found ≡ found = cc in
@@ -130,9 +131,9 @@ mark_longest text found begins h =
     }
 
 -- where none is found, no token begins
-pub mark_none : (text : List ℕ) → first_class (get_or text 0 0) ≡ Mark → mark_at text ≡ None
-    → (token : Token) (count : ℕ) → IsLongest text token count → ⊥
-mark_none text begins h token count l =
-    let i = punctuation_is token (take count text) l.spelled (sym (prefix_kind text token count l.spelled) ∙ begins) in
+pub mark_none : (dialect : Dialect) (text : List ℕ) → first_class (get_or text 0 0) ≡ Mark → mark_at text ≡ None
+    → (token : Token) (count : ℕ) → IsLongest dialect text token count → ⊥
+mark_none dialect text begins h token count l =
+    let i = punctuation_is dialect token (take count text) l.spelled (sym (prefix_kind dialect text token count l.spelled) ∙ begins) in
     let r = reaches_at text i.0 count i.2 in
     let e : Some r.found ≡ None = sym r.finds ∙ h in cc

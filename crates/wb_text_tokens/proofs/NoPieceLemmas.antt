@@ -10,7 +10,7 @@ use Rattle.wb_text_tokens.specs.Skipping.{is_blank, IsLayoutPiece, blank, commen
 use Rattle.wb_text_tokens.specs.Spelling.{IsRegexPart, IsRegexBody, Spells}
 use Rattle.wb_text_tokens.specs.Words.{punctuation_text}
 use Rattle.wb_text_tokens.specs.contracts.punctuation.Punctuation as marks
-use Rattle.wb_text_tokens.specs.declared.token.Layout.{Layout}
+use Rattle.wb_text_tokens.specs.declared.token.Dialect.{Dialect}
 use Rattle.wb_text_tokens.specs.declared.token.Token.{Token}
 use Rattle.wb_text_tokens.specs.declared.token_class.TokenClass.TheVariants.{Mark}
 use Rattle.wb_text_tokens.proofs.Enumerations.{each_value}
@@ -29,9 +29,9 @@ blank_class b h =
     (λ i. ap first_class (eqb-true b 13 i)) (or_cases (eqb b 32 || eqb b 9 || eqb b 10) (eqb b 13) h)
 
 -- no token begins with a blank
-no_blank : (token : Token) (x : List ℕ) → Spells token x → is_blank (get_or x 0 0) ≡ true → ⊥
-no_blank token x s h =
-    let mark = punctuation_is token x s (sym (spelled_beginning token x s) ∙ blank_class (get_or x 0 0) h) in
+no_blank : (dialect : Dialect) (token : Token) (x : List ℕ) → Spells dialect token x → is_blank (get_or x 0 0) ≡ true → ⊥
+no_blank dialect token x s h =
+    let mark = punctuation_is dialect token x s (sym (spelled_beginning dialect token x s) ∙ blank_class (get_or x 0 0) h) in
     let clear = not_true (is_blank (get_or (punctuation_text mark.0) 0 0))
     (each_value marks.enum (λ m. not (is_blank (get_or (punctuation_text m) 0 0))) refl mark.0) in
     let e = sym h ∙ (ap (λ y. is_blank (get_or y 0 0)) mark.2 ∙ clear) in
@@ -56,28 +56,28 @@ regex_no_slashes [] x e some r second = some refl
 regex_no_slashes (d ∷ body) x e some r second = no_slash d body r (sym (ap (λ l. get_or l 1 0) e) ∙ second)
 
 -- no token begins with two slashes
-no_slashes : (token : Token) (x : List ℕ) → Spells token x → get_or x 0 0 ≡ 47 → get_or x 1 0 ≡ 47 → ⊥
-no_slashes token x s first second =
-    let r = regex_is token x s (sym (spelled_beginning token x s) ∙ ap first_class first) in
+no_slashes : (dialect : Dialect) (token : Token) (x : List ℕ) → Spells dialect token x → get_or x 0 0 ≡ 47 → get_or x 1 0 ≡ 47 → ⊥
+no_slashes dialect token x s first second =
+    let r = regex_is dialect token x s (sym (spelled_beginning dialect token x s) ∙ ap first_class first) in
     regex_no_slashes r.0 x r.2 r.3 r.4 second
 
 -- a token that begins with a slash has further bytes
-slash_more : (token : Token) (x : List ℕ) → Spells token x → get_or x 0 0 ≡ 47 → 1 < length x
-slash_more token x s first =
-    let r = regex_is token x s (sym (spelled_beginning token x s) ∙ ap first_class first) in
+slash_more : (dialect : Dialect) (token : Token) (x : List ℕ) → Spells dialect token x → get_or x 0 0 ≡ 47 → 1 < length x
+slash_more dialect token x s first =
+    let r = regex_is dialect token x s (sym (spelled_beginning dialect token x s) ∙ ap first_class first) in
     omega (arith, ap length r.2, length-append r.0 (47 ∷ []))
 
 -- where a token is, no layout begins
-pub no_piece : (layout : Layout) (text : List ℕ) (token : Token) (at end : ℕ) → end ≤ length text → Spells token (slice_range text at end)
-    → (behind : ℕ) → ¬ IsLayoutPiece layout text at behind
-no_piece layout text token at end within s behind (blank here is after) =
+pub no_piece : (dialect : Dialect) (text : List ℕ) (token : Token) (at end : ℕ) → end ≤ length text → Spells dialect token (slice_range text at end)
+    → (behind : ℕ) → ¬ IsLayoutPiece dialect text at behind
+no_piece dialect text token at end within s behind (blank here is after) =
     let x = take (end - at) (drop at text) in
-    let some : 0 < end - at = omega (arith, spelled_some token x s, length-take (end - at) (drop at text)) in
-    no_blank token x s (ap is_blank (byte_of_piece text at end 0 some ∙ ap (λ i. get_or text i 0) (omega arith)) ∙ is)
-no_piece layout text token at end within s behind (comment l c) =
+    let some : 0 < end - at = omega (arith, spelled_some dialect token x s, length-take (end - at) (drop at text)) in
+    no_blank dialect token x s (ap is_blank (byte_of_piece text at end 0 some ∙ ap (λ i. get_or text i 0) (omega arith)) ∙ is)
+no_piece dialect text token at end within s behind (comment l c) =
     let x = take (end - at) (drop at text) in
     let long : length x ≤ end - at = omega (arith, length-take (end - at) (drop at text)) in
-    let some : 0 < end - at = omega (arith, spelled_some token x s, long) in
+    let some : 0 < end - at = omega (arith, spelled_some dialect token x s, long) in
     let first : get_or x 0 0 ≡ 47 = byte_of_piece text at end 0 some ∙ (ap (λ i. get_or text i 0) (omega arith) ∙ c.first.is) in
-    let more : 1 < end - at = omega (arith, slash_more token x s first, long) in
-    no_slashes token x s first (byte_of_piece text at end 1 more ∙ c.second.is)
+    let more : 1 < end - at = omega (arith, slash_more dialect token x s first, long) in
+    no_slashes dialect token x s first (byte_of_piece text at end 1 more ∙ c.second.is)

@@ -7,6 +7,7 @@ use Rattle.wb_text_tokens.specs.Inner.Parts.{string_part, regex_part, FindsStrin
 use Rattle.wb_text_tokens.specs.Skipping.{HasByte}
 use Rattle.wb_text_tokens.specs.Spelling.{IsStringBody, IsString, IsRegexBody}
 use Rattle.wb_text_tokens.specs.declared.token_class.TokenClass.TheVariants.{Quote, Slash}
+use Rattle.wb_text_tokens.specs.declared.token.Dialect.{Dialect}
 use Rattle.wb_text_tokens.specs.declared.token.Token.{Token}
 use Rattle.wb_text_tokens.specs.declared.token.Token.TheVariants as t
 use Rattle.wb_text_tokens.proofs.FirstByteLemmas.{string_is, regex_is, begins_quote, begins_slash}
@@ -55,8 +56,8 @@ string_ends x text other body place count found stands c =
     omega (arith, c.counted, sym (ap length same.0), length-take place x, found.1.within)
 
 -- a string that was found is the longest token
-pub string_longest : (x text : List ℕ) (place : ℕ) → FindsString x (Some (text, place)) → IsLongest (34 ∷ x) (t.Text text) (place + 2)
-string_longest x text place found =
+pub string_longest : (dialect : Dialect) (x text : List ℕ) (place : ℕ) → FindsString x (Some (text, place)) → IsLongest dialect (34 ∷ x) (t.Text text) (place + 2)
+string_longest dialect x text place found =
     let s : IsString (take (place + 2) (34 ∷ x)) text = record
     { body = take place x; stands = found.0; quoted = closed 34 place x found.1 } in
     record {
@@ -65,15 +66,15 @@ string_longest x text place found =
       spelled = s;
       in_range = tt;
       longest = λ other more lt le o.
-          let i = string_is other (take more (34 ∷ x)) o (sym (prefix_kind (34 ∷ x) other more o)) in
+          let i = string_is dialect other (take more (34 ∷ x)) o (sym (prefix_kind dialect (34 ∷ x) other more o)) in
           let c = is_closed 34 x i.2.body more le i.2.quoted in
           omega (arith, lt, string_ends x text i.0 i.2.body place more found i.2.stands c);
     }
 
 -- where none was found, no token begins
-string_none : (x : List ℕ) → FindsString x None → (token : Token) (count : ℕ) → IsLongest (34 ∷ x) token count → ⊥
-string_none x none token count l =
-    let i = string_is token (take count (34 ∷ x)) l.spelled (sym (prefix_kind (34 ∷ x) token count l.spelled)) in
+string_none : (dialect : Dialect) (x : List ℕ) → FindsString x None → (token : Token) (count : ℕ) → IsLongest dialect (34 ∷ x) token count → ⊥
+string_none dialect x none token count l =
+    let i = string_is dialect token (take count (34 ∷ x)) l.spelled (sym (prefix_kind dialect (34 ∷ x) token count l.spelled)) in
     let c = is_closed 34 x i.2.body count l.within i.2.quoted in
     none i.2.body i.0 c.rest i.2.stands c.joined
 
@@ -85,31 +86,31 @@ regex_ends x body place count found stands c =
     omega (arith, c.counted, sym (ap length same.0), length-take place x, found.1.within)
 
 -- a regular expression that was found is the longest token
-pub regex_longest : (x : List ℕ) (place : ℕ) → 0 < place → FindsRegex x (Some place)
-    → IsLongest (47 ∷ x) (t.Regex (take place x)) (place + 2)
-regex_longest x place some found =
+pub regex_longest : (dialect : Dialect) (x : List ℕ) (place : ℕ) → 0 < place → FindsRegex x (Some place)
+    → IsLongest dialect (47 ∷ x) (t.Regex (take place x)) (place + 2)
+regex_longest dialect x place some found =
     record {
       some = omega arith;
       within = omega (arith, found.1.within);
       spelled = (closed 47 place x found.1, (λ e. omega (arith, ap length e, length-take place x, found.1.within, some)), found.0);
       in_range = tt;
       longest = λ other more lt le o.
-          let i = regex_is other (take more (47 ∷ x)) o (sym (prefix_kind (47 ∷ x) other more o)) in
+          let i = regex_is dialect other (take more (47 ∷ x)) o (sym (prefix_kind dialect (47 ∷ x) other more o)) in
           let c = is_closed 47 x i.0 more le i.2 in
           omega (arith, lt, regex_ends x i.0 place more found i.4 c);
     }
 
 -- where none was found, no token begins
-regex_none : (x : List ℕ) → FindsRegex x None → (token : Token) (count : ℕ) → IsLongest (47 ∷ x) token count → ⊥
-regex_none x none token count l =
-    let i = regex_is token (take count (47 ∷ x)) l.spelled (sym (prefix_kind (47 ∷ x) token count l.spelled)) in
+regex_none : (dialect : Dialect) (x : List ℕ) → FindsRegex x None → (token : Token) (count : ℕ) → IsLongest dialect (47 ∷ x) token count → ⊥
+regex_none dialect x none token count l =
+    let i = regex_is dialect token (take count (47 ∷ x)) l.spelled (sym (prefix_kind dialect (47 ∷ x) token count l.spelled)) in
     let c = is_closed 47 x i.0 count l.within i.2 in
     none i.0 c.rest i.4 c.joined
 
 -- two slashes in a row are no regular expression
-regex_empty : (x : List ℕ) → FindsRegex x (Some 0) → (token : Token) (count : ℕ) → IsLongest (47 ∷ x) token count → ⊥
-regex_empty x found token count l =
-    let i = regex_is token (take count (47 ∷ x)) l.spelled (sym (prefix_kind (47 ∷ x) token count l.spelled)) in
+regex_empty : (dialect : Dialect) (x : List ℕ) → FindsRegex x (Some 0) → (token : Token) (count : ℕ) → IsLongest dialect (47 ∷ x) token count → ⊥
+regex_empty dialect x found token count l =
+    let i = regex_is dialect token (take count (47 ∷ x)) l.spelled (sym (prefix_kind dialect (47 ∷ x) token count l.spelled)) in
     let c = is_closed 47 x i.0 count l.within i.2 in
     let same = same_regex x c.rest found.0 (no_regex_part x 0 found.1) i.4 c.joined in
     i.3 (sym same.0)
@@ -123,32 +124,32 @@ slash_first : (text : List ℕ) → 0 < length text → first_class (get_or text
 slash_first text some begins = sym (headed text 47 some (begins_slash (get_or text 0 0) begins))
 
 -- a string that was found after its quote is the longest token
-pub string_found : (text decoded : List ℕ) (place : ℕ) → 0 < length text → first_class (get_or text 0 0) ≡ Quote
-    → FindsString (drop 1 text) (Some (decoded, place)) → IsLongest text (t.Text decoded) (place + 2)
-string_found text decoded place some begins found =
-    subst (λ l. IsLongest l (t.Text decoded) (place + 2)) (quote_first text some begins) (string_longest (drop 1 text) decoded place found)
+pub string_found : (dialect : Dialect) (text decoded : List ℕ) (place : ℕ) → 0 < length text → first_class (get_or text 0 0) ≡ Quote
+    → FindsString (drop 1 text) (Some (decoded, place)) → IsLongest dialect text (t.Text decoded) (place + 2)
+string_found dialect text decoded place some begins found =
+    subst (λ l. IsLongest dialect l (t.Text decoded) (place + 2)) (quote_first text some begins) (string_longest dialect (drop 1 text) decoded place found)
 
 -- where no string was found after a quote, no token begins
-pub string_missing : (text : List ℕ) → 0 < length text → first_class (get_or text 0 0) ≡ Quote → FindsString (drop 1 text) None
-    → (token : Token) (count : ℕ) → IsLongest text token count → ⊥
-string_missing text some begins none token count l =
-    string_none (drop 1 text) none token count (subst (λ x. IsLongest x token count) (sym (quote_first text some begins)) l)
+pub string_missing : (dialect : Dialect) (text : List ℕ) → 0 < length text → first_class (get_or text 0 0) ≡ Quote → FindsString (drop 1 text) None
+    → (token : Token) (count : ℕ) → IsLongest dialect text token count → ⊥
+string_missing dialect text some begins none token count l =
+    string_none dialect (drop 1 text) none token count (subst (λ x. IsLongest dialect x token count) (sym (quote_first text some begins)) l)
 
 -- a regular expression that was found after its slash is the longest token
-pub regex_found : (text : List ℕ) (place : ℕ) → 0 < length text → first_class (get_or text 0 0) ≡ Slash → 0 < place
-    → FindsRegex (drop 1 text) (Some place) → IsLongest text (t.Regex (take place (drop 1 text))) (place + 2)
-regex_found text place some begins more found =
-    subst (λ l. IsLongest l (t.Regex (take place (drop 1 text))) (place + 2)) (slash_first text some begins)
-    (regex_longest (drop 1 text) place more found)
+pub regex_found : (dialect : Dialect) (text : List ℕ) (place : ℕ) → 0 < length text → first_class (get_or text 0 0) ≡ Slash → 0 < place
+    → FindsRegex (drop 1 text) (Some place) → IsLongest dialect text (t.Regex (take place (drop 1 text))) (place + 2)
+regex_found dialect text place some begins more found =
+    subst (λ l. IsLongest dialect l (t.Regex (take place (drop 1 text))) (place + 2)) (slash_first text some begins)
+    (regex_longest dialect (drop 1 text) place more found)
 
 -- where none was found after a slash, no token begins
-pub regex_missing : (text : List ℕ) → 0 < length text → first_class (get_or text 0 0) ≡ Slash → FindsRegex (drop 1 text) None
-    → (token : Token) (count : ℕ) → IsLongest text token count → ⊥
-regex_missing text some begins none token count l =
-    regex_none (drop 1 text) none token count (subst (λ x. IsLongest x token count) (sym (slash_first text some begins)) l)
+pub regex_missing : (dialect : Dialect) (text : List ℕ) → 0 < length text → first_class (get_or text 0 0) ≡ Slash → FindsRegex (drop 1 text) None
+    → (token : Token) (count : ℕ) → IsLongest dialect text token count → ⊥
+regex_missing dialect text some begins none token count l =
+    regex_none dialect (drop 1 text) none token count (subst (λ x. IsLongest dialect x token count) (sym (slash_first text some begins)) l)
 
 -- where a slash comes after a slash, no token begins
-pub regex_without : (text : List ℕ) → 0 < length text → first_class (get_or text 0 0) ≡ Slash → FindsRegex (drop 1 text) (Some 0)
-    → (token : Token) (count : ℕ) → IsLongest text token count → ⊥
-regex_without text some begins found token count l =
-    regex_empty (drop 1 text) found token count (subst (λ x. IsLongest x token count) (sym (slash_first text some begins)) l)
+pub regex_without : (dialect : Dialect) (text : List ℕ) → 0 < length text → first_class (get_or text 0 0) ≡ Slash → FindsRegex (drop 1 text) (Some 0)
+    → (token : Token) (count : ℕ) → IsLongest dialect text token count → ⊥
+regex_without dialect text some begins found token count l =
+    regex_empty dialect (drop 1 text) found token count (subst (λ x. IsLongest dialect x token count) (sym (slash_first text some begins)) l)

@@ -2,7 +2,7 @@
 use Rattle.std.proofs.Common.{◌≡◌, ℕ, true, List, get_or, sym, ap, ◌∙◌, subst, arith, ⊎_elim}
 use Rattle.std.proofs.lemmas.Bool.{cases_order}
 use Rattle.wb_text_tokens.specs.Skipping.{is_blank, IsComment, IsLayoutPiece, SkipsLayout}
-use Rattle.wb_text_tokens.specs.declared.token.Layout.{Layout}
+use Rattle.wb_text_tokens.specs.declared.token.Dialect.{Dialect}
 
 -- a slash is no blank
 no_blank_comment : {text : List ℕ} {from behind : ℕ} → is_blank (get_or text from 0) ≡ true → IsComment text from behind → ⊥
@@ -15,7 +15,7 @@ same_comment {text = text} {from = from} {a = a} {b = b} c d = ⊎_elim (λ e. e
     (λ lt. absurd (c.one_line b d.ordered lt (d.ended (omega (arith, lt, c.within))))) o) (cases_order a b)
 
 -- a piece of layout ends at one place
-pub piece_only : {layout : Layout} {text : List ℕ} {from a b : ℕ} → IsLayoutPiece layout text from a → IsLayoutPiece layout text from b
+pub piece_only : {dialect : Dialect} {text : List ℕ} {from a b : ℕ} → IsLayoutPiece dialect text from a → IsLayoutPiece dialect text from b
     → a ≡ b
 piece_only (IsLayoutPiece.blank w b e) (IsLayoutPiece.blank w' b' e') = e ∙ sym e'
 piece_only (IsLayoutPiece.blank w b e) (IsLayoutPiece.comment l c) = absurd (no_blank_comment b c)
@@ -23,9 +23,9 @@ piece_only (IsLayoutPiece.comment l c) (IsLayoutPiece.blank w b e) = absurd (no_
 piece_only (IsLayoutPiece.comment l c) (IsLayoutPiece.comment l' c') = same_comment c c'
 
 -- the place after all layout is one
-pub skips_only : {layout : Layout} {text : List ℕ} {from a b : ℕ} → SkipsLayout layout text from a → SkipsLayout layout text from b → a ≡ b
+pub skips_only : {dialect : Dialect} {text : List ℕ} {from a b : ℕ} → SkipsLayout dialect text from a → SkipsLayout dialect text from b → a ≡ b
 skips_only (SkipsLayout.stop n e) (SkipsLayout.stop n' e') = sym e ∙ e'
 skips_only (SkipsLayout.stop n e) (SkipsLayout.skip {behind} p s) = absurd (n behind p)
 skips_only (SkipsLayout.skip {behind} p s) (SkipsLayout.stop n e) = absurd (n behind p)
-skips_only {layout = layout} {text = text} {b = b} (SkipsLayout.skip {behind} p s) (SkipsLayout.skip {behind = other} p' s') =
-    skips_only s (subst (λ k. SkipsLayout layout text k b) (sym (piece_only p p')) s')
+skips_only {dialect = dialect} {text = text} {b = b} (SkipsLayout.skip {behind} p s) (SkipsLayout.skip {behind = other} p' s') =
+    skips_only s (subst (λ k. SkipsLayout dialect text k b) (sym (piece_only p p')) s')

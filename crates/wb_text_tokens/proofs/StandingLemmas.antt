@@ -20,6 +20,7 @@ use Rattle.wb_text_tokens.specs.Words.{punctuation_text}
 use Rattle.wb_text_tokens.specs.declared.token_class.TokenClass.TheVariants.{Letter, Number}
 use Rattle.wb_text_tokens.specs.declared.punctuation.Punctuation.{Punctuation}
 use Rattle.wb_text_tokens.specs.declared.punctuation.Punctuation.TheVariants as p
+use Rattle.wb_text_tokens.specs.declared.token.Dialect.{Dialect}
 use Rattle.wb_text_tokens.specs.declared.token.Token.{Token}
 use Rattle.wb_text_tokens.specs.declared.token.Token.TheVariants as t
 use Rattle.wb_text_tokens.proofs.FirstByteLemmas.{class_of, spelled_some, spelled_beginning, name_bytes, begins_letter}
@@ -73,18 +74,18 @@ run_length test (b ∷ x) rest all s =
     ap (λ t. cond t (1 + prefix_len test (x ++ rest)) 0) h.0 ∙ omega (arith, i)
 
 -- the first byte of a spelling tells the kind in a text
-begins : (token : Token) (x rest : List ℕ) → Spells token x → first_class (get_or (x ++ rest) 0 0) ≡ class_of token
-begins token x rest s = ap first_class (get_or_append_left x rest 0 0 (spelled_some token x s)) ∙ spelled_beginning token x s
+begins : (dialect : Dialect) (token : Token) (x rest : List ℕ) → Spells dialect token x → first_class (get_or (x ++ rest) 0 0) ≡ class_of token
+begins dialect token x rest s = ap first_class (get_or_append_left x rest 0 0 (spelled_some dialect token x s)) ∙ spelled_beginning dialect token x s
 
 -- a name or a reserved word
-name_stands : (token : Token) (x rest : List ℕ) → Spells token x → HasValueInRange token
+name_stands : (dialect : Dialect) (token : Token) (x rest : List ℕ) → Spells dialect token x → HasValueInRange token
     → class_of token ≡ Letter → StopsAt is_name_byte rest
-    → IsLongest (x ++ rest) token (length x)
-name_stands token x rest s range kind stops =
-    let e = run_length is_name_byte x rest (name_bytes token x s kind) stops in
+    → IsLongest dialect (x ++ rest) token (length x)
+name_stands dialect token x rest s range kind stops =
+    let e = run_length is_name_byte x rest (name_bytes dialect token x s kind) stops in
     let here : take (prefix_len is_name_byte (x ++ rest)) (x ++ rest) ≡ x = ap (λ n. take n (x ++ rest)) e ∙ take-append_seam x rest in
-    let first = begins_letter (get_or (x ++ rest) 0 0) (begins token x rest s ∙ kind) in
-    subst (λ n. IsLongest (x ++ rest) token n) e (name_longest (x ++ rest) token first range (subst (λ l. Spells token l) (sym here) s))
+    let first = begins_letter (get_or (x ++ rest) 0 0) (begins dialect token x rest s ∙ kind) in
+    subst (λ n. IsLongest dialect (x ++ rest) token n) e (name_longest dialect (x ++ rest) token first range (subst (λ l. Spells dialect token l) (sym here) s))
 
 -- the digits of a number and what follows
 digits_stand : (negative : Bool) (y rest : List ℕ) (z : ℤ) → IsNumeral 10 y → z ≡ signed negative (digits_value 10 y)
@@ -100,14 +101,14 @@ no_minus [] rest n = absurd (omega (arith, n.0))
 no_minus (c ∷ x) rest n = λ e. let r = digit_from_value c n.1.0 in omega (arith, r, e)
 
 -- an integer
-integer_stands : (x rest : List ℕ) (z : ℤ) → IsInteger x z → FitsSigned w64 z → StopsAt is_ascii_digit rest
+integer_stands : (dialect : Dialect) (x rest : List ℕ) (z : ℤ) → IsInteger x z → FitsSigned w64 z → StopsAt is_ascii_digit rest
     → first_class (get_or (x ++ rest) 0 0) ≡ Number
-    → IsLongest (x ++ rest) (t.Int z) (length x)
-integer_stands x rest z (IsInteger.positive n e) fits stops first =
-    integer_longest (x ++ rest) false (x ++ rest) (record { joined = refl; plain = λ _. no_minus x rest n }) first z (length x) (length x)
+    → IsLongest dialect (x ++ rest) (t.Int z) (length x)
+integer_stands dialect x rest z (IsInteger.positive n e) fits stops first =
+    integer_longest dialect (x ++ rest) false (x ++ rest) (record { joined = refl; plain = λ _. no_minus x rest n }) first z (length x) (length x)
     (digits_stand false x rest z n e fits stops) (omega arith)
-integer_stands x rest z (IsInteger.negative {x = w} {y} n e f) fits stops first =
-    integer_longest (x ++ rest) true (y ++ rest) (record { joined = ap (λ l. l ++ rest) e; plain = λ h. absurd (cc) }) first z
+integer_stands dialect x rest z (IsInteger.negative {x = w} {y} n e f) fits stops first =
+    integer_longest dialect (x ++ rest) true (y ++ rest) (record { joined = ap (λ l. l ++ rest) e; plain = λ h. absurd (cc) }) first z
     (length y) (length x)
     (digits_stand true y rest z n f fits stops) (omega (arith, ap length e))
 
@@ -119,27 +120,27 @@ closing : (q : ℕ) (body rest : List ℕ) → HasByte (body ++ q ∷ rest) (len
 closing q body rest = record { within = omega (arith, length-append body (q ∷ rest)); is = get_or_at body q rest 0 (length body) refl }
 
 -- a string
-string_stands : (x rest text : List ℕ) → IsString x text → IsLongest (x ++ rest) (t.Text text) (length x)
-string_stands x rest text s =
-    let found = string_longest (s.body ++ 34 ∷ rest) text (length s.body)
+string_stands : (dialect : Dialect) (x rest text : List ℕ) → IsString x text → IsLongest dialect (x ++ rest) (t.Text text) (length x)
+string_stands dialect x rest text s =
+    let found = string_longest dialect (s.body ++ 34 ∷ rest) text (length s.body)
     (subst (λ l. IsStringBody l text) (sym (take-append_seam s.body (34 ∷ rest))) s.stands, closing 34 s.body rest) in
     let whole : 34 ∷ (s.body ++ 34 ∷ rest) ≡ x ++ rest = sym
     (ap (λ l. l ++ rest) s.quoted ∙ ap (λ l. 34 ∷ l) (after_body 34 s.body rest)) in
     let count : length s.body + 2 ≡ length x = omega (arith, ap length s.quoted, length-append s.body (34 ∷ [])) in
-    subst (λ n. IsLongest (x ++ rest) (t.Text text) n) count (subst (λ l. IsLongest l (t.Text text) (length s.body + 2)) whole found)
+    subst (λ n. IsLongest dialect (x ++ rest) (t.Text text) n) count (subst (λ l. IsLongest dialect l (t.Text text) (length s.body + 2)) whole found)
 
 -- a regular expression
-regex_stands : (x rest body : List ℕ) → x ≡ 47 ∷ (body ++ 47 ∷ []) → body ≢ [] → IsRegexBody body
-    → IsLongest (x ++ rest) (t.Regex body) (length x)
-regex_stands x rest body e some stands =
+regex_stands : (dialect : Dialect) (x rest body : List ℕ) → x ≡ 47 ∷ (body ++ 47 ∷ []) → body ≢ [] → IsRegexBody body
+    → IsLongest dialect (x ++ rest) (t.Regex body) (length x)
+regex_stands dialect x rest body e some stands =
     let taken = take-append_seam body (47 ∷ rest) in
     let more : 0 < length body = not_empty body some in
-    let found = regex_longest (body ++ 47 ∷ rest) (length body) more
+    let found = regex_longest dialect (body ++ 47 ∷ rest) (length body) more
     (subst (λ l. IsRegexBody l) (sym taken) stands, closing 47 body rest) in
     let whole : 47 ∷ (body ++ 47 ∷ rest) ≡ x ++ rest = sym (ap (λ l. l ++ rest) e ∙ ap (λ l. 47 ∷ l) (after_body 47 body rest)) in
     let count : length body + 2 ≡ length x = omega (arith, ap length e, length-append body (47 ∷ [])) in
-    subst (λ n. IsLongest (x ++ rest) (t.Regex body) n) count (subst (λ l. IsLongest l (t.Regex body) (length body + 2)) whole
-    (subst (λ b. IsLongest (47 ∷ (body ++ 47 ∷ rest)) (t.Regex b) (length body + 2)) taken found))
+    subst (λ n. IsLongest dialect (x ++ rest) (t.Regex body) n) count (subst (λ l. IsLongest dialect l (t.Regex body) (length body + 2)) whole
+    (subst (λ b. IsLongest dialect (47 ∷ (body ++ 47 ∷ rest)) (t.Regex b) (length body + 2)) taken found))
   where
     not_empty : (l : List ℕ) → l ≢ [] → 0 < length l
     not_empty [] h = absurd (h refl)
@@ -162,20 +163,20 @@ mark_stands p.CloseParenthesis rest h = refl
 mark_stands p.At rest h = refl
 
 -- the spelling is the longest token
-longest : (token : Token) (x rest : List ℕ) → IsToken token x → Ends token rest → IsLongest (x ++ rest) token (length x)
-longest (t.Name text) x rest s ends = name_stands (t.Name text) x rest s.0 tt refl ends
-longest (t.Word word) x rest s ends = name_stands (t.Word word) x rest s.0 tt refl ends
-longest (t.Int z) x rest s ends = integer_stands x rest z s.0 s.1 ends (begins (t.Int z) x rest s.0)
-longest (t.Text text) x rest s ends = string_stands x rest text s.0
-longest (t.Regex body) x rest s ends = regex_stands x rest body s.0.0 s.0.1 s.0.2
-longest (t.Punctuation mark) x rest s ends =
+longest : (dialect : Dialect) (token : Token) (x rest : List ℕ) → IsToken dialect token x → Ends token rest → IsLongest dialect (x ++ rest) token (length x)
+longest dialect (t.Name text) x rest s ends = name_stands dialect (t.Name text) x rest s.0 tt refl ends
+longest dialect (t.Word word) x rest s ends = name_stands dialect (t.Word word) x rest s.0 tt refl ends
+longest dialect (t.Int z) x rest s ends = integer_stands dialect x rest z s.0 s.1 ends (begins dialect (t.Int z) x rest s.0)
+longest dialect (t.Text text) x rest s ends = string_stands dialect x rest text s.0
+longest dialect (t.Regex body) x rest s ends = regex_stands dialect x rest body s.0.0 s.0.1 s.0.2
+longest dialect (t.Punctuation mark) x rest s ends =
     let e : mark_at (x ++ rest) ≡ Some mark = ap (λ l. mark_at (l ++ rest)) s.0 ∙ mark_stands mark rest ends in
-    subst (λ n. IsLongest (x ++ rest) (t.Punctuation mark) n) (sym (ap length s.0))
-    (mark_longest (x ++ rest) mark (begins (t.Punctuation mark) x rest s.0) e)
+    subst (λ n. IsLongest dialect (x ++ rest) (t.Punctuation mark) n) (sym (ap length s.0))
+    (mark_longest dialect (x ++ rest) mark (begins dialect (t.Punctuation mark) x rest s.0) e)
 
 -- a spelling is in a text as its token
-pub stands : (before x rest : List ℕ) (token : Token) → IsToken token x → Ends token rest
-    → IsTokenAt (before ++ (x ++ rest)) token (length before) (length before + length x)
-stands before x rest token s ends =
-    stands_at (before ++ (x ++ rest)) (length before) (length x) token (omega (arith, length-append before (x ++ rest)))
-    (subst (λ l. IsLongest l token (length x)) (sym (drop-append_seam before (x ++ rest))) (longest token x rest s ends))
+pub stands : (dialect : Dialect) (before x rest : List ℕ) (token : Token) → IsToken dialect token x → Ends token rest
+    → IsTokenAt dialect (before ++ (x ++ rest)) token (length before) (length before + length x)
+stands dialect before x rest token s ends =
+    stands_at dialect (before ++ (x ++ rest)) (length before) (length x) token (omega (arith, length-append before (x ++ rest)))
+    (subst (λ l. IsLongest dialect l token (length x)) (sym (drop-append_seam before (x ++ rest))) (longest dialect token x rest s ends))

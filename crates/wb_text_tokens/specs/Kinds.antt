@@ -3,11 +3,11 @@ use Rattle.std.specs.Prelude.{◌==◌, ℤ, pos, negsuc, if◌then◌else◌}
 use Rattle.wb_text_tokens.specs.declared.token.Token.{Token}
 use Rattle.wb_text_tokens.specs.declared.token.Token.TheVariants as t
 use Rattle.wb_text_tokens.specs.declared.kind.TokenKind.{TokenKind}
-use Rattle.wb_text_tokens.specs.declared.kind.TokenKind.TheVariants.{Word, Mark, Name, One, Number, String, Regex}
+use Rattle.wb_text_tokens.specs.declared.kind.TokenKind.TheVariants.{Word, Mark, Name, One, Two, Number, String, Regex}
 
--- the integer 1 has a kind of its own
+-- the integers 1 and 2, of which one tells a format, have kinds of their own
 abbrev pub integer_kind : ℤ → TokenKind
-integer_kind (pos n) = if n == 1 then One else Number
+integer_kind (pos n) = if n == 1 then One else if n == 2 then Two else Number
 integer_kind (negsuc n) = Number
 
 -- the kind of a token

@@ -3,9 +3,10 @@ use Rattle.std.specs.Prelude.{◌≡◌, ℕ, ◌+◌, ◌*◌, ◌==◌, ◌≢
 use Rattle.std.specs.Prelude.{neg_ℤ, if◌then◌else◌, FitsSigned}
 use Rattle.std.specs.Int.{w64}
 use Rattle.std.specs.Str.Parse.{IsNumeral, digits_value}
-use Rattle.wb_text_tokens.specs.Words.{word_text, punctuation_text}
+use Rattle.wb_text_tokens.specs.Words.{IsSpelledIn, IsReservedIn, punctuation_text}
 use Rattle.wb_base.specs.Decimal.{hex_value}
-use Rattle.wb_base.specs.Identifiers.{IsIdentifier, IsReserved}
+use Rattle.wb_base.specs.Identifiers.{IsIdentifier}
+use Rattle.wb_text_tokens.specs.declared.token.Dialect.{Dialect}
 use Rattle.wb_text_tokens.specs.declared.token.Token.{Token}
 use Rattle.wb_text_tokens.specs.declared.token.Token.TheVariants as t
 
@@ -53,14 +54,14 @@ pub data IsRegexBody : List ℕ → Type 0 where
   none : {x : List ℕ} → x ≡ [] → IsRegexBody x
   next : {part x y : List ℕ} → IsRegexPart part → IsRegexBody x → y ≡ part ++ x → IsRegexBody y
 
--- the bytes spell the token, an integer of any value among them
-abbrev pub Spells : Token → List ℕ → Type 0
-Spells (t.Name text) x = (x ≡ text) × IsIdentifier x × (¬ IsReserved x)
-Spells (t.Word word) x = x ≡ word_text word
-Spells (t.Int value) x = IsInteger x value
-Spells (t.Text text) x = IsString x text
-Spells (t.Regex body) x = (x ≡ 47 ∷ (body ++ 47 ∷ [])) × (body ≢ []) × IsRegexBody body
-Spells (t.Punctuation mark) x = x ≡ punctuation_text mark
+-- the bytes spell the token in the dialect, an integer of any value among them
+abbrev pub Spells : Dialect → Token → List ℕ → Type 0
+Spells dialect (t.Name text) x = (x ≡ text) × IsIdentifier x × (¬ IsReservedIn dialect x)
+Spells dialect (t.Word word) x = IsSpelledIn dialect x word
+Spells dialect (t.Int value) x = IsInteger x value
+Spells dialect (t.Text text) x = IsString x text
+Spells dialect (t.Regex body) x = (x ≡ 47 ∷ (body ++ 47 ∷ [])) × (body ≢ []) × IsRegexBody body
+Spells dialect (t.Punctuation mark) x = x ≡ punctuation_text mark
 
 -- where the token is an integer, its value is a signed number of 64 bits
 abbrev pub HasValueInRange : Token → Type 0
@@ -71,6 +72,6 @@ HasValueInRange (t.Text text) = ⊤
 HasValueInRange (t.Regex body) = ⊤
 HasValueInRange (t.Punctuation mark) = ⊤
 
--- the bytes are the token
-abbrev pub IsToken : Token → List ℕ → Type 0
-IsToken token x = Spells token x × HasValueInRange token
+-- the bytes are the token in the dialect
+abbrev pub IsToken : Dialect → Token → List ℕ → Type 0
+IsToken dialect token x = Spells dialect token x × HasValueInRange token

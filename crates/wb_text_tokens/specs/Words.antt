@@ -1,5 +1,7 @@
 -- The reserved words and the punctuation, and how each is spelled.
-use Rattle.std.specs.Prelude.{ℕ, List, codes}
+use Rattle.std.specs.Prelude.{◌≡◌, ℕ, List, Bool, true, false, IsTrue, codes}
+use Rattle.wb_text_tokens.specs.declared.token.Dialect.{Dialect}
+use Rattle.wb_text_tokens.specs.declared.token.Dialect.TheVariants.{Terms, FormatOne, FormatTwo}
 use Rattle.wb_text_tokens.specs.declared.word.Word.{Word}
 use Rattle.wb_text_tokens.specs.declared.word.Word.TheVariants as w
 use Rattle.wb_text_tokens.specs.declared.punctuation.Punctuation.{Punctuation}
@@ -42,6 +44,27 @@ word_text w.Then = codes "then"
 word_text w.To = codes "to"
 word_text w.Top = codes "top"
 word_text w.True = codes "true"
+word_text w.Closed = codes "closed"
+
+-- `closed` is reserved in format 2 alone
+abbrev pub has_closed : Dialect → Bool
+has_closed Terms = false
+has_closed FormatOne = false
+has_closed FormatTwo = true
+
+-- the word is reserved in the dialect: each but `closed` is so in all of them
+abbrev pub is_word_of : Dialect → Word → Bool
+is_word_of dialect w.Closed = has_closed dialect
+is_word_of dialect word = true
+
+-- the bytes spell the word, which is reserved in the dialect
+pub record IsSpelledIn (dialect : Dialect) (x : List ℕ) (word : Word) : Type 0 where
+  pub reserved : IsTrue (is_word_of dialect word)
+  pub is : x ≡ word_text word
+
+-- the bytes are a word that is reserved in the dialect
+abbrev pub IsReservedIn : Dialect → List ℕ → Type 0
+IsReservedIn dialect x = (word : Word) × IsSpelledIn dialect x word
 
 -- the bytes of a punctuation mark
 abbrev pub punctuation_text : Punctuation → List ℕ

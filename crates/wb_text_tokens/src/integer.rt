@@ -5,6 +5,7 @@
 ghost use Rattle.std.specs.Prelude.{◌≡◌, ◌<◌, length, slice_index};
 ghost use Rattle.wb_text_tokens.specs.Inner.Longest.{first_class, FindsLongest};
 ghost use Rattle.wb_text_tokens.specs.Inner.Numbers.{FindsNumber};
+ghost use Rattle.wb_text_tokens.specs.declared.token.Dialect.{Dialect};
 
 use crate::Token;
 use crate::token_class::TokenClass;
@@ -27,7 +28,7 @@ fn number(negative: bool, text: &[u8]) -> Option<(i64, usize)>
 pub fn integer(text: &[u8]) -> Option<(Token, usize)>
     requires some { 0 < length text.now }
     requires begins { first_class (slice_index text.now 0) ≡ TokenClass.Number }
-    ensures { FindsLongest text.now result }
+    ensures { (dialect : Dialect) → FindsLongest dialect text.now result }
 {
     if text[0] == b'-' {
         let (value, count) = number(true, &text[1..])?;

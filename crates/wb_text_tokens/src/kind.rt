@@ -18,6 +18,8 @@ pub enum TokenKind {
     Name,
     /// The integer 1.
     One,
+    /// The integer 2.
+    Two,
     /// Any other integer.
     Number,
     /// A string.
@@ -50,6 +52,8 @@ fn integer_kind(value: i64) -> TokenKind
 {
     if value == 1 {
         TokenKind::One
+    } else if value == 2 {
+        TokenKind::Two
     } else {
         TokenKind::Number
     }

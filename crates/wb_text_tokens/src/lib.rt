@@ -21,5 +21,5 @@ pub use kind::TokenKind;
 pub use next::next_token;
 pub use print::{print_int, print_text};
 pub use punctuation::Punctuation;
-pub use token::{Layout, Token};
+pub use token::{Dialect, Token};
 pub use word::Word;

@@ -5,9 +5,9 @@ ghost use Rattle.std.specs.List.{prefix_len};
 ghost use Rattle.wb_text_tokens.specs.Inner.Longest.{first_class, FindsLongest};
 ghost use Rattle.wb_base.specs.Identifiers.{is_letter, is_name_byte};
 
-use crate::Token;
 use crate::token_class::{TokenClass, is_letter};
 use crate::word::word_of;
+use crate::{Dialect, Token};
 use std::alloc::{AllocError, Global};
 use wb_base::Bytes;
 
@@ -30,15 +30,19 @@ fn name_len(text: &[u8]) -> usize
     text.len()
 }
 
-/// The name or the reserved word that the bytes begin with, and its length.
-pub fn name(alloc: Global, text: &[u8]) -> Result<Option<(Token, usize)>, AllocError>
+/// The name or the word of the dialect that the bytes begin with, and its length.
+pub fn name(
+    alloc: Global,
+    text: &[u8],
+    dialect: Dialect,
+) -> Result<Option<(Token, usize)>, AllocError>
     requires some { 0 < length text.now }
     requires begins { first_class (slice_index text.now 0) ≡ TokenClass.Letter }
-    ensures { IfOk result (FindsLongest text.now) }
+    ensures { IfOk result (FindsLongest dialect text.now) }
 {
     let length = name_len(text);
     let spelling = &text[..length];
-    if let Some(word) = word_of(spelling) {
+    if let Some(word) = word_of(spelling, dialect) {
         return Ok(Some((Token::Word(word), length)));
     }
     let name = Bytes::from_slice(alloc, spelling)?;

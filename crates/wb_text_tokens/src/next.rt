@@ -13,17 +13,21 @@ use crate::regex::regex;
 use crate::skipping::skip_layout;
 use crate::string::string;
 use crate::token_class::{TokenClass, first_class};
-use crate::{Layout, Token};
+use crate::{Dialect, Token};
 use std::alloc::{AllocError, Global};
 use wb_text_predictive::{Next, Placed};
 
-// The longest token that the bytes begin with, and its length.
-fn longest_token(alloc: Global, text: &[u8]) -> Result<Option<(Token, usize)>, AllocError>
+// The longest token of the dialect that the bytes begin with, and its length.
+fn longest_token(
+    alloc: Global,
+    text: &[u8],
+    dialect: Dialect,
+) -> Result<Option<(Token, usize)>, AllocError>
     requires { 0 < length text.now }
-    ensures { IfOk result (FindsLongest text.now) }
+    ensures { IfOk result (FindsLongest dialect text.now) }
 {
     match first_class(text[0]) {
-        TokenClass::Letter => name(alloc, text),
+        TokenClass::Letter => name(alloc, text, dialect),
         TokenClass::Number => Ok(integer(text)),
         TokenClass::Quote => string(alloc, text),
         TokenClass::Slash => regex(alloc, text),
@@ -31,7 +35,7 @@ fn longest_token(alloc: Global, text: &[u8]) -> Result<Option<(Token, usize)>, A
     }
 }
 
-/// What is next in a text from a place on, after layout: the longest token, the end of the text, or bytes that begin no token.
+/// What is next in a text of the dialect from a place on, after layout: the longest token, the end of the text, or bytes that begin no token.
 ///
 /// Places count bytes from the beginning of the text; to go on, call again from the token's end. An integer goes on as long as digits do,
 /// so one that is out of range is no token, and no shorter one is read. Memory is taken only for the bytes of a name, a string or a regular
@@ -41,19 +45,19 @@ pub fn next_token(
     alloc: Global,
     text: &[u8],
     from: usize,
-    layout: Layout,
+    dialect: Dialect,
 ) -> Result<Next<Token>, AllocError>
     requires { from ≤ length text.now }
-    ensures ok { IfOk result (IsNextIn layout text.now from) }
+    ensures ok { IfOk result (IsNextIn dialect text.now from) }
     ensures only { IfOk result (λ next.
-        (other : Next Token) → IsNextIn layout text.now from other → other ≡ next) }
+        (other : Next Token) → IsNextIn dialect text.now from other → other ≡ next) }
     ensures forward { IfOk result (GoesForward text.now from) }
 {
-    let at = skip_layout(text, from, layout);
+    let at = skip_layout(text, from, dialect);
     if at == text.len() {
         return Ok(Next::End { at });
     }
-    match longest_token(alloc, &text[at..])? {
+    match longest_token(alloc, &text[at..], dialect)? {
         Some((token, length)) => Ok(Next::Found(Placed {
             token,
             at,

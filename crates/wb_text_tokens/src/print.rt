@@ -5,6 +5,7 @@ ghost use Rattle.std.specs.Fmt.{digit_glyph, signed_decimal};
 ghost use Rattle.std.specs.Prelude.{false};
 ghost use Rattle.wb_text_tokens.specs.Printing.{printed_byte, printed_text};
 ghost use Rattle.wb_text_tokens.specs.Spelling.{IsToken};
+ghost use Rattle.wb_text_tokens.specs.declared.token.Dialect.{Dialect};
 ghost use Rattle.wb_text_tokens.specs.declared.token.Token.TheVariants as t;
 
 use itoa::Buffer;
@@ -13,7 +14,7 @@ use std::alloc::AllocError;
 /// Appends an integer in decimal, with `-` before a negative.
 pub fn print_int(out: &mut Vec<u8>, value: i64) -> Result<(), AllocError>
     ensures ok { OnOk result (out.new.items ≡ out.old.items ++ signed_decimal value) }
-    ensures token { IsToken (t.Int value) (signed_decimal value) }
+    ensures token { (dialect : Dialect) → IsToken dialect (t.Int value) (signed_decimal value) }
     ensures err { OnErr result (out.new.items ≡ out.old.items) }
 {
     let mut buffer = Buffer::new();
@@ -60,7 +61,7 @@ fn append_text(out: &mut Vec<u8>, text: &[u8]) -> Result<(), AllocError>
 /// Appends a text as a string, with its quotes.
 pub fn print_text(out: &mut Vec<u8>, text: &[u8]) -> Result<(), AllocError>
     ensures ok { OnOk result (out.new.items ≡ out.old.items ++ printed_text text.now) }
-    ensures token { IsToken (t.Text text.now) (printed_text text.now) }
+    ensures token { (dialect : Dialect) → IsToken dialect (t.Text text.now) (printed_text text.now) }
     ensures err { OnErr result (out.new.items ≡ out.old.items) }
 {
     let start = out.len();

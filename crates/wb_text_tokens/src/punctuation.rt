@@ -3,6 +3,7 @@
 ghost use Rattle.std.specs.Prelude.{◌≡◌, ◌<◌, length, slice_index};
 ghost use Rattle.wb_text_tokens.specs.Inner.Longest.{first_class, FindsLongest};
 ghost use Rattle.wb_text_tokens.specs.Words.{punctuation_text};
+ghost use Rattle.wb_text_tokens.specs.declared.token.Dialect.{Dialect};
 ghost use Rattle.wb_text_tokens.specs.Inner.Marks.{mark_at, colon_at, single_mark};
 
 use crate::Token;
@@ -99,7 +100,7 @@ fn mark(text: &[u8]) -> Option<Punctuation>
 pub fn longest_mark(text: &[u8]) -> Option<(Token, usize)>
     requires some { 0 < length text.now }
     requires begins { first_class (slice_index text.now 0) ≡ TokenClass.Mark }
-    ensures { FindsLongest text.now result }
+    ensures { (dialect : Dialect) → FindsLongest dialect text.now result }
 {
     let mark = mark(text)?;
     Some((Token::Punctuation(mark), mark.text().len()))

@@ -2,6 +2,7 @@
 
 ghost use Rattle.std.specs.Prelude.{◌≡◌, ◌≤◌, ◌<◌, true, length, slice_index, IfOk};
 ghost use Rattle.wb_text_tokens.specs.Inner.Longest.{first_class, FindsLongest};
+ghost use Rattle.wb_text_tokens.specs.declared.token.Dialect.{Dialect};
 ghost use Rattle.wb_text_tokens.specs.Inner.Parts.{regex_part, regex_escape, FindsRegex};
 
 use crate::Token;
@@ -50,7 +51,7 @@ fn regex_body(x: &[u8]) -> Option<usize>
 pub fn regex(alloc: Global, text: &[u8]) -> Result<Option<(Token, usize)>, AllocError>
     requires some { 0 < length text.now }
     requires begins { first_class (slice_index text.now 0) ≡ TokenClass.Slash }
-    ensures { IfOk result (FindsLongest text.now) }
+    ensures { IfOk result (λ found. (dialect : Dialect) → FindsLongest dialect text.now found) }
 {
     let Some(place) = regex_body(&text[1..]) else {
         return Ok(None);

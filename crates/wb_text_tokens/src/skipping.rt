@@ -1,9 +1,9 @@
 //! Layout: how far it goes.
 
 ghost use Rattle.std.specs.Prelude.{◌≡◌, ◌≢◌, ◌↔◌, ℕ, ◌+◌, ◌≤◌, ◌<◌, length, slice_index, IsTrue, IfSome, MatchOption};
-ghost use Rattle.wb_text_tokens.specs.Skipping.{is_blank, HasByte, IsLayoutPiece, SkipsLayout};
+ghost use Rattle.wb_text_tokens.specs.Skipping.{is_blank, has_comments, HasByte, IsLayoutPiece, SkipsLayout};
 
-use crate::Layout;
+use crate::Dialect;
 
 // Whether the byte is space, tab, LF or CR.
 fn is_blank(b: u8) -> bool
@@ -17,6 +17,17 @@ pub fn has_byte(text: &[u8], at: usize, byte: u8) -> bool
     ensures { IsTrue result ↔ HasByte text.now at byte }
 {
     at < text.len() && text[at] == byte
+}
+
+// Whether comments may stand between tokens.
+fn has_comments(dialect: Dialect) -> bool
+    ensures { result ≡ has_comments dialect }
+{
+    match dialect {
+        Dialect::Terms => false,
+        Dialect::FormatOne => true,
+        Dialect::FormatTwo => true,
+    }
 }
 
 // Whether two slashes are there.
@@ -46,11 +57,11 @@ fn line_end(text: &[u8], from: usize) -> usize
 }
 
 // The place after the piece of layout that begins there.
-fn layout_piece(text: &[u8], at: usize, layout: Layout) -> Option<usize>
+fn layout_piece(text: &[u8], at: usize, dialect: Dialect) -> Option<usize>
     requires { at ≤ length text.now }
     ensures piece { MatchOption result
-        ((behind : ℕ) → ¬ IsLayoutPiece layout text.now at behind)
-        (IsLayoutPiece layout text.now at) }
+        ((behind : ℕ) → ¬ IsLayoutPiece dialect text.now at behind)
+        (IsLayoutPiece dialect text.now at) }
     ensures further { IfSome result (λ behind. (at < behind) × (behind ≤ length text.now)) }
 {
     if at == text.len() {
@@ -59,27 +70,22 @@ fn layout_piece(text: &[u8], at: usize, layout: Layout) -> Option<usize>
     if is_blank(text[at]) {
         return Some(at + 1);
     }
-    match layout {
-        Layout::Plain => None,
-        Layout::WithComments => {
-            if begins_comment(text, at) {
-                Some(line_end(text, at + 2))
-            } else {
-                None
-            }
-        }
+    if has_comments(dialect) && begins_comment(text, at) {
+        Some(line_end(text, at + 2))
+    } else {
+        None
     }
 }
 
 /// The place after all layout from a place on.
-pub fn skip_layout(text: &[u8], from: usize, layout: Layout) -> usize
+pub fn skip_layout(text: &[u8], from: usize, dialect: Dialect) -> usize
     requires { from ≤ length text.now }
-    ensures skipped { SkipsLayout layout text.now from result }
+    ensures skipped { SkipsLayout dialect text.now from result }
     ensures ordered { from ≤ result }
     ensures within { result ≤ length text.now }
 {
     let mut at = from;
-    while let Some(behind) = layout_piece(text, at, layout) {
+    while let Some(behind) = layout_piece(text, at, dialect) {
         at = behind;
     }
     at

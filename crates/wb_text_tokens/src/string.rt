@@ -2,6 +2,7 @@
 
 ghost use Rattle.std.specs.Prelude.{◌≡◌, ◌≤◌, ◌<◌, true, length, slice_index, IfOk, IfSome, Option, option_map, List, ℕ, Vec};
 ghost use Rattle.wb_text_tokens.specs.Inner.Longest.{first_class, FindsLongest};
+ghost use Rattle.wb_text_tokens.specs.declared.token.Dialect.{Dialect};
 ghost use Rattle.wb_text_tokens.specs.Inner.Parts.{string_part, escape_at, hexadecimal_at, FindsString};
 ghost use Rattle.wb_text_tokens.specs.Spelling.{is_plain, escaped_byte};
 
@@ -86,7 +87,7 @@ fn string_body(alloc: Global, x: &[u8]) -> Result<Option<(Vec<u8>, usize)>, Allo
 pub fn string(alloc: Global, text: &[u8]) -> Result<Option<(Token, usize)>, AllocError>
     requires some { 0 < length text.now }
     requires begins { first_class (slice_index text.now 0) ≡ TokenClass.Quote }
-    ensures { IfOk result (FindsLongest text.now) }
+    ensures { IfOk result (λ found. (dialect : Dialect) → FindsLongest dialect text.now found) }
 {
     let Some((decoded, place)) = string_body(alloc, &text[1..])? else {
         return Ok(None);

@@ -20,11 +20,13 @@ pub enum Token {
     Punctuation(Punctuation),
 }
 
-/// What may come between two tokens beside space, tab, LF and CR.
+/// What a text is, which says what stands between its tokens and which words are reserved.
 #[derive(Clone, Copy, Debug, PartialEq, Eq)]
-pub enum Layout {
-    /// Comments too: from `//` to before the next LF, or to the end of the text.
-    WithComments,
-    /// Nothing else.
-    Plain,
+pub enum Dialect {
+    /// A term. Between two tokens are space, tab, LF and CR.
+    Terms,
+    /// A specification of format 1. Comments too are between tokens: from `//` to before the next LF, or to the end of the text.
+    FormatOne,
+    /// A specification of format 2, in which `closed` is reserved too.
+    FormatTwo,
 }

@@ -2,8 +2,9 @@
 
 ghost use Rattle.std.specs.Prelude.{◌≡◌, ◌≢◌, ℕ, ◌<◌, length, slice_index_or, MatchOption, IfSome, IfNone};
 ghost use Rattle.wb_text_tokens.specs.declared.word.Word.{Word};
-ghost use Rattle.wb_text_tokens.specs.Words.{word_text};
-ghost use Rattle.wb_base.specs.Identifiers.{IsReserved};
+ghost use Rattle.wb_text_tokens.specs.Words.{word_text, has_closed, is_word_of, IsSpelledIn, IsReservedIn};
+
+use crate::Dialect;
 
 /// A reserved word.
 #[derive(Clone, Copy, Debug, PartialEq, Eq)]
@@ -43,9 +44,11 @@ pub enum Word {
     To,
     Top,
     True,
+    /// In specifications of format 2 alone.
+    Closed,
 }
 
-const WORDS: [Word; 35] = [
+const WORDS: [Word; 36] = [
     Word::Abstract,
     Word::Aspect,
     Word::Bool,
@@ -81,6 +84,7 @@ const WORDS: [Word; 35] = [
     Word::To,
     Word::Top,
     Word::True,
+    Word::Closed,
 ];
 
 impl Word {
@@ -124,6 +128,7 @@ impl Word {
             Word::To => b"to",
             Word::Top => b"top",
             Word::True => b"true",
+            Word::Closed => b"closed",
         }
     }
 }
@@ -142,9 +147,35 @@ fn spelled_among(words: &[Word], text: &[u8]) -> Option<Word>
     None
 }
 
-/// The word that the bytes spell.
-pub fn word_of(text: &[u8]) -> Option<Word>
-    ensures { MatchOption result (¬ IsReserved text.now) (λ word. text.now ≡ word_text word) }
+// Whether the word is reserved in the dialect.
+fn is_word_of(dialect: Dialect, word: Word) -> bool
+    ensures { result ≡ is_word_of dialect word }
 {
-    spelled_among(&WORDS, text)
+    match word {
+        Word::Closed => has_closed(dialect),
+        _ => true,
+    }
+}
+
+// Whether `closed` is reserved in the dialect.
+fn has_closed(dialect: Dialect) -> bool
+    ensures { result ≡ has_closed dialect }
+{
+    match dialect {
+        Dialect::Terms => false,
+        Dialect::FormatOne => false,
+        Dialect::FormatTwo => true,
+    }
+}
+
+/// The word of the dialect that the bytes spell.
+pub fn word_of(text: &[u8], dialect: Dialect) -> Option<Word>
+    ensures { MatchOption result (¬ IsReservedIn dialect text.now) (IsSpelledIn dialect text.now) }
+{
+    let word = spelled_among(&WORDS, text)?;
+    if is_word_of(dialect, word) {
+        Some(word)
+    } else {
+        None
+    }
 }

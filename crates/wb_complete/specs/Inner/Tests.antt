@@ -3,7 +3,7 @@ use Rattle.std.specs.Prelude.{◌≡◌, ℕ, List, Option, Some, Contains}
 use Rattle.wb_syntax_expressions.specs.declared.node.Node.TheVariants as n
 use Rattle.wb_flow_theory.specs.Occurrences.{Goes, Needs}
 use Rattle.wb_flow_theory.specs.Rules.{Forwards, IsTreeAt}
-use Rattle.wb_flow_theory.specs.Modular.{IsProduction, IsBridging}
+use Rattle.wb_flow_theory.specs.Modular.{IsProduction, MustForward}
 use Rattle.wb_flow.specs.declared.vertex.Vertex.{Vertex}
 use Rattle.wb_flow.specs.declared.vertex.Vertex.TheVariants as v
 use Rattle.wb_flow.specs.Rules.{attribute_at, IsDefined}
@@ -18,14 +18,14 @@ use Rattle.wb_syntax_resolved.specs.Expression.{Node}
 abbrev pub IsSo : AttributionParts → ℕ → (Production → Type 0) → Type 0
 IsSo a number holds = (production : Production) × IsProduction a number production × holds production
 
--- a production of the extension on a nonterminal of the host forwards
-abbrev pub ForwardsWhereBridging : AttributionParts → ℕ → Production → Type 0
-ForwardsWhereBridging a owner production = IsBridging a owner production → Forwards production
+-- a production of the extension on a nonterminal of the host that isn't closed forwards
+abbrev pub ForwardsWhereNeeded : AttributionParts → ℕ → Production → Type 0
+ForwardsWhereNeeded a owner production = MustForward a owner production → Forwards production
 
--- the production of this number is the extension's, is on a nonterminal of the host and doesn't forward
+-- the production of this number is the extension's, is on a nonterminal of the host that isn't closed and doesn't forward
 abbrev pub IsWithoutForward : AttributionParts → Option ℕ → ℕ → Type 0
 IsWithoutForward a extension number =
-    (owner : ℕ) × (extension ≡ Some owner) × IsSo a number (λ production. IsBridging a owner production × ¬ Forwards production)
+    (owner : ℕ) × (extension ≡ Some owner) × IsSo a number (λ production. MustForward a owner production × ¬ Forwards production)
 
 -- an equation of the production is for the synthesized attribute of its top
 abbrev pub DefinesAttribute : AttributionParts → Production → Occurrence → Type 0

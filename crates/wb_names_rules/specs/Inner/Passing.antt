@@ -30,22 +30,13 @@ module _ (declared : List Declaration) (owner : ℕ) (items : Items) where
   UsesFail (r.NoMemory error) = Unit {0}
   UsesFail other = ⊥
 
-module _ (declared : List Declaration) (from owner : ℕ) (items : Items) where
-  -- what is used passes, and an extension, whose own declarations begin at a place, says only what it may
-  pub record Passes : Type 0 where
-    pub used : UsesPass declared owner items
-    pub owned : owner ≢ 0 → All (MayDeclare declared from) (drop from declared)
+module _ (declared : List Declaration) (from owner : ℕ) (hosts_closed : List (List ℕ)) where
+  -- an extension, whose own declarations begin at a place, says only what it may
+  abbrev pub OwnerPasses : Type 0
+  OwnerPasses = owner ≢ 0 → All (MayDeclare declared from hosts_closed) (drop from declared)
 
-  -- what is used passes, and a name shows that an extension says what it may not
-  pub record OwnerFails (name : List ℕ) : Type 0 where
-    pub used : UsesPass declared owner items
-    pub extension : owner ≢ 0
-    pub fails : FailsOrphan (take from declared) (drop from declared) name
-
-  -- the refusal tells of the first test that fails, unless memory ran out
-  abbrev pub TestFails : NameRefusal → Type 0
-  TestFails (r.Unknown name) = FailsUnknown declared (uses items) name
-  TestFails (r.WrongKind name) = KindFails declared owner items name
-  TestFails (r.Orphan name) = OwnerFails name
-  TestFails (r.NoMemory error) = Unit {0}
-  TestFails other = ⊥
+  -- the refusal tells that an extension says what it may not, unless memory ran out
+  abbrev pub OwnerFails : NameRefusal → Type 0
+  OwnerFails (r.Orphan name) = (owner ≢ 0) × FailsOrphan (take from declared) (drop from declared) hosts_closed name
+  OwnerFails (r.NoMemory error) = Unit {0}
+  OwnerFails other = ⊥

@@ -1,5 +1,5 @@
--- What each row or item adds to the names of a sort, and what it says of a forward.
-use Rattle.std.specs.Prelude.{ℕ, Bool, true, false, not, List, [], ◌∷◌}
+-- What each row or item adds to the names of a sort, what it says of a forward, and what it closes.
+use Rattle.std.specs.Prelude.{ℕ, Bool, true, false, not, List, [], ◌∷◌, option_to_list}
 use Rattle.wb_syntax_resolved.specs.declared.production.Production.{Production}
 use Rattle.wb_syntax_resolved.specs.declared.production.ProductionRole.{ProductionRole}
 use Rattle.wb_syntax_resolved.specs.declared.production.ProductionRole.TheVariants.{Concrete, Abstract}
@@ -8,6 +8,7 @@ use Rattle.wb_syntax.specs.declared.item.ItemForm.TheVariants as f
 use Rattle.wb_syntax.specs.declared.item.PlainForm.{PlainForm}
 use Rattle.wb_syntax.specs.declared.item.PlainForm.TheVariants as i
 use Rattle.wb_syntax.specs.declared.pattern.Pattern.{Pattern}
+use Rattle.wb_names_theory.specs.Declarations.{closed_of}
 use Rattle.wb_names_numbers_theory.specs.Rows.{production_role}
 
 -- the attribute that an item declares
@@ -63,3 +64,10 @@ form_needs (f.Plain plain) = plain_needs plain
 form_needs (f.Lexical role name pattern) = []
 form_needs (f.Production role production) = []
 form_needs (f.Aspect name equations) = []
+
+-- the nonterminal that an item closes
+abbrev pub form_closeds : ItemForm Pattern → List (List ℕ)
+form_closeds (f.Plain plain) = option_to_list (closed_of plain)
+form_closeds (f.Lexical role name pattern) = []
+form_closeds (f.Production role production) = []
+form_closeds (f.Aspect name equations) = []

@@ -1,6 +1,6 @@
 -- Rows of nonterminals, those of the grammar apart from the others.
 use Rattle.std.specs.Prelude.{◌≡◌, ◌≢◌, ◌↔◌, ◌++◌, ◌∷◌, [], ℕ, Bool, true, false, List, Some}
-use Rattle.std.specs.Prelude.{All, Contains, length, map, option_to_list, slice_get}
+use Rattle.std.specs.Prelude.{All, Contains, IsTrue, length, map, option_to_list, slice_get}
 use Rattle.std.specs.List.{AllZip}
 use Rattle.wb_syntax_resolved.specs.declared.attributes.Attribute.{Attribute}
 use Rattle.wb_syntax_resolved.specs.declared.attributes.Nonterminal.{Nonterminal}
@@ -10,7 +10,7 @@ use Rattle.wb_syntax.specs.declared.item.ItemForm.{ItemForm}
 use Rattle.wb_syntax.specs.declared.item.ItemForm.TheVariants as f
 use Rattle.wb_syntax.specs.declared.pattern.Pattern.{Pattern}
 use Rattle.wb_syntax.specs.Names.{FormHasNames}
-use Rattle.wb_names_theory.specs.Declarations.{Items, AttributeDeclaration, attributes, nonterminal_of, nonterminals}
+use Rattle.wb_names_theory.specs.Declarations.{Items, AttributeDeclaration, attributes, closeds, nonterminal_of, nonterminals}
 use Rattle.wb_names_theory.specs.Declares.{item_declarations}
 use Rattle.wb_names_theory.specs.Hold.{AreOnce}
 use Rattle.wb_names_numbers_theory.specs.Files.{File, IsInBaseGrammar, IsInGrammar, forward_needs_of, grammar_names}
@@ -51,6 +51,7 @@ IsSame x row = row ≡ x
 pub record IsDeclaredRow (owner : ℕ) (items : Items) (names : List (List ℕ)) (name : List ℕ) (row : Nonterminal) : Type 0 where
   pub name_is : row.name ≡ name
   pub owner_is : row.owner ≡ owner
+  pub closed : IsTrue row.closed ↔ Contains (closeds items) name
   pub needs : AllZip (IsAt names) (forward_needs_of name items) row.forward_needs
 
 -- the flags are those of the nonterminals whose names are in a base's grammar

@@ -17,7 +17,7 @@ abbrev pub item_first : List TokenKind
 item_first =
     kind.Word w.Terminal ∷ kind.Word w.Ignore ∷ kind.Word w.Marking ∷ kind.Word w.Concrete ∷ kind.Word w.Abstract
     ∷ kind.Word w.Aspect ∷ kind.Word w.Prefer ∷ kind.Word w.Nonterminal ∷ kind.Word w.Start ∷ kind.Word w.Extensible
-    ∷ kind.Word w.Syn ∷ kind.Word w.Inh ∷ kind.Word w.Occurs ∷ kind.Word w.Forward ∷ []
+    ∷ kind.Word w.Closed ∷ kind.Word w.Syn ∷ kind.Word w.Inh ∷ kind.Word w.Occurs ∷ kind.Word w.Forward ∷ []
 
 -- the right sides of items of names alone
 abbrev pub plain_right_sides : List (List (Symbol TokenKind Part Action))
@@ -27,6 +27,7 @@ plain_right_sides =
     ∷ (Token (kind.Word w.Nonterminal) ∷ Token kind.Name ∷ Token (kind.Mark p.Semicolon) ∷ Act (Action.Item ItemAction.Nonterminal) ∷ [])
     ∷ (Token (kind.Word w.Start) ∷ Token kind.Name ∷ Token (kind.Mark p.Semicolon) ∷ Act (Action.Item ItemAction.Start) ∷ [])
     ∷ (Token (kind.Word w.Extensible) ∷ Token kind.Name ∷ Token (kind.Mark p.Semicolon) ∷ Act (Action.Item ItemAction.Extensible) ∷ [])
+    ∷ (Token (kind.Word w.Closed) ∷ Token kind.Name ∷ Token (kind.Mark p.Semicolon) ∷ Act (Action.Item ItemAction.Closed) ∷ [])
     ∷ (Token (kind.Word w.Syn) ∷ Token kind.Name ∷ Token (kind.Mark p.Colon) ∷ Nonterminal Part.Kind ∷ Token (kind.Mark p.Semicolon)
     ∷ Act (Action.Item ItemAction.Synthesized) ∷ [])
     ∷ (Token (kind.Word w.Inh) ∷ Token kind.Name ∷ Token (kind.Mark p.Colon) ∷ Nonterminal Part.Kind ∷ Token (kind.Mark p.Semicolon)

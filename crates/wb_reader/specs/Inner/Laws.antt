@@ -12,6 +12,7 @@ use Rattle.wb_reader.specs.Inner.RightSides.{right_sides}
 pub spec_decided : (n : Part) → is_decided same_kind End lookahead_table right_sides n ≡ true
 unfolding right_sides lookahead_table
 spec_decided Part.File = refl
+spec_decided Part.Format = refl
 spec_decided Part.Header = refl
 spec_decided Part.Items = refl
 spec_decided Part.Item = refl

@@ -26,7 +26,7 @@ after_equation =
 abbrev pub expression_first : List TokenKind
 expression_first =
     kind.Word w.False ∷ kind.Word w.Forward ∷ kind.Word w.If ∷ kind.Word w.Top ∷ kind.Word w.True ∷ kind.Mark p.At ∷ kind.Name
-    ∷ kind.One ∷ kind.Number ∷ kind.String ∷ []
+    ∷ kind.One ∷ kind.Two ∷ kind.Number ∷ kind.String ∷ []
 
 -- what can follow an expression
 abbrev pub after_expression : List TokenKind
@@ -41,6 +41,14 @@ lookahead_table Part.File = record {
   first = kind.Word w.Format ∷ [];
   follow = kind.End ∷ [];
   rank = 1;
+  weight = 1;
+}
+lookahead_table Part.Format = record {
+  kinds = (kind.One ∷ []) ∷ (kind.Two ∷ []) ∷ [];
+  nullable = false;
+  first = kind.One ∷ kind.Two ∷ [];
+  follow = kind.Mark p.Semicolon ∷ [];
+  rank = 0;
   weight = 1;
 }
 lookahead_table Part.Header = record {
@@ -159,7 +167,7 @@ lookahead_table Part.Value = record {
 }
 lookahead_table Part.Expression = record {
   kinds =
-      (kind.One ∷ kind.Number ∷ []) ∷ (kind.String ∷ []) ∷ (kind.Word w.True ∷ []) ∷ (kind.Word w.False ∷ []) ∷ (kind.Name ∷ [])
+      (kind.One ∷ kind.Two ∷ kind.Number ∷ []) ∷ (kind.String ∷ []) ∷ (kind.Word w.True ∷ []) ∷ (kind.Word w.False ∷ []) ∷ (kind.Name ∷ [])
       ∷ (kind.Word w.Top ∷ []) ∷ (kind.Word w.Forward ∷ []) ∷ (kind.Mark p.At ∷ []) ∷ (kind.Word w.If ∷ []) ∷ [];
   nullable = false;
   first = expression_first;
@@ -200,9 +208,9 @@ lookahead_table Part.FurtherArguments = record {
   weight = 1;
 }
 lookahead_table Part.Integer = record {
-  kinds = (kind.One ∷ []) ∷ (kind.Number ∷ []) ∷ [];
+  kinds = (kind.One ∷ []) ∷ (kind.Two ∷ []) ∷ (kind.Number ∷ []) ∷ [];
   nullable = false;
-  first = kind.One ∷ kind.Number ∷ [];
+  first = kind.One ∷ kind.Two ∷ kind.Number ∷ [];
   follow = after_expression;
   rank = 0;
   weight = 1;

@@ -16,8 +16,9 @@ use Rattle.wb_reader_builder.specs.declared.expressions.ExpressionAction.{Expres
 -- the right sides
 unfoldable pub right_sides : Part → List (List (Symbol TokenKind Part Action))
 right_sides Part.File =
-    (Token (kind.Word w.Format) ∷ Token kind.One ∷ Token (kind.Mark p.Semicolon) ∷ Act (Action.Item ItemAction.Begin)
+    (Token (kind.Word w.Format) ∷ Nonterminal Part.Format ∷ Token (kind.Mark p.Semicolon) ∷ Act (Action.Item ItemAction.Begin)
     ∷ Nonterminal Part.Header ∷ Nonterminal Part.Items ∷ []) ∷ []
+right_sides Part.Format = (Token kind.One ∷ []) ∷ (Token kind.Two ∷ []) ∷ []
 right_sides Part.Header =
     (Token (kind.Word w.Host) ∷ Token kind.Name ∷ Token (kind.Mark p.Semicolon) ∷ Act (Action.Item ItemAction.Host) ∷ [])
     ∷ (Token (kind.Word w.Extension) ∷ Token kind.Name ∷ Token (kind.Word w.For) ∷ Token kind.Name ∷ Token (kind.Mark p.Semicolon)
@@ -93,4 +94,4 @@ right_sides Part.FurtherArguments =
     []
     ∷ (Token (kind.Mark p.Comma) ∷ Nonterminal Part.Expression ∷ Act (Action.Expression ExpressionAction.AddArgument)
     ∷ Nonterminal Part.FurtherArguments ∷ []) ∷ []
-right_sides Part.Integer = (Token kind.One ∷ []) ∷ (Token kind.Number ∷ []) ∷ []
+right_sides Part.Integer = (Token kind.One ∷ []) ∷ (Token kind.Two ∷ []) ∷ (Token kind.Number ∷ []) ∷ []

@@ -28,9 +28,9 @@ term_entries Part.Owner = record {
 term_entries Part.Arguments = record {
   kinds =
       (k.Mark p.CloseParenthesis ∷ [])
-      ∷ (k.Name ∷ k.One ∷ k.Number ∷ k.String ∷ k.Word w.True ∷ k.Word w.False ∷ []) ∷ [];
+      ∷ (k.Name ∷ k.One ∷ k.Two ∷ k.Number ∷ k.String ∷ k.Word w.True ∷ k.Word w.False ∷ []) ∷ [];
   nullable = true;
-  first = k.Name ∷ k.One ∷ k.Number ∷ k.String ∷ k.Word w.True ∷ k.Word w.False ∷ [];
+  first = k.Name ∷ k.One ∷ k.Two ∷ k.Number ∷ k.String ∷ k.Word w.True ∷ k.Word w.False ∷ [];
   follow = k.Mark p.CloseParenthesis ∷ [];
   rank = 0;
   weight = 3;
@@ -45,9 +45,10 @@ term_entries Part.More = record {
 }
 term_entries Part.Argument = record {
   kinds =
-      (k.One ∷ []) ∷ (k.Number ∷ []) ∷ (k.String ∷ []) ∷ (k.Word w.True ∷ []) ∷ (k.Word w.False ∷ []) ∷ (k.Name ∷ []) ∷ [];
+      (k.One ∷ []) ∷ (k.Two ∷ []) ∷ (k.Number ∷ []) ∷ (k.String ∷ []) ∷ (k.Word w.True ∷ []) ∷ (k.Word w.False ∷ [])
+      ∷ (k.Name ∷ []) ∷ [];
   nullable = false;
-  first = k.Name ∷ k.One ∷ k.Number ∷ k.String ∷ k.Word w.True ∷ k.Word w.False ∷ [];
+  first = k.Name ∷ k.One ∷ k.Two ∷ k.Number ∷ k.String ∷ k.Word w.True ∷ k.Word w.False ∷ [];
   follow = k.Mark p.CloseParenthesis ∷ k.Mark p.Comma ∷ [];
   rank = 0;
   weight = 2;

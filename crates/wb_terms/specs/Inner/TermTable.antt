@@ -23,7 +23,7 @@ term_rights Part.Owner = [] ∷ (Token (k.Mark p.Colon) ∷ Token k.Name ∷ Act
 term_rights Part.Arguments = [] ∷ (Nonterminal Part.Argument ∷ Nonterminal Part.More ∷ []) ∷ []
 term_rights Part.More = [] ∷ (Token (k.Mark p.Comma) ∷ Nonterminal Part.Argument ∷ Nonterminal Part.More ∷ []) ∷ []
 term_rights Part.Argument =
-    (Token k.One ∷ []) ∷ (Token k.Number ∷ []) ∷ (Token k.String ∷ []) ∷ (Token (k.Word w.True) ∷ [])
+    (Token k.One ∷ []) ∷ (Token k.Two ∷ []) ∷ (Token k.Number ∷ []) ∷ (Token k.String ∷ []) ∷ (Token (k.Word w.True) ∷ [])
     ∷ (Token (k.Word w.False) ∷ []) ∷ (Nonterminal Part.Term ∷ []) ∷ []
 
 -- the grammar

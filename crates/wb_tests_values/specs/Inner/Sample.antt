@@ -1,5 +1,5 @@
 -- A host with one nonterminal, one attribute on it, and one production with one equation.
-use Rattle.std.specs.Prelude.{◌≡◌, ℕ, List, [], ◌∷◌, None, codes}
+use Rattle.std.specs.Prelude.{◌≡◌, ℕ, false, List, [], ◌∷◌, None, codes}
 use Rattle.wb_base.specs.declared.symbol.Kind.TheVariants as kind
 use Rattle.wb_syntax_expressions.specs.declared.node.Node.TheVariants as n
 use Rattle.wb_syntax_resolved.specs.declared.attributes.Attribute.{Attribute}
@@ -16,7 +16,7 @@ use Rattle.wb_values.specs.Signature.{Signature}
 
 -- the nonterminal N
 abbrev pub nonterminal_n : Nonterminal
-nonterminal_n = record { name = codes "N"; owner = 0; forward_needs = [] }
+nonterminal_n = record { name = codes "N"; owner = 0; closed = false; forward_needs = [] }
 
 -- the synthesized attribute v, a number
 abbrev pub attribute_v : Attribute

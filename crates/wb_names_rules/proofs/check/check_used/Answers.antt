@@ -3,7 +3,7 @@ use Rattle.std.proofs.lemmas.Result.{IfErr-weaker}
 use Rattle.wb_names_theory.specs.WrongKind.{misplaced}
 use Rattle.wb_names_rules.specs.Inner.Passing.{UsesFail}
 use Rattle.wb_names_rules.specs.Inner.Tests.{IsWrongIn}
-use Rattle.wb_names_rules.proofs.PassLemmas.{kind_fails}
+use Rattle.wb_names_rules.proofs.RefusalLemmas.{kind_fails}
 use Rattle.wb_names_rules.proofs.check.check_used.Goals as goal
 
 pub returns-clause-refused : goal.returns-clause-refused

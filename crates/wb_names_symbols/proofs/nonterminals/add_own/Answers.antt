@@ -8,9 +8,9 @@ use Rattle.wb_names_symbols.proofs.AttributesThere.{needs_there}
 use Rattle.wb_names_symbols.proofs.OnceNames.{once_right}
 use Rattle.wb_names_symbols.proofs.nonterminals.add_own.Goals as goal
 
-pub add_declared-added-requires : goal.add_declared-added-requires
-add_declared-added-requires c = record {
-  are = c.in_ok-forwarders.ensures;
+pub add_declared-added-requires-clause-known : goal.add_declared-added-requires-clause-known
+add_declared-added-requires-clause-known c = record {
+  are = c.in_ok-said.ensures.forwarders;
   once = once_right (base_declarations c.args.file.now.base.now) (item_declarations c.args.file.now.items.now) c.requires.right.hold.once;
   names = c.requires.right.is_file.names;
   needs = subst (λ (z : List (List ℕ)). All (λ (item : Item Pattern). All (Contains z) (form_needs item.form)) c.args.file.now.items.now)

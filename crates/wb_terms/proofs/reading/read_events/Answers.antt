@@ -1,6 +1,6 @@
 use Rattle.std.proofs.Common.{List, subst}
 use Rattle.wb_text_predictive.specs.Reading.{IsOutcome}
-use Rattle.wb_text_tokens.specs.declared.token.Layout.TheVariants.{Plain}
+use Rattle.wb_text_tokens.specs.declared.token.Dialect.TheVariants.{Terms}
 use Rattle.wb_terms.specs.declared.event.Event.{Event}
 use Rattle.wb_text_tokens.specs.NextToken.{IsNextIn}
 use Rattle.wb_terms.specs.Inner.TermTable.{term_grammar}
@@ -12,5 +12,5 @@ returns c =
     record {
       ok = term_reading c.args.bytes.now c.in_ok-outcome.outcome
           (subst (λ (v : List Event). IsOutcome term_grammar
-          (IsNextIn Plain c.args.bytes.now) v c.in_ok-outcome.outcome) c.new-events.ensures c.in_ok-outcome.ensures.ok);
+          (IsNextIn Terms c.args.bytes.now) v c.in_ok-outcome.outcome) c.new-events.ensures c.in_ok-outcome.ensures.ok);
     }

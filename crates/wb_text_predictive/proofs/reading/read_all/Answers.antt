@@ -25,7 +25,7 @@ read-init g c =
 pub read-preserved : goal.read-preserved
 read-preserved g c =
     let t = g.T.Table in let same = g.T.Kind.PartialEq.eq in let i = c.read.invariant in
-    let is = t.IsNext c.args.text.now in
+    let is = t.IsNext c.args.table.now c.args.text.now in
     let h = subst (λ s. StepIs same t.end_kind t.entries t.grammar is c.read.from c.args.values i.read
     (reverse c.advance.new.stack.items) c.advance.new.values s) c.in-Went.is (c.in_ok-to.ensures.ok c.args.values i.read i.stands) in
     let on = subst (λ s. GoesOn c.read.from (length c.args.text.now) s) c.in-Went.is c.in_ok-to.ensures.progress in
@@ -39,7 +39,7 @@ read-preserved g c =
 pub returns-in-Done-clause-ok : goal.returns-in-Done-clause-ok
 returns-in-Done-clause-ok g c =
     let t = g.T.Table in let same = g.T.Kind.PartialEq.eq in let i = c.read.invariant in
-    let is = t.IsNext c.args.text.now in
+    let is = t.IsNext c.args.table.now c.args.text.now in
     let h = subst (λ s. StepIs same t.end_kind t.entries t.grammar is c.read.from c.args.values i.read
     (reverse c.advance.new.stack.items) c.advance.new.values s) c.in-Done.is (c.in_ok-to.ensures.ok c.args.values i.read i.stands) in
     record { tokens = i.read; to = c.read.from; at = h.0; spelled = i.spelled; ended = h.1; text = h.2 }
@@ -48,12 +48,12 @@ pub returns-in-Done-clause-only : goal.returns-in-Done-clause-only
 returns-in-Done-clause-only g c =
     let t = g.T.Table in let m = g.met.T.Table in
     one_outcome g.T.Kind.PartialEq.eq m.same t.end_kind t.entries t.grammar m.decided m.ends
-    (t.IsNext c.args.text.now) (m.one_next c.args.text.now) c.args.values (Whole c.advance.new.values) (returns-in-Done-clause-ok g c)
+    (t.IsNext c.args.table.now c.args.text.now) (m.one_next c.args.table.now c.args.text.now) c.args.values (Whole c.advance.new.values) (returns-in-Done-clause-ok g c)
 
 pub returns-in-Stuck-clause-ok : goal.returns-in-Stuck-clause-ok
 returns-in-Stuck-clause-ok g c =
     let t = g.T.Table in let same = g.T.Kind.PartialEq.eq in let i = c.read.invariant in
-    let is = t.IsNext c.args.text.now in
+    let is = t.IsNext c.args.table.now c.args.text.now in
     let h = subst (λ s. StepIs same t.end_kind t.entries t.grammar is c.read.from c.args.values i.read
     (reverse c.advance.new.stack.items) c.advance.new.values s) c.in-Stuck.is (c.in_ok-to.ensures.ok c.args.values i.read i.stands) in
     record {
@@ -73,4 +73,4 @@ pub returns-in-Stuck-clause-only : goal.returns-in-Stuck-clause-only
 returns-in-Stuck-clause-only g c =
     let t = g.T.Table in let m = g.met.T.Table in
     one_outcome g.T.Kind.PartialEq.eq m.same t.end_kind t.entries t.grammar m.decided m.ends
-    (t.IsNext c.args.text.now) (m.one_next c.args.text.now) c.args.values (Stopped c.in-Stuck.at) (returns-in-Stuck-clause-ok g c)
+    (t.IsNext c.args.table.now c.args.text.now) (m.one_next c.args.table.now c.args.text.now) c.args.values (Stopped c.in-Stuck.at) (returns-in-Stuck-clause-ok g c)

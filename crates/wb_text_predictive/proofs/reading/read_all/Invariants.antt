@@ -8,7 +8,7 @@ abbrev pub invariant-read : goal.invariant-read
 invariant-read g l = record {
   within : l.from ≤ length l.text;
   read : List (Placed g.row.T-Token.Denot);
-  spelled : Spells (g.T.Table.IsNext l.text) 0 read l.from;
+  spelled : Spells (g.T.Table.IsNext l.table l.text) 0 read l.from;
   stands : Stands g.T.Kind.PartialEq.eq g.T.Table.end_kind g.T.Table.entries g.T.Table.grammar l.fn.values read
       (reverse l.stack.items) l.made Any;
 }

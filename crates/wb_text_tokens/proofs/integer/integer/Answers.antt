@@ -5,28 +5,28 @@ use Rattle.wb_text_tokens.proofs.IntegerLemmas.{integer_longest, integer_none, s
 use Rattle.wb_text_tokens.proofs.integer.integer.Goals as goal
 
 pub returns-in_err-value : goal.returns-in_err-value
-returns-in_err-value c =
+returns-in_err-value c = λ dialect.
     let text = c.args.text.now in
-    rw c.from_residual.ensures (integer_none text true (drop 1 text)
+    rw c.from_residual.ensures (integer_none dialect text true (drop 1 text)
     (signed_text text c.requires.some c.if-text-eq45.true) c.requires.begins (rw take_rest at c.in_err-value.ensures))
 
 pub returns-in_err-value-2 : goal.returns-in_err-value-2
-returns-in_err-value-2 c =
+returns-in_err-value-2 c = λ dialect.
     let text = c.args.text.now in
-    rw c.from_residual-in_err-value-2.ensures (integer_none text false text
+    rw c.from_residual-in_err-value-2.ensures (integer_none dialect text false text
     (unsigned_text text c.if-text-eq45.false) c.requires.begins c.in_err-value-2.ensures)
 
 pub returns-in_ok-value : goal.returns-in_ok-value
-returns-in_ok-value c =
+returns-in_ok-value c = λ dialect.
     let text = c.args.text.now in
     let fits : SFits w64 c.in_ok-value.value = c.in_ok-value.ensures.3 in
-    rw to_z-of_z (integer_longest text true (drop 1 text)
+    rw to_z-of_z (integer_longest dialect text true (drop 1 text)
     (signed_text text c.requires.some c.if-text-eq45.true) c.requires.begins _ c.in_ok-value.count _
     (rw take_rest at c.in_ok-value.ensures) (omega arith))
 
 pub returns-in_ok-value-2 : goal.returns-in_ok-value-2
-returns-in_ok-value-2 c =
+returns-in_ok-value-2 c = λ dialect.
     let text = c.args.text.now in
     let fits : SFits w64 c.in_ok-value-2.value = c.in_ok-value-2.ensures.3 in
-    rw to_z-of_z (integer_longest text false text
+    rw to_z-of_z (integer_longest dialect text false text
     (unsigned_text text c.if-text-eq45.false) c.requires.begins _ c.in_ok-value-2.count _ c.in_ok-value-2.ensures (omega arith))

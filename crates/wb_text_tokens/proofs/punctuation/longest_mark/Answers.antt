@@ -5,8 +5,8 @@ use Rattle.wb_text_tokens.proofs.MarkLemmas.{mark_longest, mark_none}
 use Rattle.wb_text_tokens.proofs.punctuation.longest_mark.Goals as goal
 
 pub returns-in_err-mark : goal.returns-in_err-mark
-returns-in_err-mark c = rw c.from_residual.ensures (mark_none c.args.text.now c.requires.begins (sym c.mark.ensures ∙ c.in_err-mark.was))
+returns-in_err-mark c = λ dialect. rw c.from_residual.ensures (mark_none dialect c.args.text.now c.requires.begins (sym c.mark.ensures ∙ c.in_err-mark.was))
 
 pub returns : goal.returns
-returns c = subst (λ l. IsLongest c.args.text.now (t.Punctuation c.in_ok-mark.mark) (length l)) (sym c.text.ensures)
-    (mark_longest c.args.text.now c.in_ok-mark.mark c.requires.begins (sym c.mark.ensures ∙ c.in_ok-mark.was))
+returns c = λ dialect. subst (λ l. IsLongest dialect c.args.text.now (t.Punctuation c.in_ok-mark.mark) (length l)) (sym c.text.ensures)
+    (mark_longest dialect c.args.text.now c.in_ok-mark.mark c.requires.begins (sym c.mark.ensures ∙ c.in_ok-mark.was))

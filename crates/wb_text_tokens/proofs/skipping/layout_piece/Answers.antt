@@ -8,7 +8,7 @@ returns-then-is_blank-clause-piece c = IsLayoutPiece.blank (omega arith) (sym c.
 pub returns-then-begins_comment-clause-piece : goal.returns-then-begins_comment-clause-piece
 returns-then-begins_comment-clause-piece c =
     let two = c.begins_comment.ensures.0 c.if-begins_comment.true in
-    IsLayoutPiece.comment c.in-WithComments.is (record {
+    IsLayoutPiece.comment (sym c.has_comments.ensures ∙ c.if-has_comments.true) (record {
       first = two.0;
       second = two.1;
       ordered = c.line_end.ensures.ordered;

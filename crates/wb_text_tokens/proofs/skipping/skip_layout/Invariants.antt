@@ -6,7 +6,7 @@ abbrev pub invariant-loop-behind : goal.invariant-loop-behind
 invariant-loop-behind l = record {
   ordered : l.from ≤ l.at;
   within : l.at ≤ length l.text;
-  skips : (place : ℕ) → SkipsLayout l.layout l.text l.at place → SkipsLayout l.layout l.text l.from place;
+  skips : (place : ℕ) → SkipsLayout l.dialect l.text l.at place → SkipsLayout l.dialect l.text l.from place;
 }
 
 abbrev pub decreases-loop-behind : goal.decreases-loop-behind
