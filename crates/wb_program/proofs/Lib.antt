@@ -11,11 +11,14 @@ pub mod FileLemmas
 mod HostLemmas
 mod Known
 pub mod MakesLemmas
+pub mod OneCertificate
 pub mod OneCheck
 pub mod OneHostChecks
 pub mod OneReport
 pub mod OneSeveralReport
+mod PairLemmas
 mod Pieces
+mod RecheckLemmas
 mod ReportLaws
 mod SeveralLemmas
 mod ShowLemmas

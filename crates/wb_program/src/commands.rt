@@ -16,6 +16,7 @@ mod check;
 mod compose;
 mod generate;
 pub(crate) mod reading;
+mod recheck;
 mod run;
 mod show;
 pub(crate) mod tree;
@@ -29,6 +30,7 @@ use certify::answer_certify;
 use check::answer_check;
 use compose::answer_compose;
 use generate::answer_generate;
+use recheck::answer_recheck;
 use run::answer_run;
 use show::answer_show;
 use std::alloc::Global;
@@ -70,6 +72,11 @@ pub(crate) fn answer_to<S: Shelf, M: Meaning>(
         Command::Certificate { host, extensions } => {
             answer_certificate(alloc, shelf, host, extensions, operations)
         }
+        Command::Recheck {
+            host,
+            certificate,
+            extension,
+        } => answer_recheck(alloc, shelf, host, certificate, extension, operations),
         on_text => answer_on_text(alloc, shelf, on_text, operations),
     }
 }

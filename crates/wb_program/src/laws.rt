@@ -51,4 +51,6 @@ fn laws_below()
     one_value_law();
     wb_compose_texts::generated_laws::one_text_law();
     wb_recheck_files::laws::one_text_law();
+    wb_recheck_contents::laws::one_host_law();
+    wb_recheck_contents::laws::one_extension_law();
 }

@@ -29,5 +29,6 @@ mod AlikeLemmas
 mod HostCodes
 mod ExtensionCodes
 mod RefusedFiles
+mod RecheckCodes
 mod CodeLemmas
 mod CodeTexts

@@ -11,6 +11,7 @@ use Rattle.wb_program.specs.SeveralChecks.{AreEach, names_of}
 use Rattle.wb_program.specs.Texts.{IsText, IsTooLongText}
 use Rattle.wb_program.specs.declared.status.Status.{Status}
 use Rattle.wb_program.specs.declared.status.Status.TheVariants.{Done, DuplicateExtension, NotCertified, SpecRefused, TextTooLong}
+use Rattle.wb_program.specs.declared.status.Status.TheVariants.{CertificateRefused}
 use Rattle.wb_program.specs.declared.status.Status.TheVariants.{TooManyExtensions, WrongHost}
 use Rattle.wb_program.specs.Commands.Generate.{GenerateChecks, GenerateReport}
 use Rattle.wb_program.specs.Commands.Run.{RunChecks, RunReport}
@@ -41,13 +42,14 @@ abbrev pub ReadingChecks : List OperationSignature → Option Files → (text : 
 ReadingChecks operations known file host extensions =
     Check TextTooLong (IsTooLongText known file) (IsText known file) (λ (text : List ℕ). TextReadingReport operations host extensions text)
 
--- a status that says that a host or an extension is refused, or that there are too many extensions: 3, 4, 14, 15 or 16
+-- a status that says that a host, an extension or a certificate is refused, or that there are too many extensions: 3, 4, 14, 15, 16 or 20
 abbrev pub IsRefusalStatus : Status → Type 0
 IsRefusalStatus SpecRefused = Unit {0}
 IsRefusalStatus NotCertified = Unit {0}
 IsRefusalStatus TooManyExtensions = Unit {0}
 IsRefusalStatus DuplicateExtension = Unit {0}
 IsRefusalStatus WrongHost = Unit {0}
+IsRefusalStatus CertificateRefused = Unit {0}
 IsRefusalStatus other = ⊥
 
 -- the whole report is its rest, and has no status of a refusal

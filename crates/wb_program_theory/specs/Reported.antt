@@ -1,5 +1,5 @@
 -- That words have a report which ask for a command of certified files.
-use Rattle.std.specs.Prelude.{◌≡◌, ℕ, Some, List}
+use Rattle.std.specs.Prelude.{◌≡◌, ℕ, Some, List, [], ◌∷◌}
 use Rattle.wb_certify_files.specs.HostContents.{IsHostText}
 use Rattle.wb_eval_theory.specs.Evaluable.{AreOperations}
 use Rattle.wb_operations.specs.Operations.{Operations}
@@ -8,6 +8,9 @@ use Rattle.wb_world.specs.Shelf.{Files}
 use Rattle.wb_program_words.specs.Asked.{Asked}
 use Rattle.wb_program_words.specs.Asked as a
 use Rattle.wb_program_words.specs.Words.{Asks}
+use Rattle.wb_recheck_contents.specs.Extensions.{IsRecheckedNamed}
+use Rattle.wb_recheck_contents.specs.Hosts.{IsRecheckedHost}
+use Rattle.wb_program.specs.CertificateChecks.{IsPair}
 use Rattle.wb_program.specs.Checks.{Report}
 use Rattle.wb_program.specs.Files.{KnownFile}
 use Rattle.wb_program.specs.Texts.{IsText}
@@ -71,6 +74,23 @@ abbrev pub HaveCertificateReport : Type 0
 HaveCertificateReport = (operations : Operations) (words : List (List ℕ)) (files : Files) (host : List ℕ) (extensions : List (List ℕ))
     (r : ResolvedParts) (values : List ResolvedParts) → Asks words (a.certificate host extensions)
     → AreCertified operations.signatures files host extensions r values → ¬ ¬ HaveReport operations words files IsPrintStatus
+
+-- where they ask for `recheck` of a host alone, the file holds one that is certified by the text that its certificate has, which isn't too
+-- long, they have one with status 0
+abbrev pub HaveRecheckReport : Type 0
+HaveRecheckReport = (operations : Operations) (words : List (List ℕ)) (files : Files) (host certificate : List ℕ) (r : ResolvedParts)
+    → Asks words (a.recheck host certificate [])
+    → IsPair (Some files) host certificate (λ contents text. IsRecheckedHost operations.signatures contents text r)
+    → HaveReport operations words files IsDone
+
+-- and so where they ask for that of an extension too, which is certified with the host so
+abbrev pub HaveRecheckedExtensionReport : Type 0
+HaveRecheckedExtensionReport = (operations : Operations) (words : List (List ℕ)) (files : Files)
+    (host certificate extension other : List ℕ) (r : ResolvedParts) (name : List ℕ)
+    → Asks words (a.recheck host certificate (extension ∷ other ∷ []))
+    → IsPair (Some files) host certificate (λ contents text. IsRecheckedHost operations.signatures contents text r)
+    → IsPair (Some files) extension other (λ contents text. IsRecheckedNamed r operations.signatures contents text name)
+    → HaveReport operations words files IsDone
 
 -- where they ask for `reading`, files are certified, and the text's file is known and isn't too long, they have one with status 0: that
 -- they have none can't be

@@ -64,12 +64,14 @@ pub fn tree_report_law()
 
 /// Where words ask for `check` and the file holds a certified host, they have a report with status 0; and so have words that ask for
 /// `certify` or `compose` where files are certified, and for `certificate` with status 0 or 13. Of `compose` and `certificate` it is said
-/// that they have none can't be.
+/// that they have none can't be. Words that ask for `recheck` have one with status 0 where each file is certified by its certificate.
 pub fn line_report_law()
     ensures check { reported.HaveCheckReport }
     ensures certify { reported.HaveCertifyReport }
     ensures compose { reported.HaveComposeReport }
     ensures certificate { reported.HaveCertificateReport }
+    ensures recheck { reported.HaveRecheckReport }
+    ensures rechecked_extension { reported.HaveRecheckedExtensionReport }
 {
     one_extension_answer_law();
     header_law();

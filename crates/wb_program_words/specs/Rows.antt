@@ -13,7 +13,7 @@ use Rattle.wb_program_words.specs.declared.rows.OptionName.{OptionName}
 use Rattle.wb_program_words.specs.declared.rows.OptionName.TheVariants.{Text, Attribute, Steps, Number, Size}
 use Rattle.wb_program_words.specs.declared.rows.Verb.{Verb}
 use Rattle.wb_program_words.specs.declared.rows.Verb.TheVariants.{Value, Show, Check, Certify, Compose, Tree, Run, Generate}
-use Rattle.wb_program_words.specs.declared.rows.Verb.TheVariants.{Certificate, Reading}
+use Rattle.wb_program_words.specs.declared.rows.Verb.TheVariants.{Certificate, Recheck, Reading}
 
 -- how an option is named
 abbrev pub name_of : OptionName → List ℕ
@@ -57,6 +57,8 @@ row_of Run = record { verb = codes "run"; options = Text ∷ Attribute ∷ Steps
 row_of Generate = record { verb = codes "generate"; options = Number ∷ Size ∷ Attribute ∷ []; words = From 1 }
 -- certificate HOST [EXT]
 row_of Certificate = record { verb = codes "certificate"; options = []; words = Either 1 2 }
+-- recheck HOST CERT [EXT CERT]
+row_of Recheck = record { verb = codes "recheck"; options = []; words = Either 2 4 }
 -- reading --text FILE HOST EXT..
 row_of Reading = record { verb = codes "reading"; options = Text ∷ []; words = From 1 }
 
@@ -83,4 +85,5 @@ asked_of Tree values words = a.tree (text_at values 0) (word_at words 0) (drop 1
 asked_of Run values words = a.run (text_at values 0) (text_at values 1) (number_at values 2) (word_at words 0) (drop 1 words)
 asked_of Generate values words = a.generate (number_at values 0) (number_at values 1) (text_at values 2) (word_at words 0) (drop 1 words)
 asked_of Certificate values words = a.certificate (word_at words 0) (drop 1 words)
+asked_of Recheck values words = a.recheck (word_at words 0) (word_at words 1) (drop 1 (drop 1 words))
 asked_of Reading values words = a.reading (text_at values 0) (word_at words 0) (drop 1 words)

@@ -54,6 +54,12 @@ pub enum Command<'a> {
         host: &'a str,
         extensions: &'a [String],
     },
+    /// `recheck HOST CERT [EXT CERT]`; an extension and its certificate, or neither
+    Recheck {
+        host: &'a str,
+        certificate: &'a str,
+        extension: &'a [String],
+    },
     /// `reading --text FILE HOST EXT..`
     Reading {
         text: &'a str,

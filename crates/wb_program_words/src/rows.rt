@@ -17,6 +17,7 @@ pub enum Verb {
     Run,
     Generate,
     Certificate,
+    Recheck,
     Reading,
 }
 
@@ -121,6 +122,10 @@ pub(crate) fn row_of(verb: Verb) -> Row
             options: &NONE,
             words: Count::Either(1, 2),
         },
+        Verb::Recheck => Row {
+            options: &NONE,
+            words: Count::Either(2, 4),
+        },
         Verb::Reading => Row {
             options: &OF_TEXT,
             words: Count::From(1),
@@ -143,6 +148,7 @@ pub(crate) fn verb_of(word: &str) -> Option<Verb>
         "run" => Some(Verb::Run),
         "generate" => Some(Verb::Generate),
         "certificate" => Some(Verb::Certificate),
+        "recheck" => Some(Verb::Recheck),
         "reading" => Some(Verb::Reading),
         _ => None,
     }

@@ -36,6 +36,8 @@ mod reading;
 #[cfg(test)]
 mod reading_texts;
 #[cfg(test)]
+mod recheck;
+#[cfg(test)]
 mod run;
 #[cfg(test)]
 mod runs;

@@ -9,6 +9,7 @@ use Rattle.wb_compose_texts.specs.Roots.{HasOneRootAttribute}
 use Rattle.wb_compose_texts.specs.Values.{HasOneTextValue}
 use Rattle.wb_compose_texts.specs.Withdrawn.{HasOneWithdrawn}
 use Rattle.wb_operations.specs.Operations.{Operations, OperationSignature}
+use Rattle.wb_recheck_contents.specs.OneAnswer.{HaveOneExtensionAnswer as HaveOneRecheckedExtension, HaveOneHostAnswer}
 use Rattle.wb_recheck_files.specs.CertificateTexts.{IsExtensionCertificate, IsHostCertificate}
 use Rattle.wb_syntax_resolved.specs.declared.resolved.ResolvedParts.{ResolvedParts}
 use Rattle.wb_program.specs.SeveralChecks.{names_of}
@@ -40,5 +41,8 @@ pub record LawsBelow : Type 0 where
       → text ≡ other
   pub extension_certificates : (extension : ResolvedParts) (text other : List ℕ) → IsExtensionCertificate extension text
       → IsExtensionCertificate extension other → text ≡ other
+  pub rechecked_hosts : (operations : List OperationSignature) (contents text : List ℕ) → HaveOneHostAnswer operations contents text
+  pub rechecked_extensions : (host : ResolvedParts) (operations : List OperationSignature) (contents text : List ℕ)
+      → HaveOneRecheckedExtension host operations contents text
   pub made : (host : ResolvedParts) (operations : List OperationSignature) (extensions : List ResolvedParts) (number size : ℕ)
       → HasOneText host operations extensions number size
