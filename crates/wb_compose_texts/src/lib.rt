@@ -37,7 +37,7 @@ pub use signatures::united_signatures;
 pub use text_answer::TextAnswer;
 pub use text_reading::TextReading;
 pub use text_values::text_value;
-pub use trees::{united_name, united_stop, united_text_answer};
+pub use trees::{united_name, united_parsed_answer, united_stop, united_text_answer};
 pub use value::TextValue;
 pub use wb_compose::{Composed, compose, composed_attributes};
 pub use withdrawn::withdrawn_names;

@@ -14,6 +14,7 @@ mod certificate;
 mod certify;
 mod check;
 mod compose;
+mod edit;
 mod generate;
 pub(crate) mod reading;
 mod run;
@@ -28,6 +29,7 @@ use certificate::answer_certificate;
 use certify::answer_certify;
 use check::answer_check;
 use compose::answer_compose;
+use edit::answer_edit;
 use generate::answer_generate;
 use run::answer_run;
 use show::answer_show;
@@ -117,6 +119,12 @@ fn answer_on_text<S: Shelf, M: Meaning>(
         } => answer_generate(
             alloc, shelf, number, size, attribute, host, extensions, operations,
         ),
+        Command::Edit {
+            text,
+            edits,
+            host,
+            extensions,
+        } => answer_edit(alloc, shelf, text, edits, host, extensions, operations),
         Command::Reading {
             text,
             host,

@@ -16,6 +16,7 @@ use Rattle.wb_program.specs.Commands.Generate.{GenerateChecks, GenerateReport}
 use Rattle.wb_program.specs.Commands.Run.{RunChecks, RunReport}
 use Rattle.wb_program.specs.Commands.Certificate.{CertificateChecks, CertificateReport}
 use Rattle.wb_program.specs.Commands.Compose.{ComposeReport, ComposedLines}
+use Rattle.wb_program.specs.Commands.Edit.{EditReport, EditsReport}
 use Rattle.wb_program.specs.Commands.Reading.{ReadingReport, TextReadingReport}
 use Rattle.wb_program.specs.Commands.Tree.{TextReport, TreeReport}
 
@@ -40,6 +41,12 @@ TreeChecks operations known file host extensions =
 abbrev pub ReadingChecks : List OperationSignature → Option Files → (text : List ℕ) → ResolvedParts → List ResolvedParts → Report
 ReadingChecks operations known file host extensions =
     Check TextTooLong (IsTooLongText known file) (IsText known file) (λ (text : List ℕ). TextReadingReport operations host extensions text)
+
+-- what `edit` reports of them: that the text is too long, or what becomes of it by the edits of a file in their language
+abbrev pub EditChecks : List OperationSignature → Option Files → (text edits : List ℕ) → ResolvedParts → List ResolvedParts → Report
+EditChecks operations known file edits host extensions =
+    Check TextTooLong (IsTooLongText known file) (IsText known file)
+    (λ (text : List ℕ). EditsReport operations known edits host extensions text)
 
 -- a status that says that a host or an extension is refused, or that there are too many extensions: 3, 4, 14, 15 or 16
 abbrev pub IsRefusalStatus : Status → Type 0
@@ -70,6 +77,9 @@ pub record HaveNoRefusal (operations : Operations) (files : Files) (host : List 
       → IsItsRest (GenerateReport operations (Some files) number size name host extensions)
       (GenerateChecks operations number size name r values)
   pub certificate : IsItsRest (CertificateReport operations.signatures (Some files) host extensions) (CertificateChecks r values)
+  pub edit : (text edits : List ℕ)
+      → IsItsRest (EditReport operations.signatures (Some files) text edits host extensions)
+      (EditChecks operations.signatures (Some files) text edits r values)
   pub reading : (text : List ℕ)
       → IsItsRest (ReadingReport operations.signatures (Some files) text host extensions)
       (ReadingChecks operations.signatures (Some files) text r values)

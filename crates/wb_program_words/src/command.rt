@@ -54,6 +54,13 @@ pub enum Command<'a> {
         host: &'a str,
         extensions: &'a [String],
     },
+    /// `edit --text FILE --edits FILE HOST EXT..`
+    Edit {
+        text: &'a str,
+        edits: &'a str,
+        host: &'a str,
+        extensions: &'a [String],
+    },
     /// `reading --text FILE HOST EXT..`
     Reading {
         text: &'a str,

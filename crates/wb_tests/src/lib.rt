@@ -14,6 +14,8 @@ mod closed;
 #[cfg(test)]
 mod compose;
 #[cfg(test)]
+mod edit;
+#[cfg(test)]
 mod failing_runs;
 #[cfg(test)]
 mod generate;

@@ -49,7 +49,12 @@ fn is_answer(
 }
 
 // Whether the session's answer is that of a parse of its text.
-fn agrees(alloc: Global, language: &Language, signatures: &Signatures, session: &Session) -> bool {
+pub(crate) fn agrees(
+    alloc: Global,
+    language: &Language,
+    signatures: &Signatures,
+    session: &Session,
+) -> bool {
     let mut store = TreeStore::new(alloc);
     match parse(alloc, language, session.text(), &mut store) {
         Ok(parsed) => is_answer(alloc, signatures, session, parsed, &store),

@@ -6,6 +6,12 @@ returns c = record {
   headers = c.header_law.ensures;
   withdrawn = c.withdrawn_law.ensures;
   texts = c.one_answer_law.ensures;
+  lists = λ contents. record {
+    one = c.list_law.ensures.one_list contents;
+    no_fault = c.list_law.ensures.no_fault contents;
+    one_fault = c.list_law.ensures.one_fault contents;
+  };
+  edits = c.one_edits_law.ensures;
   readings = c.one_reading_law.ensures;
   attributes = c.one_root_law.ensures;
   values = c.one_value_law.ensures;
