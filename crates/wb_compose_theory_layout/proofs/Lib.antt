@@ -1,0 +1,4 @@
+pub mod HolderLemmas
+pub mod HolderNumbers
+pub mod TwinLemmas
+pub mod HeldLemmas
