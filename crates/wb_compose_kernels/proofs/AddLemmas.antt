@@ -1,6 +1,6 @@
 -- Lists to which what has a property is added.
-use Rattle.std.proofs.Common.{◌+◌, ◌<◌, ◌∙◌, ◌∷◌, ◌++◌, ◌≡◌, ◌⊎◌, List, [], ap, arith, inl, inr, length, refl, subst, sym, ℕ}
-use Rattle.std.specs.Prelude.{◌↔◌, Contains}
+use Rattle.std.proofs.Common.{◌+◌, ◌<◌, ◌∷◌, ◌++◌, ◌≡◌, ◌⊎◌, List, [], arith, inl, inr, subst, sym, ℕ}
+use Rattle.std.specs.Prelude.{Contains}
 use Rattle.std.proofs.lemmas.Bool.{cases_lt}
 use Rattle.wb_lemmas.proofs.Members.{contains_push, push_contains, push_contains_last}
 use Rattle.wb_compose_kernels.specs.Inner.Moves.{Adds}

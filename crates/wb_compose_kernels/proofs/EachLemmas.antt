@@ -1,20 +1,19 @@
 -- One extension more, by what was found of it.
-use Rattle.std.proofs.Common.{◌+◌, ◌<◌, ◌∷◌, ◌++◌, ◌≡◌, ◌⊎◌, List, [], ap, arith, inl, inr, length, sym, subst, ℕ, Some}
+use Rattle.std.proofs.Common.{◌+◌, ◌<◌, ◌∷◌, ◌++◌, ◌≡◌, List, [], ap, arith, inl, inr, length, subst, ℕ, Some}
 use Rattle.std.specs.Prelude.{slice_get}
-use Rattle.std.proofs.lemmas.Bool.{cases_eq, cases_lt}
+use Rattle.std.proofs.lemmas.Bool.{cases_lt}
 use Rattle.wb_lemmas.proofs.Places.{at_once, at_within}
 use Rattle.wb_grammar_theory.specs.declared.item.Item.{Item}
-use Rattle.wb_items.specs.Kernels.{count_of}
 use Rattle.wb_compose_theory.specs.Homes.{Home, of, of_host}
 use Rattle.wb_compose_kernels.proofs.LoopLemmas.{before_more, blocks_more, parts_more}
-use Rattle.wb_compose_kernels.proofs.PartLemmas.{HasPart, has_part, new_past, part_less}
+use Rattle.wb_compose_kernels.proofs.PartLemmas.{has_part, new_past, part_less}
 use Rattle.wb_determinism_kernels.specs.declared.numbers.Numbers.{Numbers}
 use Rattle.wb_compose_kernels.specs.declared.blocks.Blocks.{Blocks}
 use Rattle.wb_compose_kernels.specs.declared.part_blocks.Before.{Before}
 use Rattle.wb_compose_kernels.specs.declared.splice.Part.{Part}
 use Rattle.wb_compose_kernels.specs.declared.splice.Splice.{Splice}
-use Rattle.wb_compose_kernels.specs.Lent.{AreSpliceable, new_count_at, new_count_in}
-use Rattle.wb_compose_kernels.specs.Inner.Blocks.{AreBefore, AreBeforeIn, AreBlocksUpTo, IsBlocksOf, IsSizeOf, IsSum, IsWith}
+use Rattle.wb_compose_kernels.specs.Lent.{AreSpliceable, new_count_at}
+use Rattle.wb_compose_kernels.specs.Inner.Blocks.{AreBeforeIn, AreBlocksUpTo, IsSizeOf, IsSum, IsWith}
 use Rattle.wb_compose_kernels.specs.Inner.Given.{IsGiven}
 use Rattle.wb_compose_kernels.specs.Inner.Lists.{IsDone, IsTakenAt, NewUpTo, PartsUpTo}
 

@@ -1,6 +1,6 @@
 -- Whether some item is of a production of a stretch.
 use Rattle.std.proofs.Common.{◌≡◌, ◌<◌, ◌+◌, ◌∙◌, ◌∷◌, [], List, ap, inl, inr, length, arith, subst, suc, sym, refl, ℕ, Some}
-use Rattle.std.specs.Prelude.{◌↔◌, Bool, IsTrue, false, true, slice_get}
+use Rattle.std.specs.Prelude.{◌↔◌, IsTrue, false, true, slice_get}
 use Rattle.std.proofs.lemmas.Bool.{cases_lt, true≢false}
 use Rattle.std.proofs.lemmas.Option.{same_Some}
 use Rattle.wb_lemmas.proofs.Members.{contains_at, place_in}

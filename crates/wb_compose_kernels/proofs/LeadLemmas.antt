@@ -1,12 +1,12 @@
 -- Where the kernels of certified grammars lead, in the union, in an order or not.
 use Rattle.std.proofs.Common.{◌++◌, ◌+◌, ◌-◌, ◌<◌, ◌∙◌, ◌∷◌, ◌≡◌, List, [], ap}
-use Rattle.std.proofs.Common.{arith, drop, inl, inr, length, refl, slice_get, subst, sym, ℕ}
+use Rattle.std.proofs.Common.{arith, drop, inl, inr, refl, subst, sym, ℕ}
 use Rattle.wb_lemmas.proofs.Places.{at_within}
 use Rattle.wb_base.specs.declared.symbol.Symbol.{Symbol}
 use Rattle.wb_base.specs.declared.symbol.Symbol.TheVariants.{Nonterminal, Terminal}
 use Rattle.wb_base.specs.Grammar.{GrammarView}
 use Rattle.wb_grammar_theory.specs.declared.item.Item.{Item}
-use Rattle.wb_grammar_theory.specs.Items.{IsKernelItem, IsViablePrefix, advance, initial_item}
+use Rattle.wb_grammar_theory.specs.Items.{advance}
 use Rattle.wb_recheck_theory.specs.KernelLists.{IsMoveBetween}
 use Rattle.wb_compose_theory.proofs.KernelLemmas.{Moved, advanced, chain, flip, moved_from}
 use Rattle.wb_compose_theory.proofs.MarkLemmas.{mark_opens}
@@ -17,8 +17,7 @@ use Rattle.wb_compose_theory.specs.Items.{IsKernelItemIn, IsValidItemIn, IsViabl
 use Rattle.wb_compose_theory.specs.Items.{start_item_in}
 use Rattle.wb_compose_theory.specs.Marks.{IsMarked}
 use Rattle.wb_compose_theory.specs.Renamings.{renamed, renamed_item}
-use Rattle.wb_compose_theory.specs.Worlds.{Part, World, both, hole, on, plus, top, union}
-use Rattle.wb_compose_theory_grammar.proofs.FactLemmas.{W}
+use Rattle.wb_compose_theory.specs.Worlds.{Part, World, hole, on, plus, top, union}
 use Rattle.wb_compose_theory_grammar.proofs.SymbolLemmas.{hole_terminal}
 use Rattle.wb_compose_theory_grammar.specs.Certificates.{AreCertified}
 use Rattle.wb_compose_theory_grammar.specs.Pieces.{Piece}
@@ -30,7 +29,7 @@ use Rattle.wb_compose_theory_kernels.proofs.NumberLemmas.{prefix_at, prefix_in, 
 use Rattle.wb_compose_theory_kernels.proofs.PrefixNumbers.{prefix_number, viable_back, viable_there}
 use Rattle.wb_compose_theory_kernels.proofs.WorldMoves.{AtHole, at_hole, before, kept_same, some_kernel}
 use Rattle.wb_compose_theory_kernels.specs.Kernels.{AreKernelNumbers, HasNoHole, IsFrom, KernelNumbers, LeadsAt}
-use Rattle.wb_compose_theory_kernels.specs.Parts.{IsHole, cut_at, grammar_at, into_union}
+use Rattle.wb_compose_theory_kernels.specs.Parts.{IsHole, cut_at, into_union}
 
 -- where no kernel item has a symbol after its dot, no item has
 dead_end : {w : World} {part : Part} {prefix : List Symbol} →

@@ -10,3 +10,14 @@ pub mod NextLemmas
 pub mod UnionLemmas
 pub mod EachLemmas
 pub mod FoundLemmas
+pub mod StartLemmas
+pub mod MemberLemmas
+pub mod GainLemmas
+pub mod BecomeLemmas
+pub mod OpenedLemmas
+pub mod UnionItems
+pub mod ListedLemmas
+pub mod HomeLooks
+pub mod LookLemmas
+pub mod FillingLemmas
+pub mod SlotLemmas

@@ -1,12 +1,12 @@
 -- The kernels of a union that are listed one after another.
-use Rattle.std.proofs.Common.{◌+◌, ◌-◌, ◌<◌, ◌≤◌, ◌∙◌, ◌∷◌, ◌++◌, ◌≡◌, ◌⊎◌, List}
+use Rattle.std.proofs.Common.{◌+◌, ◌<◌, ◌≤◌, ◌∙◌, ◌∷◌, ◌++◌, ◌≡◌, ◌⊎◌, List}
 use Rattle.std.proofs.Common.{[], ap, arith, inl, inr, length, length-append, map, refl, subst}
 use Rattle.std.proofs.Common.{sym, ℕ, zero, suc, Some}
 use Rattle.std.specs.Prelude.{◌↔◌, Contains, slice_get}
 use Rattle.std.proofs.lemmas.Bool.{cases_lt}
 use Rattle.std.proofs.lemmas.Option.{slice_get_within}
-use Rattle.wb_lemmas.proofs.Members.{contains_at, contains_cases, contains_first, contains_later, place_of}
-use Rattle.wb_lemmas.proofs.Places.{at_once, at_push, at_within, push_keeps, push_last}
+use Rattle.wb_lemmas.proofs.Members.{contains_cases, contains_first, contains_later}
+use Rattle.wb_lemmas.proofs.Places.{at_once, at_push, push_keeps, push_last}
 use Rattle.wb_base.specs.declared.symbol.Symbol.{Symbol}
 use Rattle.wb_base.specs.Grammar.{GrammarView}
 use Rattle.wb_grammar_theory.specs.declared.item.Item.{Item}
@@ -14,24 +14,24 @@ use Rattle.wb_grammar_theory.specs.Items.{IsKernelItem}
 use Rattle.wb_grammar_theory.specs.States.{IsNext}
 use Rattle.wb_items.specs.Kernels.{AreInOrder, ListsKernel, count_of, prefix_of}
 use Rattle.wb_items.specs.Table.{SameItems}
-use Rattle.wb_recheck_theory.specs.KernelLists.{IsKernelOf, IsMoveBetween}
+use Rattle.wb_recheck_theory.specs.KernelLists.{IsKernelOf}
 use Rattle.wb_compose_theory.specs.Homes.{Home, IsListed, of, of_host}
 use Rattle.wb_compose_theory.specs.Renamings.{renamed, renamed_item}
 use Rattle.wb_compose_theory_grammar.specs.UnitedWorlds.{united}
 use Rattle.wb_compose_theory_kernels.proofs.NameLemmas.{fits}
 use Rattle.wb_compose_theory_kernels.proofs.NumberLemmas.{taken_no_hole}
 use Rattle.wb_compose_theory_kernels.proofs.TakenLemmas.{taken_once}
-use Rattle.wb_compose_theory_kernels.specs.Kernels.{AreKernelNumbers, HasNoHole, IsFrom, IsItemFrom, IsTaken, LeadsAt}
+use Rattle.wb_compose_theory_kernels.specs.Kernels.{AreKernelNumbers, LeadsAt}
 use Rattle.wb_compose_theory_kernels.specs.Parts.{grammar_at, into_union}
 use Rattle.wb_compose_theory_kernels.specs.Taken.{AreOneAt, AreTakenOnce}
 use Rattle.wb_compose_kernels.proofs.LeadLemmas.{free_before, from_host, host_no_hole, move_between, no_hole_before}
 use Rattle.wb_compose_kernels.proofs.OrderLemmas.{items_rise, same_in_order}
-use Rattle.wb_compose_kernels.proofs.PartLemmas.{HasPart, IsLedFrom, has_part, kernel_numbers, new_kernel, new_led, new_past, new_taken}
+use Rattle.wb_compose_kernels.proofs.PartLemmas.{HasPart, IsLedFrom, kernel_numbers, new_kernel, new_led, new_past, new_taken}
 use Rattle.wb_compose_kernels.proofs.PartLemmas.{zero_taken}
 use Rattle.wb_compose_kernels.specs.declared.blocks.Blocks.{Blocks}
 use Rattle.wb_compose_kernels.specs.declared.splice.Splice.{Splice}
 use Rattle.wb_compose_kernels.specs.Lent.{AreSpliceable, new_count_at, numbers_in, prefix_at}
-use Rattle.wb_compose_kernels.specs.Inner.Blocks.{HasHoleItem, HasOwnBy, IsHoleBy, blocks_at, names_by}
+use Rattle.wb_compose_kernels.specs.Inner.Blocks.{HasOwnBy, IsHoleBy, blocks_at, names_by}
 use Rattle.wb_compose_kernels.specs.Inner.Given.{IsGiven}
 use Rattle.wb_compose_kernels.specs.Inner.Lists.{AreSoFar, HasNoHoleAt, HasNoneLike, HostNext}
 use Rattle.wb_compose_kernels.specs.Inner.Lists.{IsDone, IsFromAt, IsHostDone, IsItemAt, IsLedTo}

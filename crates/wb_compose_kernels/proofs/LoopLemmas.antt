@@ -3,7 +3,6 @@ use Rattle.std.proofs.Common.{◌+◌, ◌-◌, ◌<◌, ◌∙◌, ◌∷◌, �
 use Rattle.std.proofs.Common.{ap, arith, inl, inr, length, length-append, map, refl, subst, sym, ℕ}
 use Rattle.std.proofs.Common.{zero, suc, Some}
 use Rattle.std.specs.Prelude.{slice_get}
-use Rattle.std.proofs.lemmas.Bool.{cases_lt}
 use Rattle.std.proofs.lemmas.Option.{same_Some, slice_get-map}
 use Rattle.std.specs.Option.{option_map}
 use Rattle.wb_lemmas.proofs.Places.{at_push, nothing_at}
@@ -15,9 +14,8 @@ use Rattle.wb_compose_theory_grammar.proofs.FactLemmas.{united_len}
 use Rattle.wb_compose_theory_grammar.specs.Pieces.{Piece}
 use Rattle.wb_compose_theory_grammar.specs.Places.{count_before, total_of}
 use Rattle.wb_compose_theory_grammar.specs.Unions.{added_nonterminals, added_productions, added_terminals}
-use Rattle.wb_compose_theory_grammar.specs.UnitedWorlds.{nonterminal_sizes, production_sizes, terminal_sizes, united}
+use Rattle.wb_compose_theory_grammar.specs.UnitedWorlds.{nonterminal_sizes, production_sizes, terminal_sizes}
 use Rattle.wb_compose_theory_kernels.proofs.HoleNames.{cut_is}
-use Rattle.wb_compose_theory_kernels.specs.Parts.{cut_at}
 use Rattle.wb_compose_kernels.proofs.ListLemmas.{from_keeps, keeps_none, keeps_then, so_far_stays}
 use Rattle.wb_compose_kernels.specs.declared.blocks.Blocks.{Blocks}
 use Rattle.wb_compose_kernels.specs.declared.part_blocks.Before.{Before}
@@ -26,7 +24,7 @@ use Rattle.wb_compose_kernels.specs.Lent.{AreSpliceable, new_count_at}
 use Rattle.wb_compose_kernels.specs.Inner.Blocks.{AreBefore, BlocksUpTo, IsSizeOf, IsSum, IsWith, block_of, blocks_at, with_counts}
 use Rattle.wb_compose_kernels.specs.Inner.Lists.{AreListed, AreSoFar, HasNoHoleAt, HostListed, HostNext}
 use Rattle.wb_compose_kernels.specs.Inner.Lists.{HostUpTo, IsDone, IsFromAt, IsHostDone, IsTakenAt}
-use Rattle.wb_compose_kernels.specs.Inner.Lists.{Keeps, NewListed, NewNext, NewUpTo, PartsListed, PartsUpTo}
+use Rattle.wb_compose_kernels.specs.Inner.Lists.{Keeps, NewListed, NewNext, NewUpTo, PartsUpTo}
 
 -- the number before the next
 count_next : (sizes : List ℕ) (k size : ℕ) → slice_get sizes k ≡ Some size → count_before sizes (k + 1) ≡ count_before sizes k + size

@@ -1,67 +1,53 @@
 -- The moves that are listed are those of the union.
-use Rattle.std.proofs.Common.{◌+◌, ◌-◌, ◌<◌, ◌≤◌, ◌∙◌, ◌∷◌, ◌++◌, ◌≡◌, ◌≢◌, ◌⊎◌, List}
+use Rattle.std.proofs.Common.{◌+◌, ◌<◌, ◌∙◌, ◌∷◌, ◌++◌, ◌≡◌, ◌⊎◌, List}
 use Rattle.std.proofs.Common.{[], ap, arith, inl, inr, length, refl, subst, sym, ℕ, Some, suc}
 use Rattle.std.proofs.Common.{length-append}
-use Rattle.std.specs.Prelude.{◌↔◌, Contains, ltb, cond, slice_get}
-use Rattle.std.proofs.lemmas.Bool.{cases_lt, le-ltb, lt-ltb}
+use Rattle.std.specs.Prelude.{Contains, slice_get}
 use Rattle.std.proofs.lemmas.Option.{slice_get_within}
-use Rattle.wb_lemmas.proofs.Members.{nothing_in, place_in}
-use Rattle.wb_lemmas.proofs.Places.{append_after, append_before, append_keeps, at_append, at_once, at_within}
+use Rattle.wb_lemmas.proofs.Members.{nothing_in}
+use Rattle.wb_lemmas.proofs.Places.{at_append, at_once, at_within}
 use Rattle.wb_base.specs.declared.symbol.Symbol.{Symbol}
 use Rattle.wb_base.specs.declared.symbol.Symbol.TheVariants.{Nonterminal, Terminal}
 use Rattle.wb_base.specs.Grammar.{GrammarView}
 use Rattle.wb_grammar_theory.proofs.LiveLemmas.{reduced_live}
 use Rattle.wb_grammar_theory.specs.declared.item.Item.{Item}
-use Rattle.wb_grammar_theory.specs.Items.{IsViablePrefix, SameKernel}
 use Rattle.wb_grammar_theory.specs.Shape.{IsLive}
 use Rattle.wb_grammar_theory.specs.States.{IsNext}
 use Rattle.wb_items.specs.declared.transitions.Move.{Move}
-use Rattle.wb_items.specs.Kernels.{KernelsView, LeadsTo, count_of, prefix_of}
+use Rattle.wb_items.specs.Kernels.{LeadsTo, count_of, prefix_of}
 use Rattle.wb_items.specs.Parts.{IsReached}
-use Rattle.wb_items.specs.Table.{Leads}
 use Rattle.wb_recheck_theory.specs.KernelLists.{AreKernelsAndMoves}
-use Rattle.wb_compose_theory.specs.Blocks.{lift}
 use Rattle.wb_compose_theory.specs.Homes.{Home, IsListed, of, of_host}
-use Rattle.wb_compose_theory.specs.Renamings.{Renaming, renamed}
-use Rattle.wb_compose_theory.specs.Worlds.{bare, on}
-use Rattle.wb_compose_theory.specs.Worlds.{Mark as WorldMark}
-use Rattle.wb_compose_theory_grammar.proofs.BridgeLemmas.{piece_ok}
-use Rattle.wb_compose_theory_grammar.proofs.PlaceLemmas.{lift_below, lift_past}
+use Rattle.wb_compose_theory.specs.Renamings.{renamed}
+use Rattle.wb_compose_theory.specs.Worlds.{on}
 use Rattle.wb_compose_theory_grammar.proofs.UnitedLemmas.{is_united}
-use Rattle.wb_compose_theory_grammar.specs.Numberings.{image_of, phi_of}
 use Rattle.wb_compose_theory_grammar.specs.Pieces.{Piece}
-use Rattle.wb_compose_theory_grammar.specs.Unions.{added_terminals}
 use Rattle.wb_compose_theory_grammar.specs.UnitedWorlds.{index_of, united}
 use Rattle.wb_compose_theory_kernels.proofs.HoleNames.{hole_at_is, marker_names}
 use Rattle.wb_compose_theory_kernels.proofs.MoveLemmas.{move_there}
-use Rattle.wb_compose_theory_kernels.proofs.NumberLemmas.{taken_below, taken_listed, taken_no_hole}
 use Rattle.wb_compose_theory_kernels.proofs.SplicedLemmas.{move_back, spliced}
-use Rattle.wb_compose_theory_kernels.proofs.TakenLemmas.{lead_to_bridges, markers_reached}
-use Rattle.wb_compose_theory_kernels.specs.Kernels.{AreKernelNumbers, AreSplicedKernels, AreSplicedMoves, HasNoHole, IsAfterMarker, IsFrom}
-use Rattle.wb_compose_theory_kernels.specs.Kernels.{IsSplicedMove, IsTaken, LeadsAt, by_marker, by_symbol}
-use Rattle.wb_compose_theory_kernels.specs.Parts.{IsHole, cut_at, grammar_at, hole_at, into_union}
-use Rattle.wb_determinism_kernels.proofs.PrefixLemmas.{beside_below, beside_is}
-use Rattle.wb_determinism_kernels.specs.declared.index.Step.{Step}
-use Rattle.wb_determinism_kernels.specs.declared.numbers.Numbers.{Numbers}
+use Rattle.wb_compose_theory_kernels.proofs.TakenLemmas.{lead_to_bridges}
+use Rattle.wb_compose_theory_kernels.specs.Kernels.{AreKernelNumbers, AreSplicedKernels, AreSplicedMoves, IsAfterMarker}
+use Rattle.wb_compose_theory_kernels.specs.Kernels.{IsSplicedMove, LeadsAt, by_marker, by_symbol}
+use Rattle.wb_compose_theory_kernels.specs.Parts.{IsHole, cut_at, hole_at, into_union}
 use Rattle.wb_determinism_kernels.specs.declared.starts.Start.{Start}
-use Rattle.wb_determinism_kernels.specs.NewKernels.{IsStart, prefix_beside, prefixes_beside}
-use Rattle.wb_determinism_kernels.specs.Numbers.{phi_by, up_by}
-use Rattle.wb_compose_kernels.proofs.LeadLemmas.{free_before, from_host, host_no_hole, no_hole_after, no_hole_before}
+use Rattle.wb_compose_kernels.proofs.LeadLemmas.{from_host, host_no_hole, no_hole_after, no_hole_before}
 use Rattle.wb_compose_kernels.proofs.ListLemmas.{one_list}
+use Rattle.wb_compose_kernels.proofs.StartLemmas.{StartFacts, marker_start, start_facts}
 use Rattle.wb_compose_kernels.proofs.PartLemmas.{HasPart, at_part, has_part, in_part, kernel_numbers}
-use Rattle.wb_compose_kernels.proofs.PartLemmas.{new_below, new_moves, new_past, new_taken, part_less}
+use Rattle.wb_compose_kernels.proofs.PartLemmas.{new_moves, new_past, new_taken, part_less}
 use Rattle.wb_compose_kernels.proofs.PartLemmas.{zero_taken}
 use Rattle.wb_compose_kernels.specs.declared.blocks.Blocks.{Blocks}
 use Rattle.wb_compose_kernels.specs.declared.marks.Mark.{Mark}
 use Rattle.wb_compose_kernels.specs.declared.splice.Part.{Part}
 use Rattle.wb_compose_kernels.specs.declared.splice.Splice.{Splice}
-use Rattle.wb_compose_kernels.specs.Lent.{AreSpliceable, count_at, count_in, new_count_at, new_count_in, numbers_in, prefix_in}
-use Rattle.wb_compose_kernels.specs.Inner.Blocks.{BlocksUpTo, IsHoleSymbol, blocks_at, names_by, number_by}
+use Rattle.wb_compose_kernels.specs.Lent.{AreSpliceable, count_at, count_in, new_count_at, new_count_in, numbers_in}
+use Rattle.wb_compose_kernels.specs.Inner.Blocks.{BlocksUpTo, IsHoleSymbol, blocks_at, number_by}
 use Rattle.wb_compose_kernels.specs.Inner.Given.{IsGiven}
 use Rattle.wb_compose_kernels.specs.Inner.Lists.{AreListed, HasNoHoleAt, IsDone, IsFromAt, IsTakenAt}
-use Rattle.wb_compose_kernels.specs.Inner.Moves.{Adds, AreMarksUpTo, AreMovesOf, IsAnyMove}
-use Rattle.wb_compose_kernels.specs.Inner.Moves.{IsHostMove, IsMarkAt, IsMarkOf, IsMoveOf, IsNewMove}
-use Rattle.wb_compose_kernels.specs.Inner.Moves.{IsPartMove, IsRowMove, marked, plain}
+use Rattle.wb_compose_kernels.specs.Inner.Moves.{AreMovesOf, IsAnyMove}
+use Rattle.wb_compose_kernels.specs.Inner.Moves.{IsHostMove, IsMarkAt, IsMoveOf}
+use Rattle.wb_compose_kernels.specs.Inner.Moves.{IsPartMove, marked, plain}
 
 -- nothing comes after
 append_none : (xs : List ℕ) → xs ++ [] ≡ xs
@@ -71,19 +57,6 @@ append_none (x ∷ xs) = ap (λ z. x ∷ z) (append_none xs)
 -- nonterminals of marks
 same_on : (a c : ℕ) → on a ≡ on c → a ≡ c
 same_on a c e = cc
-
--- where a symbol leads, by the prefixes of numbers
-next_of : (h : KernelsView) (k : GrammarView) (up : Renaming) (steps : List Step) (n : ℕ) (x : Symbol) (next : ℕ) →
-    Leads k (prefixes_beside up h steps) n x next → IsNext k (count_of h + length steps) (prefix_beside up h steps) n x next
-next_of h k up steps n x next l =
-    let here : prefix_beside up h steps n ≡ l.prefix = beside_is up h steps n l.prefix l.at in
-    let there : prefix_beside up h steps next ≡ l.other = beside_is up h steps next l.other l.to in (
-      beside_below up h steps n l.prefix l.at,
-      beside_below up h steps next l.other l.to,
-      subst (λ p. IsViablePrefix k (p ++ x ∷ [])) (sym here) l.viable,
-      subst (λ p. SameKernel k (prefix_beside up h steps next) (p ++ x ∷ [])) (sym here)
-          (subst (λ p. SameKernel k p (l.prefix ++ x ∷ [])) (sym there) l.same),
-    )
 
 module _ (s : Splice) (ok : AreSpliceable s) (given : IsGiven s) (b : Blocks) (blocks : List Blocks) (kernels : List (List Item))
     (host : List ℕ) (new : List (List ℕ)) (moves : List (ℕ × Symbol × ℕ)) (b_is : b ≡ blocks_at s ok of_host)
@@ -152,55 +125,6 @@ module _ (s : Splice) (ok : AreSpliceable s) (given : IsGiven s) (b : Blocks) (b
   hole_back home (Terminal t) h = h
   hole_back home (Nonterminal a) h = h
 
-  -- what a start of an extension says of its marker
-  record StartFacts (e : ℕ) (start : Start) : Type 0 where
-    piece : Piece
-    nonterminal : ℕ
-    at : slice_get ok.pieces e ≡ Some piece
-    on_a : piece.mark start.marker ≡ on nonterminal
-    hole : start.hole ≡ g.terminals + index_of ok.extensible nonterminal
-    leads : LeadsAt g ok.extensible ok.pieces (numbers_in s) (of e) start.before (Terminal start.marker) start.number
-
-  start_facts : (e : ℕ) (h : HasPart s ok e) (start : Start) → Contains h.part.new.now.starts start → StartFacts e start
-  start_facts e h start has = go (h.piece.mark start.marker) refl
-    where
-      is : IsStart h.part.beside.now.host.now h.part.beside.now.grammar.now h.part.beside.now.numbers.now h.part.beside.now.images.now
-          (prefixes_beside (up_by h.part.beside.now.numbers.now) h.part.beside.now.host.now h.part.new.now.index.steps) start
-      is = h.is.new.starts has.0 start (place_in h.part.new.now.starts start has)
-
-      leads : LeadsAt g ok.extensible ok.pieces (numbers_in s) (of e) start.before (Terminal start.marker) start.number
-      leads = at_part s ok (λ gr k o. IsNext gr (count_in o) (prefix_in o) start.before (Terminal start.marker) start.number) e h
-          (next_of h.part.beside.now.host.now h.part.beside.now.grammar.now (up_by h.part.beside.now.numbers.now)
-          h.part.new.now.index.steps start.before (Terminal start.marker) start.number is.leads)
-
-      image : (k : WorldMark) → h.piece.mark start.marker ≡ k →
-          phi_by h.part.beside.now.numbers.now h.part.beside.now.images.now start.marker ≡ image_of ok.extensible h.piece k start.marker
-      image k mark_is = h.is.images start.marker ∙ ap (λ z. image_of ok.extensible h.piece z start.marker) mark_is
-
-      hole_is : (a : ℕ) → h.piece.mark start.marker ≡ on a → start.hole ≡ g.terminals + index_of ok.extensible a
-      hole_is a mark_is =
-          let up_is : lift g.terminals (added_terminals g h.piece.grammar) start.hole ≡ h.piece.grammar.terminals + index_of
-          ok.extensible a =
-          sym (ap (λ (m : Numbers). (up_by m).terminal start.hole) h.is.numbers) ∙ (is.hole ∙ image (on a) mark_is) in
-          let more = (piece_ok g ok.extensible ok.pieces ok.certified.are_pieces e h.piece h.piece_at).extends.terminals in
-          elim (cases_lt start.hole g.terminals) [
-            | inl below ↦ (let l = lift_below g.terminals (added_terminals g h.piece.grammar) start.hole below in
-                absurd (omega (arith, l, up_is, below, more)))
-            | inr far ↦ (let l = lift_past g.terminals (added_terminals g h.piece.grammar) start.hole far in
-                omega (arith, l, up_is, far, more))
-          ]
-
-      go : (k : WorldMark) → h.piece.mark start.marker ≡ k → StartFacts e start
-      go bare mark_is = absurd (is.marker (image bare mark_is))
-      go (on a) mark_is = record {
-        piece = h.piece;
-        nonterminal = a;
-        at = h.piece_at;
-        on_a = mark_is;
-        hole = hole_is a mark_is;
-        leads = leads;
-      }
-
   -- a mark that is listed
   record MarkFacts (mark : Mark) : Type 0 where
     e : ℕ
@@ -216,7 +140,7 @@ module _ (s : Splice) (ok : AreSpliceable s) (given : IsGiven s) (b : Blocks) (b
       made_of e lt k =
           let less = part_less s ok e lt in
           let h = has_part s ok e less in
-          let f = start_facts e h k.start (subst (λ (p : Part). Contains p.new.now.starts k.start)
+          let f = start_facts s ok e h k.start (subst (λ (p : Part). Contains p.new.now.starts k.start)
           (at_once s.parts.now e k.part h.part k.at h.part_at) k.listed) in
           let told = marker_names g ok.extensible ok.pieces ok.certified.are_pieces e f.piece k.start.marker f.nonterminal f.at f.on_a in
           let nums = of_new_numbers e k.numbers k.numbers_at in
@@ -254,8 +178,7 @@ module _ (s : Splice) (ok : AreSpliceable s) (given : IsGiven s) (b : Blocks) (b
     is : IsMarkerMark mark e piece m a
 
   mark_complete : (e m a : ℕ) (piece : Piece) → slice_get ok.pieces e ≡ Some piece → piece.mark m ≡ on a → ListedMark e m a piece
-  mark_complete e m a piece at on_a =
-      go (markers_reached g ok.extensible ok.pieces ok.certified (numbers_in s) numbered e m a piece at on_a)
+  mark_complete e m a piece at on_a = (let k = marker_start s ok given.kernels e m a piece at on_a h in finish k.start k.has k.is)
     where
       less : e < length ok.pieces
       less = slice_get_within ok.pieces e piece at
@@ -263,23 +186,9 @@ module _ (s : Splice) (ok : AreSpliceable s) (given : IsGiven s) (b : Blocks) (b
       h : HasPart s ok e
       h = has_part s ok e less
 
-      piece_is : h.piece ≡ piece
-      piece_is = at_once ok.pieces e h.piece piece h.piece_at at
-
-      within : m < h.piece.grammar.terminals
-      within = ((piece_ok g ok.extensible ok.pieces ok.certified.are_pieces e h.piece h.piece_at).markers m a
-          (subst (λ (z : Piece). z.mark m ≡ on a) (sym piece_is) on_a)).within
-
-      moved : phi_by h.part.beside.now.numbers.now h.part.beside.now.images.now m ≢ m
-      moved same =
-          let e' : h.piece.grammar.terminals + index_of ok.extensible a ≡ m =
-          sym (h.is.images m ∙ ap (λ z. image_of ok.extensible h.piece z m) (subst (λ (z : Piece). z.mark m ≡ on a) (sym piece_is) on_a)) ∙
-          same in
-          omega (arith, e', within)
-
       finish : (start : Start) → Contains h.part.new.now.starts start → start.marker ≡ m → ListedMark e m a piece
       finish start has m_is =
-          let f = start_facts e h start has in
+          let f = start_facts s ok e h start has in
           let lt : e < length s.parts.now = (let l = ok.len in omega (arith, l, less)) in
           let (names, names_at) = at_within blocks e (let l = blocks_are.len in omega (arith, l, lt)) in
           let (numbers, numbers_at) = at_within new e (let l = listed.of_parts.len in omega (arith, l, lt)) in
@@ -304,7 +213,7 @@ module _ (s : Splice) (ok : AreSpliceable s) (given : IsGiven s) (b : Blocks) (b
           same_mark start mark f has_mark refl (ap (λ (z : Blocks). number_by z.terminals start.marker) (blocks_are.each e names names_at))
           m_is numbers nums u_at
         where
-          same_mark : (start : Start) (mark : Mark) (f : StartFacts e start) → Contains made.marks mark → mark.hole ≡ start.hole →
+          same_mark : (start : Start) (mark : Mark) (f : StartFacts s ok e start) → Contains made.marks mark → mark.hole ≡ start.hole →
               mark.terminal ≡ (into_union g ok.extensible ok.pieces (of e)).terminal start.marker → start.marker ≡ m → (numbers : List ℕ) →
               AreNumbersAt (of e) (host ++ numbers) → slice_get (host ++ numbers) start.number ≡ Some mark.number → ListedMark e m a piece
           same_mark start mark f has_mark hole_is terminal_is m_is numbers nums u_at =
@@ -335,14 +244,6 @@ module _ (s : Splice) (ok : AreSpliceable s) (given : IsGiven s) (b : Blocks) (b
                       });
                 };
               }
-
-      go : (k next : ℕ) × (k < count_of s.kernels.now) × LeadsAt g ok.extensible ok.pieces (numbers_in s) (of e) k (Terminal m) next →
-          ListedMark e m a piece
-      go (k, next, below, leads) =
-          let viable = in_part s ok (λ gr c o. IsViablePrefix gr (prefix_in o k ++ Terminal m ∷ [])) e h leads.2 in
-          let (start, has, is) = h.is.new.started m k
-          (subst (λ (c : KernelsView). k < count_of c) (sym h.is.host_kernels) below) moved viable in
-          finish start has is
 
   -- a move that is made is one of the union
   move_sound : (home : Home) (numbers : List ℕ) (nums : AreNumbersAt home numbers) (k u u' v : ℕ) (move : Move) (y : Symbol) →

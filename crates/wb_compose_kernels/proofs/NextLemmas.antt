@@ -1,7 +1,6 @@
 -- The next kernel that is listed, by what was found of it.
-use Rattle.std.proofs.Common.{◌+◌, ◌<◌, ◌∙◌, ◌∷◌, ◌++◌, ◌≡◌, ◌⊎◌, List, [], ap, arith, inl, inr, length, map, subst, sym, ℕ, Some}
-use Rattle.std.specs.Prelude.{◌↔◌, Bool, Contains, IsTrue, false, true, slice_get}
-use Rattle.std.proofs.lemmas.Bool.{true≢false}
+use Rattle.std.proofs.Common.{◌<◌, ◌∙◌, ◌∷◌, ◌++◌, ◌≡◌, ◌⊎◌, List, [], ap, inl, inr, length, map, subst, sym, ℕ, Some}
+use Rattle.std.specs.Prelude.{slice_get}
 use Rattle.wb_base.specs.Grammar.{GrammarView}
 use Rattle.wb_grammar_theory.specs.declared.item.Item.{Item}
 use Rattle.wb_items.specs.Kernels.{AreInOrder, ListsKernel, count_of, prefix_of}
@@ -11,7 +10,6 @@ use Rattle.wb_compose_kernels.proofs.ListLemmas.{host_listed, host_passed, new_f
 use Rattle.wb_lemmas.proofs.Places.{at_once}
 use Rattle.wb_compose_kernels.proofs.PartLemmas.{HasPart, has_part}
 use Rattle.wb_compose_kernels.specs.declared.splice.Part.{Part}
-use Rattle.wb_compose_kernels.specs.declared.blocks.Block.{Block}
 use Rattle.wb_compose_kernels.specs.declared.blocks.Blocks.{Blocks}
 use Rattle.wb_compose_kernels.specs.declared.splice.Splice.{Splice}
 use Rattle.wb_compose_kernels.specs.Lent.{AreSpliceable, new_count_at}

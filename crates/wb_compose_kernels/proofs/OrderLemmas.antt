@@ -1,8 +1,8 @@
 -- Items in order, in the union's numbers, and lists of the same items in order.
 use Rattle.std.proofs.Common.{◌+◌, ◌-◌, ◌<◌, ◌≤◌, ◌∙◌, ◌∷◌, ◌≡◌, ◌⊎◌, List, [], ap, arith, cond, inl, inr, length, map, refl, subst, sym, ℕ}
-use Rattle.std.proofs.Common.{zero, suc, Some}
+use Rattle.std.proofs.Common.{suc, Some}
 use Rattle.std.specs.Option.{option_map}
-use Rattle.std.specs.Prelude.{◌↔◌, Contains, ltb, slice_get}
+use Rattle.std.specs.Prelude.{Contains, ltb, slice_get}
 use Rattle.std.proofs.lemmas.Bool.{cases_lt, le-ltb, lt-ltb}
 use Rattle.std.proofs.lemmas.List.{length-map}
 use Rattle.std.proofs.lemmas.Option.{same_Some, slice_get-map, slice_get_within}
@@ -14,7 +14,6 @@ use Rattle.wb_items.specs.Table.{SameItems}
 use Rattle.wb_items.proofs.OrderLemmas.{not_itself, precedes_then}
 use Rattle.wb_compose_theory.specs.Renamings.{renamed_item}
 use Rattle.wb_compose_theory_kernels.proofs.NameLemmas.{beside}
-use Rattle.wb_compose_theory_kernels.specs.Parts.{without_holes}
 use Rattle.wb_compose_kernels.specs.declared.blocks.Block.{Block}
 use Rattle.wb_compose_kernels.specs.declared.blocks.Blocks.{Blocks}
 use Rattle.wb_compose_kernels.specs.Inner.Blocks.{IsHoleBy, names_by, number_by}

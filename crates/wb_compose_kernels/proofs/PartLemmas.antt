@@ -1,8 +1,8 @@
 -- What is lent of extensions, in the words of the certified grammars.
-use Rattle.std.proofs.Common.{◌+◌, ◌-◌, ◌<◌, ◌≤◌, ◌∙◌, ◌≡◌, List, [], ap, arith, inl, inr, length, length-append, subst, sym, refl, ℕ, suc}
+use Rattle.std.proofs.Common.{◌+◌, ◌-◌, ◌<◌, ◌≤◌, ◌∙◌, ◌≡◌, List, [], ap, arith, length, length-append, subst, sym, ℕ}
 use Rattle.std.specs.Prelude.{◌↔◌, Contains, Option, Some, slice_get}
 use Rattle.std.proofs.lemmas.Option.{slice_get_within}
-use Rattle.wb_lemmas.proofs.Places.{at_once, at_within}
+use Rattle.wb_lemmas.proofs.Places.{at_within}
 use Rattle.wb_base.specs.declared.symbol.Symbol.{Symbol}
 use Rattle.wb_base.specs.Grammar.{GrammarView}
 use Rattle.wb_grammar_theory.proofs.ClosureLemmas.{first_kernel}
@@ -11,17 +11,15 @@ use Rattle.wb_grammar_theory.specs.Items.{IsKernelItem, start, start_item}
 use Rattle.wb_grammar_theory.specs.Productions.{end_of}
 use Rattle.wb_grammar_theory.specs.States.{AreStates, IsNext}
 use Rattle.wb_items.specs.declared.transitions.Move.{Move}
-use Rattle.wb_items.specs.Kernels.{AreInOrder, AreKernels, KernelsView, ListsKernel, count_of, prefix_of}
+use Rattle.wb_items.specs.Kernels.{AreInOrder, AreKernels, KernelsView, count_of, prefix_of}
 use Rattle.wb_marking_holes.proofs.UpLemmas.{holes_len}
 use Rattle.wb_marking_holes.specs.Holes.{hole_productions, with_holes_of}
-use Rattle.wb_compose_theory.specs.Homes.{Home, IsListed, of, of_host}
+use Rattle.wb_compose_theory.specs.Homes.{Home, of, of_host}
 use Rattle.wb_compose_theory.specs.NumberLaws.{HasHostKernels}
-use Rattle.wb_compose_theory.specs.Renamings.{Renaming}
-use Rattle.wb_compose_theory_grammar.specs.Numberings.{up_of}
 use Rattle.wb_compose_theory_grammar.specs.Pieces.{Piece}
 use Rattle.wb_compose_theory_kernels.proofs.NumberedLemmas.{numbered}
 use Rattle.wb_compose_theory_kernels.specs.Kernels.{AreKernelNumbers, HasNoHole, IsTaken, LeadsAt}
-use Rattle.wb_compose_theory_kernels.specs.Numbered.{AreNumberedBeside, IsNumberedBeside}
+use Rattle.wb_compose_theory_kernels.specs.Numbered.{IsNumberedBeside}
 use Rattle.wb_compose_theory_kernels.specs.Parts.{grammar_at, grammar_in}
 use Rattle.wb_determinism_kernels.specs.declared.numbers.Numbers.{Numbers}
 use Rattle.wb_determinism_kernels.specs.Numbers.{phi_by, up_by}

@@ -1,16 +1,14 @@
 -- Rows of moves and starts, in numbers that are there, and what loops over them add.
 use Rattle.std.proofs.Common.{◌+◌, ◌<◌, ◌∙◌, ◌∷◌, ◌++◌, ◌≡◌, ◌⊎◌, List, [], ap, arith, inl, inr, length, refl, subst, sym, ℕ, Some}
-use Rattle.std.specs.Prelude.{◌↔◌, Contains, Option, slice_get}
-use Rattle.std.proofs.lemmas.Option.{same_Some, slice_get_within}
+use Rattle.std.specs.Prelude.{◌↔◌, Contains, slice_get}
+use Rattle.std.proofs.lemmas.Option.{slice_get_within}
 use Rattle.wb_lemmas.proofs.Members.{contains_at, place_in}
 use Rattle.wb_lemmas.proofs.Places.{at_once}
 use Rattle.wb_base.specs.declared.symbol.Symbol.{Symbol}
 use Rattle.wb_base.specs.declared.symbol.Symbol.TheVariants.{Terminal}
-use Rattle.wb_base.specs.Grammar.{GrammarView}
 use Rattle.wb_grammar_theory.specs.declared.item.Item.{Item}
 use Rattle.wb_items.specs.declared.transitions.Move.{Move}
-use Rattle.wb_items.specs.Kernels.{KernelsView, LeadsTo, count_of}
-use Rattle.wb_compose_theory.specs.Homes.{of, of_host}
+use Rattle.wb_items.specs.Kernels.{LeadsTo, count_of}
 use Rattle.wb_compose_theory.specs.Renamings.{renamed}
 use Rattle.wb_determinism_kernels.proofs.PrefixLemmas.{beside_below}
 use Rattle.wb_determinism_kernels.specs.declared.starts.Start.{Start}
@@ -22,7 +20,7 @@ use Rattle.wb_compose_kernels.specs.declared.marks.Mark.{Mark}
 use Rattle.wb_compose_kernels.specs.declared.splice.Part.{Part}
 use Rattle.wb_compose_kernels.specs.declared.splice.Splice.{Splice}
 use Rattle.wb_compose_kernels.specs.Lent.{AreSpliceable, IsPartOf, count_in, new_count_at, new_count_in}
-use Rattle.wb_compose_kernels.specs.Inner.Blocks.{IsHoleSymbol, names_by, number_by}
+use Rattle.wb_compose_kernels.specs.Inner.Blocks.{IsHoleSymbol, names_by}
 use Rattle.wb_compose_kernels.specs.Inner.Given.{IsGiven}
 use Rattle.wb_compose_kernels.specs.Inner.Lists.{AreListed}
 use Rattle.wb_compose_kernels.specs.Inner.Moves.{Adds, AreMarksUpTo, IsAnyMove, IsHostMove, IsMarkAt, IsMarkOf, IsMoveOf, IsNewMove}

@@ -4,3 +4,5 @@ pub mod Blocks
 pub mod Lists
 pub mod Moves
 pub mod Taken
+pub mod Images
+pub mod Filling

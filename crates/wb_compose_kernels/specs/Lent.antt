@@ -1,8 +1,9 @@
--- A host with extensions as they are lent, from whose kernels those of the union are taken.
+-- A host with extensions as they are lent, from whose kernels and lookaheads those of the union are taken.
 use Rattle.std.specs.Prelude.{◌≡◌, [], ℕ, List, Option, Some, None, length, slice_get}
 use Rattle.wb_base.specs.declared.symbol.Symbol.{Symbol}
 use Rattle.wb_base.specs.Grammar.{GrammarView}
 use Rattle.wb_items.specs.Kernels.{KernelsView, count_of, prefix_of}
+use Rattle.wb_items.specs.LookaheadSets.{AreLookaheads}
 use Rattle.wb_marking_holes.specs.Holes.{with_holes_of}
 use Rattle.wb_compose_theory.specs.Homes.{Home, of, of_host}
 use Rattle.wb_compose_theory.specs.NumberLaws.{HasHostKernels}
@@ -15,6 +16,8 @@ use Rattle.wb_compose_theory_kernels.specs.Kernels.{KernelNumbers}
 use Rattle.wb_determinism_kernels.specs.declared.numbers.Numbers.{Numbers}
 use Rattle.wb_determinism_kernels.specs.NewKernels.{AreNewKernels, count_with, prefix_with}
 use Rattle.wb_determinism_kernels.specs.Numbers.{phi_by, up_by}
+use Rattle.wb_determinism_lookaheads.specs.NewLookaheads.{AreNewLookaheads, NewLookaheadsView}
+use Rattle.wb_compose_kernels.specs.declared.sets.Sets.{Sets}
 use Rattle.wb_compose_kernels.specs.declared.splice.Part.{Part}
 use Rattle.wb_compose_kernels.specs.declared.splice.Splice.{Splice}
 
@@ -49,6 +52,15 @@ pub record AreSpliceable (s : Splice) : Type 0 where
   pub len : length s.parts.now ≡ length pieces
   pub parts : (e : ℕ) (x : Piece) (part : Part) → slice_get pieces e ≡ Some x → slice_get s.parts.now e ≡ Some part →
       IsPartOf s.host.now extensible s.kernels.now x part
+
+-- the sets are the lookaheads at the kernels of the host, and those at the new kernels of each extension
+pub record AreSetsOf (s : Splice) (sets : Sets) : Type 0 where
+  pub of_host : AreLookaheads s.kernels.now sets.host.now
+  pub len : length sets.new.now ≡ length s.parts.now
+  pub each : (e : ℕ) (part : Part) (found : NewLookaheadsView) → slice_get s.parts.now e ≡ Some part →
+      slice_get sets.new.now e ≡ Some found →
+      AreNewLookaheads part.beside.now.host.now part.beside.now.grammar.now part.beside.now.numbers.now part.beside.now.images.now
+      part.new.now found
 
 -- how many kernels the host has with what may be a part, and the prefix of each
 abbrev pub count_in : Option Part → ℕ

@@ -76,7 +76,7 @@ pub(crate) fn symbol_in_union(blocks: Blocks, symbol: Symbol) -> Result<Symbol, 
 }
 
 // The item in the union.
-fn item_in_union(blocks: Blocks, item: Item) -> Result<Item, AllocError>
+pub(crate) fn item_in_union(blocks: Blocks, item: Item) -> Result<Item, AllocError>
     ensures { IfOk result (λ made. made ≡ renamed_item (names_by blocks) item) }
 {
     Ok(Item {
@@ -102,7 +102,7 @@ pub(crate) fn items_in_union(
 }
 
 // Whether the number is that of a hole.
-fn is_hole(block: Block, number: usize) -> bool
+pub(crate) fn is_hole(block: Block, number: usize) -> bool
     ensures { IsTrue result ↔ IsHoleBy block number }
 {
     if number < block.own {

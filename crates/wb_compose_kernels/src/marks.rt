@@ -78,7 +78,7 @@ fn add_marks(
 }
 
 // The start at a place.
-fn start_at(starts: &[Start], place: usize) -> Start
+pub(crate) fn start_at(starts: &[Start], place: usize) -> Start
     requires { place < length starts.now }
     ensures { slice_get starts.now place ≡ Some result }
 {

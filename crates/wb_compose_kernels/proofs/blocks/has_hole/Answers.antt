@@ -1,4 +1,4 @@
-use Rattle.std.proofs.Common.{◌≡◌, ◌<◌, length, arith}
+use Rattle.std.proofs.Common.{◌≡◌, length, arith}
 use Rattle.wb_compose_kernels.proofs.FoundLemmas.{found_hole, none_hole}
 use Rattle.wb_compose_kernels.proofs.blocks.has_hole.Goals as goal
 

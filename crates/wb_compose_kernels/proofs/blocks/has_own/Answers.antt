@@ -1,4 +1,4 @@
-use Rattle.std.proofs.Common.{◌≡◌, ◌<◌, length, arith}
+use Rattle.std.proofs.Common.{◌≡◌, length, arith}
 use Rattle.wb_compose_kernels.proofs.FoundLemmas.{found_own, none_own}
 use Rattle.wb_compose_kernels.proofs.blocks.has_own.Goals as goal
 

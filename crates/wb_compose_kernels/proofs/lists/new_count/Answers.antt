@@ -1,4 +1,4 @@
-use Rattle.std.proofs.Common.{◌≡◌, ◌∙◌, ap, sym}
+use Rattle.std.proofs.Common.{◌∙◌, ap, sym}
 use Rattle.wb_compose_kernels.specs.Lent.{new_count_in}
 use Rattle.wb_compose_kernels.proofs.lists.new_count.Goals as goal
 

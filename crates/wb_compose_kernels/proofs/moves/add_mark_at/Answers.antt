@@ -1,7 +1,6 @@
-use Rattle.std.proofs.Common.{◌≡◌, ◌++◌, ap, refl, sym, ◌∙◌, Some, ℕ}
+use Rattle.std.proofs.Common.{◌≡◌, ap, refl, ◌∙◌, Some}
 use Rattle.std.specs.Prelude.{slice_get}
 use Rattle.wb_lemmas.proofs.Places.{at_once}
-use Rattle.wb_base.specs.declared.symbol.Symbol.{Symbol}
 use Rattle.wb_base.specs.declared.symbol.Symbol.TheVariants.{Terminal}
 use Rattle.wb_compose_kernels.specs.declared.marks.Mark.{Mark}
 use Rattle.wb_compose_kernels.proofs.AddLemmas.{adds_nothing, adds_push}

@@ -1,4 +1,4 @@
-use Rattle.std.proofs.Common.{◌++◌, ◌∷◌, ◌∙◌, [], List, ap, ℕ}
+use Rattle.std.proofs.Common.{◌++◌, ◌∷◌, ◌∙◌, [], ap}
 use Rattle.wb_base.specs.declared.symbol.Symbol.{Symbol}
 use Rattle.wb_compose_kernels.proofs.RowLemmas.{marked_moves, plain_move}
 use Rattle.wb_compose_kernels.proofs.moves.add_move.Goals as goal

@@ -1,4 +1,4 @@
-use Rattle.std.proofs.Common.{◌<◌, [], subst, ℕ}
+use Rattle.std.proofs.Common.{◌<◌, subst, ℕ}
 use Rattle.wb_compose_kernels.specs.Inner.Moves.{Adds, IsHostMove}
 use Rattle.wb_items.specs.Kernels.{count_of}
 use Rattle.wb_compose_kernels.proofs.RowLemmas.{any_moves}

@@ -1,6 +1,5 @@
-use Rattle.std.proofs.Common.{◌≡◌, ◌<◌, ◌∙◌, ℕ, length, arith, ap, sym, subst, Some, inl, inr}
-use Rattle.std.specs.Prelude.{slice_get}
-use Rattle.std.proofs.lemmas.Bool.{cases_lt, true≢false}
+use Rattle.std.proofs.Common.{◌≡◌, ◌∙◌, length, arith, sym}
+use Rattle.std.proofs.lemmas.Bool.{true≢false}
 use Rattle.wb_compose_kernels.proofs.FoundLemmas.{differ_at, same_lists, same_next}
 use Rattle.wb_compose_kernels.proofs.numbers.are_same.Goals as goal
 

@@ -1,4 +1,4 @@
-use Rattle.std.proofs.Common.{◌≡◌, [], arith, length, subst, sym}
+use Rattle.std.proofs.Common.{◌≡◌, arith, length, subst, sym}
 use Rattle.wb_compose_kernels.specs.Inner.Blocks.{BlocksUpTo}
 use Rattle.wb_compose_kernels.proofs.EachLemmas.{each_blocks}
 use Rattle.wb_compose_kernels.proofs.LoopLemmas.{before_start, blocks_start}

@@ -1,0 +1,12 @@
+use Rattle.wb_compose_kernels.proofs.ListedLemmas.{hole_becomes, plain_becomes}
+use Rattle.wb_compose_kernels.proofs.images.add_image.Goals as goal
+
+pub returns-in-Some : goal.returns-in-Some
+returns-in-Some c =
+    hole_becomes c.args.block c.args.markers.now c.args.own c.in-Some.hole c.args.made.now c.add_markers.new.made c.in-Some.ensures.0
+    c.in-Some.ensures.1 c.add_markers.ensures
+
+pub returns : goal.returns
+returns c =
+    plain_becomes c.args.block c.args.markers.now c.args.own c.in_ok-terminal.terminal c.args.made.now c.put.new.made c.in_default.ensures
+    c.in_ok-terminal.ensures c.put.ensures
