@@ -4,7 +4,7 @@ use Rattle.std.specs.Prelude.{All, Some, slice_get}
 use Rattle.wb_base.specs.declared.symbol.Symbol.{Symbol}
 use Rattle.wb_base.specs.declared.symbol.Symbol.TheVariants.{Nonterminal}
 use Rattle.wb_grammar_theory.specs.Productions.{end_of}
-use Rattle.wb_grammar_theory.specs.Trees.{Forest, nothing, leaf, node, symbols}
+use Rattle.wb_grammar_theory.specs.Trees.{Forest, nothing, leaf, node, symbols, Leaf, leaves}
 use Rattle.wb_grammar_theory.specs.Lookaheads.{CanShift}
 use Rattle.wb_values.specs.Tree.{Tree, Values, empty, more, plain, text, tree}
 use Rattle.wb_values.specs.Tree as values
@@ -21,7 +21,9 @@ use Rattle.wb_scan_theory.specs.Shown.{values_of}
 use Rattle.wb_scan_theory.specs.Parts.{AreTablesOf, IsPrefixOf}
 use Rattle.wb_scan_theory.specs.Machine.{joined}
 use Rattle.wb_scan_theory.proofs.FactLemmas.{parsable}
+use Rattle.wb_scan_theory.proofs.ForestLemmas.{symbols_joined}
 use Rattle.wb_scan_theory.proofs.SeenLemmas.{scan_next}
+use Rattle.wb_scan_theory.proofs.StepLemmas.{leaf_of, leaves_shifted}
 use Rattle.wb_scan_theory.proofs.TokenLemmas.{taken}
 use Rattle.wb_scan.specs.Views.{LanguageParts}
 use Rattle.wb_parser_states.specs.declared.outcome.Outcome.{Outcome}
@@ -35,10 +37,13 @@ use Rattle.wb_session_theory.specs.Runs.{Reduces, Reads, stays, shifts, accepts,
 use Rattle.wb_session_theory.proofs.ScanLemmas.{scan_more}
 use Rattle.wb_session_theory.proofs.ReadLemmas.{reads_more, reads_then, first_read, ends_answer}
 use Rattle.wb_session.specs.declared.checkpoint.Checkpoint.{Checkpoint}
+use Rattle.wb_session.specs.declared.place.LeafPlace.{LeafPlace}
 use Rattle.wb_session.specs.declared.stacks.Entry.{Entry}
 use Rattle.wb_session.specs.Stacks.{Roots, LeadsTo, bottom, above, IsStack, IsSound, state_in}
-use Rattle.wb_session.specs.Kept.{IsKept}
+use Rattle.wb_session.specs.Kept.{AreScanned, IsKept}
 use Rattle.wb_session.specs.Inner.Steps.{IsSettled}
+use Rattle.wb_session.specs.Places.{HasPlaces}
+use Rattle.wb_session.proofs.PlaceLemmas.{leaves_after, scanned_more, scanned_push, places_whole}
 use Rattle.wb_session.proofs.StackLemmas.{leads_state, leads_push, leads_inside, before_next}
 
 -- what was scanned at the state on top is next at the symbols of the stack
@@ -52,27 +57,30 @@ scanned_at parts source roots link at e state next of state_is found stack is =
 
 module _ (parts : LanguageParts) (ok : IsLanguage parts.language) (source : List ℕ) where
   -- a stop that is found where the stack is kept
-  pub nothing_leaf : (roots : Roots) (e place : ℕ) (point : Checkpoint) (k : IsKept parts source roots point) →
-      Scans parts.language source (symbols k.stack) e point.at (missing place) → StopsAt parts.language source place NoToken
-  nothing_leaf roots e place point k scan =
+  pub nothing_leaf : (roots : Roots) (places : List LeafPlace) (e place : ℕ) (point : Checkpoint)
+      (k : IsKept parts source roots places point) → Scans parts.language source (symbols k.stack) e point.at (missing place) →
+      StopsAt parts.language source place NoToken
+  nothing_leaf roots places e place point k scan =
       ends_answer parts.language ok source (no_token place scan refl) (first_read parts.language ok source k.reads)
 
   -- the stack after a leaf that is shifted is kept
-  pub token_shift : (roots mid after_roots : Roots) (point next : Checkpoint) (e begin t : ℕ) (lexeme : List ℕ) (link target : ℕ) →
-      (k : IsKept parts source roots point) →
+  pub token_shift : (roots mid after_roots : Roots) (places : List LeafPlace) (point next : Checkpoint) (e begin here t : ℕ)
+      (lexeme : List ℕ) (link target : ℕ) → here + length lexeme ≡ next.at → (k : IsKept parts source roots places point) →
       Scans parts.language source (symbols k.stack) e point.at (token begin t lexeme next.at) →
       IsSettled parts t roots point.link mid link (Shifts target) → length mid.values ≡ length mid.entries →
       after_roots.entries ≡ mid.entries ++ (record { state = target; below = link }) ∷ [] →
       after_roots.values ≡ mid.values ++ stored.Text lexeme ∷ [] → after_roots.trees ≡ mid.trees → next.link ≡ length mid.entries + 1 →
       point.reach ≤ next.reach → e ≤ next.reach → next.at ≤ next.reach → next.at ≤ length source →
-      IsKept parts source after_roots next
-  token_shift roots mid after_roots point next e begin t lexeme link target k scan settled same es ws ts link_is reach_le e_le
-      at_le within =
+      IsKept parts source after_roots (places ++ (record { terminal = t; begin = begin; lexeme = here; end = next.at }) ∷ []) next
+  token_shift roots mid after_roots places point next e begin here t lexeme link target size k scan settled same es ws ts link_is reach_le
+      e_le at_le within =
       let g = parts.language.grammar in
       let (reduced, red, there, todo) = settled k.stack k.is in
       let can = todo.0 in
       let goes = todo.1 in
       let new : Forest = joined reduced (leaf t lexeme nothing) in
+      let last : Leaf = leaf_of reduced t lexeme in
+      let place : LeafPlace = record { terminal = t; begin = begin; lexeme = here; end = next.at } in
       let x : Entry = record { state = target; below = link } in
       let up : suc (length mid.entries) ≡ next.link = omega (arith, link_is) in
       record {
@@ -91,21 +99,29 @@ module _ (parts : LanguageParts) (ok : IsLanguage parts.language) (source : List
         };
         reads = reads_then (reads_more reach_le k.reads)
             (shifts begin t lexeme next.at reduced (scan_more e_le scan) red can (stays refl refl));
+        laid = subst (λ z. AreScanned parts.language source next.reach [] 0 z (places ++ place ∷ []) (symbols new) next.at)
+            (sym (leaves_shifted reduced t lexeme ∙ ap (λ z. z ++ last ∷ []) (leaves_after red)))
+            (subst (λ z. AreScanned parts.language source next.reach [] 0 (leaves [] k.stack ++ last ∷ []) (places ++ place ∷ []) z next.at)
+            (sym (symbols_joined reduced (leaf t lexeme nothing)))
+            (scanned_push parts.language source next.reach (leaves [] k.stack) places last place [] (symbols k.stack) 0 point.at
+            (scanned_more parts.language source point.reach next.reach (leaves [] k.stack) places [] (symbols k.stack) 0 point.at reach_le
+            k.laid) (scan_more e_le scan) refl size));
         before = at_le;
         within = within;
       }
 
   -- a leaf that isn't shifted
-  pub token_stops : (roots mid : Roots) (point : Checkpoint) (e begin t : ℕ) (lexeme : List ℕ) (after link : ℕ) (outcome : Outcome) →
-      (k : IsKept parts source roots point) → Scans parts.language source (symbols k.stack) e point.at (token begin t lexeme after) →
+  pub token_stops : (roots mid : Roots) (places : List LeafPlace) (point : Checkpoint) (e begin t : ℕ) (lexeme : List ℕ) (after link : ℕ)
+      (outcome : Outcome) → (k : IsKept parts source roots places point) →
+      Scans parts.language source (symbols k.stack) e point.at (token begin t lexeme after) →
       IsSettled parts t roots point.link mid link outcome → ((target : ℕ) → outcome ≡ Shifts target → ⊥) →
       StopsAt parts.language source begin (Unexpected t)
-  token_stops roots mid point e begin t lexeme after link (Shifts target) k scan settled no_shift = absurd (no_shift target refl)
-  token_stops roots mid point e begin t lexeme after link Accepts k scan settled no_shift =
+  token_stops roots mid places point e begin t lexeme after link (Shifts target) k scan settled no_shift = absurd (no_shift target refl)
+  token_stops roots mid places point e begin t lexeme after link Accepts k scan settled no_shift =
       let (reduced, red, there, todo) = settled k.stack k.is in
       let h : t < end_of parts.language.grammar = (taken ok.written (scan_next scan) begin t lexeme after refl).0 in
       let e' : t ≡ end_of parts.language.grammar = todo.0 in absurd (omega arith)
-  token_stops roots mid point e begin t lexeme after link Stops k scan settled no_shift =
+  token_stops roots mid places point e begin t lexeme after link Stops k scan settled no_shift =
       let (reduced, red, there, todo) = settled k.stack k.is in
       ends_answer parts.language ok source
       (unexpected (token begin t lexeme after) t begin reduced scan (refl, refl) red todo.0 todo.1 refl)
@@ -186,3 +202,21 @@ over_whole parts ok source roots mid first link e d at place t stack result is r
   where
     lone : (id : TreeId) → All (IsIn (length mid.trees)) (stored.Tree id ∷ []) → id.0 < length mid.trees
     lone id all = all 0 (stored.Tree id) (omega arith)
+
+-- and the leaves of that tree are those of the stack
+pub over_leaves : (parts : LanguageParts) → IsLanguage parts.language → (source : List ℕ) (roots mid : Roots) (first link e d at place
+    t : ℕ) (stack : Forest) (places : List LeafPlace) → IsStack parts roots first stack →
+    Reads parts.language source e [] nothing 0 stack at →
+    AreScanned parts.language source e [] 0 (leaves [] stack) places (symbols stack) at →
+    Scans parts.language source (symbols stack) d at (over place) → IsSettled parts t roots first mid link Accepts →
+    HasPlaces parts.language source places
+over_leaves parts ok source roots mid first link e d at place t stack places is reads laid scan settled =
+    let (reduced, red, there, todo) = settled stack is in
+    let is_end : t ≡ end_of parts.language.grammar = todo.0 in
+    let red' : Reduces parts.language.grammar [] (end_of parts.language.grammar) stack reduced =
+    subst (λ z. Reduces parts.language.grammar [] z stack reduced) is_end red in
+    let can' = subst (Rattle.wb_grammar_theory.specs.Lookaheads.CanReduce parts.language.grammar (symbols reduced)
+    (Rattle.wb_grammar_theory.specs.Productions.top_of parts.language.grammar)) is_end todo.1 in
+    places_whole parts.language ok source e d at stack places laid (over place) reduced scan
+    (ends_answer parts.language ok source (accepts place reduced scan red' can' refl) (first_read parts.language ok source reads))
+    (leaves_after red)

@@ -1,19 +1,36 @@
 -- The stacks that a session keeps of its text.
-use Rattle.std.specs.Prelude.{◌≡◌, ◌<◌, ◌≤◌, ℕ, List, [], Some, length, slice_get}
-use Rattle.wb_grammar_theory.specs.Trees.{Forest, nothing}
+use Rattle.std.specs.Prelude.{◌≡◌, ◌<◌, ◌≤◌, ◌+◌, ℕ, List, [], ◌∷◌, ◌++◌, Some, length, slice_get, take}
+use Rattle.wb_base.specs.declared.symbol.Symbol.{Symbol}
+use Rattle.wb_base.specs.declared.symbol.Symbol.TheVariants.{Terminal}
+use Rattle.wb_grammar_theory.specs.Trees.{Forest, nothing, Leaf, leaves, symbols}
+use Rattle.wb_scan_theory.specs.Languages.{LanguageView}
+use Rattle.wb_scan_theory.specs.Tokens.{token}
+use Rattle.wb_scan_theory.specs.Examined.{Scans}
 use Rattle.wb_scan.specs.Views.{LanguageParts}
 use Rattle.wb_parser_states.specs.Rules.{AreRules}
 use Rattle.wb_session_theory.specs.Runs.{Reads}
 use Rattle.wb_session.specs.declared.checkpoint.Checkpoint.{Checkpoint}
 use Rattle.wb_session.specs.declared.memory.Memory.{Memory}
+use Rattle.wb_session.specs.declared.place.LeafPlace.{LeafPlace}
+use Rattle.wb_session.specs.Places.{HasPlaces}
 use Rattle.wb_session.specs.Stacks.{Roots, roots_of, IsStack, IsSound}
 
+-- the leaves lie at these places, one after another from the prefix and the place `at` on, where nothing from e on was looked at
+abbrev pub AreScanned : LanguageView → List ℕ → ℕ → List Symbol → ℕ → List Leaf → List LeafPlace → List Symbol → ℕ → Type 0
+AreScanned l text e prefix at [] [] prefix' at' = (prefix ≡ prefix') × (at ≡ at')
+AreScanned l text e prefix at [] (p ∷ ps) prefix' at' = ⊥
+AreScanned l text e prefix at (x ∷ xs) [] prefix' at' = ⊥
+AreScanned l text e prefix at (x ∷ xs) (p ∷ ps) prefix' at' =
+    Scans l text prefix e at (token p.begin x.terminal x.text p.end) × (p.terminal ≡ x.terminal) ×
+    (p.lexeme + length x.text ≡ p.end) × AreScanned l text e (x.context ++ Terminal x.terminal ∷ []) p.end xs ps prefix' at'
+
 -- the machine comes from the beginning of the text to the stack of the checkpoint's link and to its place, and looks at nothing from its
--- reach on
-pub record IsKept (parts : LanguageParts) (text : List ℕ) (roots : Roots) (point : Checkpoint) : Type 0 where
+-- reach on; and the leaves of that stack lie at these places
+pub record IsKept (parts : LanguageParts) (text : List ℕ) (roots : Roots) (places : List LeafPlace) (point : Checkpoint) : Type 0 where
   pub stack : Forest
   pub is : IsStack parts roots point.link stack
   pub reads : Reads parts.language text point.reach [] nothing 0 stack point.at
+  pub laid : AreScanned parts.language text point.reach [] 0 (leaves [] stack) places (symbols stack) point.at
   pub before : point.at ≤ point.reach
   pub within : point.at ≤ length text
 
@@ -27,14 +44,17 @@ abbrev pub AreRising : List Checkpoint → Type 0
 AreRising points = (i j : ℕ) (x y : Checkpoint) → i ≤ j → slice_get points i ≡ Some x → slice_get points j ≡ Some y →
     (x.reach ≤ y.reach) × (x.link ≤ y.link)
 
--- each is kept of the text; they begin at its start, and rise
-pub record AreCheckpoints (parts : LanguageParts) (text : List ℕ) (roots : Roots) (points : List Checkpoint) : Type 0 where
+-- each is kept of the text, with as many places of leaves as there are checkpoints before it; they begin at its start, and rise
+pub record AreCheckpoints (parts : LanguageParts) (text : List ℕ) (roots : Roots) (places : List LeafPlace) (points : List Checkpoint) :
+    Type 0 where
   pub begins : BeginsAtStart points
   pub rising : AreRising points
-  pub each : (i : ℕ) (point : Checkpoint) → slice_get points i ≡ Some point → IsKept parts text roots point
+  pub few : length points ≤ length places + 1
+  pub each : (i : ℕ) (point : Checkpoint) → slice_get points i ≡ Some point → IsKept parts text roots (take i places) point
 
--- what a session has in memory: left sides and widths of productions, and checkpoints of its text
+-- what a session has in memory: left sides and widths of productions, the places of the leaves of its text, and checkpoints of it
 pub record IsMemory (parts : LanguageParts) (memory : Memory) : Type 0 where
   pub rules : AreRules parts.language.grammar memory.rules.items
   pub sound : IsSound parts (roots_of memory.stacks)
-  pub kept : AreCheckpoints parts memory.text.items (roots_of memory.stacks) memory.checkpoints.items
+  pub kept : AreCheckpoints parts memory.text.items (roots_of memory.stacks) memory.places.items memory.checkpoints.items
+  pub placed : HasPlaces parts.language memory.text.items memory.places.items

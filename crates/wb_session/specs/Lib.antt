@@ -1,5 +1,7 @@
 -- sessions as callers see them, and why an edit is refused
 pub mod Sessions
+-- where the leaves of a text lie
+pub mod Places
 -- linked stacks: where a link leads, and the trees that it stands for
 pub mod Stacks
 -- the stacks that a session keeps

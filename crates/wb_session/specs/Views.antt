@@ -4,12 +4,13 @@ use Rattle.wb_session.specs.declared.session.Session.TheInside.{Inside}
 use Rattle.wb_session.specs.Sessions.{SessionView, IsShort}
 use Rattle.wb_session.specs.Kept.{IsMemory}
 
--- its language, its text, its answer and its store
+-- its language, its text, its answer, the places of its leaves and its store
 abbrev pub session_view : Inside → SessionView
 session_view s = record {
   language = s.language.now.language;
   text = s.memory.text.items;
   answer = s.answer;
+  places = s.memory.places.items;
   store = s.memory.stacks.store;
 }
 

@@ -4,18 +4,21 @@
 ghost use Rattle.std.specs.Prelude.{◌≡◌, ◌<◌, ◌≤◌, ◌-◌, ℕ, List, [], IfOk, Some, length, slice_get};
 ghost use Rattle.wb_scan_theory.specs.Tokens.{over};
 ghost use Rattle.wb_scan_theory.specs.Examined.{Scans};
-ghost use Rattle.wb_grammar_theory.specs.Trees.{Forest, nothing, symbols};
+ghost use Rattle.wb_grammar_theory.specs.Trees.{Forest, leaves, nothing, symbols};
 ghost use Rattle.wb_values.specs.declared.value.TreeId.{TreeId};
 ghost use Rattle.wb_values.specs.declared.value.Value.TheVariants.{Tree as Stored};
 ghost use Rattle.wb_parser.specs.declared.parsed.Parsed.TheVariants.{Tree};
 ghost use Rattle.wb_parser.specs.Parses.{IsParsed};
 ghost use Rattle.wb_parser_states.specs.Rules.{AreRules};
 ghost use Rattle.wb_session_theory.specs.Runs.{Reads};
+ghost use Rattle.wb_session.specs.declared.place.LeafPlace.{LeafPlace as Place};
+ghost use Rattle.wb_session.specs.Places.{HasPlaces};
 ghost use Rattle.wb_session.specs.Stacks.{roots_of, IsSound, IsStack};
-ghost use Rattle.wb_session.specs.Kept.{IsKept};
+ghost use Rattle.wb_session.specs.Kept.{AreScanned, IsKept};
 ghost use Rattle.wb_session.specs.Inner.Steps.{Grows};
 ghost use Rattle.wb_session.specs.Inner.Rounds.{IsRound, GoesFurther};
 
+use crate::LeafPlace;
 use crate::checkpoint::Checkpoint;
 use crate::stacks::{Entry, Stacks, push_lexeme, state_at};
 use crate::step::reduce_all;
@@ -27,8 +30,8 @@ use wb_scan::{Language, Scanned, scan_examined};
 // What became of one leaf.
 #[derive(Clone, Copy)]
 pub(crate) enum Round {
-    // It was shifted, and the text goes on at this checkpoint.
-    Goes(Checkpoint),
+    // It was shifted, and the text goes on at this checkpoint; and it lies here.
+    Goes(Checkpoint, LeafPlace),
     // The text was read, or stops.
     Done(Parsed),
 }
@@ -45,7 +48,7 @@ pub(crate) fn take_leaf(
     requires sound { IsSound language.now (roots_of stacks.old) }
     requires link { from.link ≤ length stacks.old.entries.items }
     requires at { from.at ≤ length text.now }
-    ensures round { IfOk result (λ round. IsKept language.now text.now (roots_of stacks.old) from → IsRound language.now text.now (roots_of stacks.new) round) }
+    ensures round { IfOk result (λ round. (places : List Place) → IsKept language.now text.now (roots_of stacks.old) places from → IsRound language.now text.now (roots_of stacks.new) places round) }
     ensures grows { Grows language.now (roots_of stacks.old) (roots_of stacks.new) }
     ensures further { IfOk result (GoesFurther from) }
 {
@@ -78,11 +81,18 @@ pub(crate) fn take_leaf(
                     let below = settled.link;
                     let link = push_lexeme(stacks, Entry { state, below }, &text[lexeme..end])?;
                     let further = later(reach, end);
-                    Ok(Round::Goes(Checkpoint {
+                    let next = Checkpoint {
                         at: end,
                         reach: further,
                         link,
-                    }))
+                    };
+                    let place = LeafPlace {
+                        terminal,
+                        begin: at,
+                        lexeme,
+                        end,
+                    };
+                    Ok(Round::Goes(next, place))
                 }
                 _ => Ok(Round::Done(Parsed::Stopped {
                     at,
@@ -113,6 +123,7 @@ fn finish(
     requires sound { IsSound language.now (roots_of stacks.old) }
     requires link { link ≤ length stacks.old.entries.items }
     ensures parsed { IfOk result (λ parsed. (text : List ℕ) (e at : ℕ) (stack : Forest) → IsStack language.now (roots_of stacks.old) link stack → Reads language.now.language text e [] nothing 0 stack at → Scans language.now.language text (symbols stack) e at (over place) → IsParsed language.now.language text stacks.new.store parsed) }
+    ensures placed { IfOk result (λ parsed. (text : List ℕ) (e at : ℕ) (stack : Forest) (places : List Place) → IsStack language.now (roots_of stacks.old) link stack → Reads language.now.language text e [] nothing 0 stack at → AreScanned language.now.language text e [] 0 (leaves [] stack) places (symbols stack) at → Scans language.now.language text (symbols stack) e at (over place) → HasPlaces language.now.language text places) }
     ensures grows { Grows language.now (roots_of stacks.old) (roots_of stacks.new) }
 {
     let end = language.grammar().terminals();

@@ -9,11 +9,13 @@ mod edited_text;
 mod going_on;
 mod leaf;
 mod memory;
+mod place;
 mod reduce;
 mod refusal;
 mod session;
 mod stacks;
 mod step;
 
+pub use place::LeafPlace;
 pub use refusal::EditRefusal;
 pub use session::{Edited, Session};

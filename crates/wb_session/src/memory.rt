@@ -1,16 +1,18 @@
-//! What does a session have in memory? Its text, and the stack before each of its tokens.
+//! What does a session have in memory? Its text, the place of each leaf, and the stack before each of its tokens.
 
-ghost use Rattle.std.specs.Prelude.{◌≡◌, ◌≤◌, ◌+◌, [], IfOk, OnErr, OnOk, length};
+ghost use Rattle.std.specs.Prelude.{◌≡◌, ◌≤◌, ◌+◌, [], IfOk, OnErr, OnOk, length, take};
+ghost use Rattle.wb_scan_theory.specs.Facts.{IsLanguage};
 ghost use Rattle.wb_parser.specs.Parses.{Extends, IsParsed};
 ghost use Rattle.wb_session_theory.specs.Edits.{edited};
+ghost use Rattle.wb_session.specs.Places.{KeepsPlaces};
 ghost use Rattle.wb_session.specs.Kept.{IsMemory};
 ghost use Rattle.wb_session.specs.Inner.Memories.{IsNew};
 
-use crate::Edited;
 use crate::checkpoint::Checkpoint;
 use crate::edited_text::make_edited;
 use crate::going_on::{go_back, go_on};
 use crate::stacks::Stacks;
+use crate::{Edited, LeafPlace};
 use std::alloc::{AllocError, Global};
 use std::mem::swap;
 use wb_base::push;
@@ -18,11 +20,14 @@ use wb_parser::Parsed;
 use wb_parser_states::{Rule, rules_of};
 use wb_scan::Language;
 
-// The left sides and widths of productions; a text, and room for the next one; and checkpoints with their stacks.
+// The left sides and widths of productions; a text with the places of its leaves, and room for the next one with its; and checkpoints with
+// their stacks.
 pub(crate) struct Memory {
     pub(crate) rules: Vec<Rule>,
     pub(crate) text: Vec<u8>,
     pub(crate) spare: Vec<u8>,
+    pub(crate) places: Vec<LeafPlace>,
+    pub(crate) spare_places: Vec<LeafPlace>,
     pub(crate) checkpoints: Vec<Checkpoint>,
     pub(crate) stacks: Stacks,
 }
@@ -33,12 +38,16 @@ impl Drop for Memory {
             rules,
             text,
             spare,
+            places,
+            spare_places,
             checkpoints,
             stacks,
         } = self;
         drop(rules);
         drop(text);
         drop(spare);
+        drop(places);
+        drop(spare_places);
         drop(checkpoints);
         drop(stacks);
     }
@@ -53,6 +62,8 @@ impl Memory {
             rules: Vec::new(alloc),
             text: Vec::new(alloc),
             spare: Vec::new(alloc),
+            places: Vec::new(alloc),
+            spare_places: Vec::new(alloc),
             checkpoints: Vec::new(alloc),
             stacks: Stacks::new(alloc),
         }
@@ -70,6 +81,7 @@ pub(crate) fn read_text(
     ensures text { OnOk result (memory.new.text.items ≡ text.now) }
     ensures memory { OnOk result (IsMemory language.now memory.new) }
     ensures parsed { IfOk result (IsParsed language.now.language text.now memory.new.stacks.store) }
+    ensures language { OnOk result (IsLanguage language.now.language) }
 {
     memory.rules = rules_of(alloc, language.grammar())?;
     memory.text.extend_from_slice(text)?;
@@ -87,6 +99,7 @@ pub(crate) fn read_text(
         &memory.text,
         &mut memory.checkpoints,
         &mut memory.stacks,
+        &mut memory.places,
     )
 }
 
@@ -111,32 +124,50 @@ pub(crate) fn reread_text(
     requires within { to ≤ length memory.old.text.items }
     ensures text { OnOk result (memory.new.text.items ≡ edited memory.old.text.items from to with.now) }
     ensures err { OnErr result (memory.new.text.items ≡ memory.old.text.items) }
+    ensures err_places { OnErr result (memory.new.places.items ≡ memory.old.places.items) }
     ensures memory { IsMemory language.now memory.new }
     ensures parsed { IfOk result (λ reread. IsParsed language.now.language memory.new.text.items memory.new.stacks.store reread.parsed) }
     ensures store { Extends memory.old.stacks.store memory.new.stacks.store }
     ensures built { IfOk result (λ reread. length memory.new.stacks.store ≡ length memory.old.stacks.store + reread.edited.built) }
+    ensures from { IfOk result (λ reread. (reread.edited.from ≤ from) × (reread.edited.to ≡ length memory.new.text.items)) }
+    ensures kept { IfOk result (λ reread. KeepsPlaces reread.edited.kept memory.old.places.items memory.new.places.items) }
+    ensures scanned { IfOk result (λ reread. reread.edited.scanned + reread.edited.kept ≡ length memory.new.places.items + 1) }
 {
     make_edited(&memory.text, &mut memory.spare, from, to, with)?;
     let before = memory.stacks.store.len();
     let point = go_back(&mut memory.checkpoints, &mut memory.stacks, from);
-    let count = memory.checkpoints.len();
+    let kept = memory.checkpoints.len() - 1;
+    take_first(&memory.places, &mut memory.spare_places, kept)?;
     let parsed = go_on(
         language,
         &memory.rules,
         &memory.spare,
         &mut memory.checkpoints,
         &mut memory.stacks,
+        &mut memory.spare_places,
     )?;
     swap(&mut memory.text, &mut memory.spare);
+    swap(&mut memory.places, &mut memory.spare_places);
     let edited = Edited {
         from: point.at,
         to: memory.text.len(),
-        scanned: memory
-            .checkpoints
-            .len()
-            .saturating_sub(count)
-            .saturating_add(1),
+        scanned: memory.checkpoints.len() - kept,
         built: memory.stacks.store.len() - before,
+        kept,
     };
     Ok(Reread { parsed, edited })
+}
+
+// Copies the first places, so many of them, into the room of others.
+fn take_first(
+    places: &[LeafPlace],
+    first: &mut Vec<LeafPlace>,
+    count: usize,
+) -> Result<(), AllocError>
+    requires { count ≤ length places.now }
+    ensures { OnOk result (first.new.items ≡ take count places.now) }
+{
+    first.clear();
+    first.extend_from_slice(&places[..count])?;
+    Ok(())
 }

@@ -1,13 +1,15 @@
 //! How is a text kept with its answer while it is edited? The answer is at all times the one that the parser gives for the text.
 
-ghost use Rattle.std.specs.Prelude.{◌≡◌, ◌≤◌, ◌+◌, IfErr, IfOk, OnErr, OnOk, length};
+ghost use Rattle.std.specs.Prelude.{◌≡◌, ◌≤◌, ◌+◌, IfErr, IfNone, IfOk, IfSome, OnErr, OnOk, Some, length, slice_get};
 ghost use Rattle.wb_parser.specs.Parses.{Extends, FitsSignatures, IsParsed};
-ghost use Rattle.wb_session.specs.Sessions.{HasCause, IsShort, MakesText};
+ghost use Rattle.wb_session.specs.Places.{HasPlaces, KeepsPlaces};
+ghost use Rattle.wb_session.specs.Sessions.{HasCause, IsSameAnswer, IsShort, MakesText};
 
-use crate::EditRefusal;
 use crate::memory::{Memory, read_text, reread_text};
+use crate::{EditRefusal, LeafPlace};
 use std::alloc::{AllocError, Global};
 use std::marker::Model;
+use std::mem::swap;
 use wb_parser::Parsed;
 use wb_scan::Language;
 use wb_values::TreeStore;
@@ -18,8 +20,8 @@ const LIMIT: usize = 1_048_576;
 /// A text in a language, with its answer: its one tree, or its one stop. The tree is in the session's store, and so are those of all texts
 /// before.
 ///
-/// The text has at most 1,048,576 bytes. Beside it and the store, 24 bytes are kept for each token, and 24 for each token and each node
-/// that was made since, and room for a second text.
+/// The text has at most 1,048,576 bytes. Beside it and the store, 24 bytes are kept for each token, 32 for its place, and 24 for each token
+/// and each node that was made since, and room for a second text with its places.
 pub struct Session<'a> {
     language: &'a Language,
     memory: Memory,
@@ -64,6 +66,8 @@ pub struct Edited {
     pub scanned: usize,
     /// How many nodes were built.
     pub built: usize,
+    /// How many leaves were not read anew. They are the first, and lie where they lay.
+    pub kept: usize,
 }
 
 impl<'a> Session<'a> {
@@ -99,8 +103,12 @@ impl<'a> Session<'a> {
         ensures ok { OnOk result (MakesText self.old.text from to with.now self.new.text) }
         ensures refusal { IfErr result (HasCause self.old.text from to with.now) }
         ensures err { OnErr result ((self.new.text ≡ self.old.text) × (self.new.answer ≡ self.old.answer)) }
+        ensures err_places { OnErr result (self.new.places ≡ self.old.places) }
         ensures store { Extends self.old.store self.new.store }
         ensures built { IfOk result (λ done. length self.new.store ≡ length self.old.store + done.built) }
+        ensures from { IfOk result (λ done. (done.from ≤ from) × (done.to ≡ length self.new.text)) }
+        ensures kept { IfOk result (λ done. KeepsPlaces done.kept self.old.places self.new.places) }
+        ensures scanned { IfOk result (λ done. done.scanned + done.kept ≡ length self.new.places + 1) }
         ensures language { self.new.language ≡ self.old.language }
     {
         if from > to || to > self.memory.text.len() {
@@ -119,6 +127,30 @@ impl<'a> Session<'a> {
         }
     }
 
+    /// Drops the trees of earlier texts, and what was kept to make them: the text is read once more, into a store of its own. Nothing calls it
+    /// by itself. The only error is out of memory, after which all is as before.
+    pub fn release(&mut self) -> Result<(), AllocError>
+        ensures same { OnOk result (IsSameAnswer self.old.store self.old.answer self.new.store self.new.answer) }
+        ensures text { self.new.text ≡ self.old.text }
+        ensures language { self.new.language ≡ self.old.language }
+        ensures err { OnErr result (self.new ≡ self.old) }
+    {
+        let alloc = *self.memory.text.allocator();
+        let mut memory = Memory::new(alloc);
+        match read_text(alloc, self.language, &mut memory, &self.memory.text) {
+            Ok(answer) => {
+                swap(&mut self.memory, &mut memory);
+                self.answer = answer;
+                drop(memory);
+                Ok(())
+            }
+            Err(error) => {
+                drop(memory);
+                Err(error)
+            }
+        }
+    }
+
     /// The text.
     pub fn text(&self) -> &[u8]
         ensures text { result.now ≡ self.now.text }
@@ -134,6 +166,27 @@ impl<'a> Session<'a> {
         ensures fits { FitsSignatures self.now.language self.now.store self.now.answer }
     {
         &self.answer
+    }
+
+    /// How many leaves were read: those of the tree of the text, or those before its stop.
+    pub fn leaves(&self) -> usize
+        ensures { result ≡ length self.now.places }
+    {
+        self.memory.places.len()
+    }
+
+    /// Where the leaf of this number lies in the text, or None where there are not so many. Leaves are numbered from 0, in the order of the
+    /// text: those of its tree from left to right, or those that were read before its stop.
+    pub fn place_of(&self, leaf: usize) -> Option<LeafPlace>
+        ensures some { IfSome result (λ place. slice_get self.now.places leaf ≡ Some place) }
+        ensures none { IfNone result (length self.now.places ≤ leaf) }
+        ensures placed { HasPlaces self.now.language self.now.text self.now.places }
+    {
+        if leaf < self.memory.places.len() {
+            Some(self.memory.places[leaf])
+        } else {
+            None
+        }
     }
 
     /// The store with the tree of the text, and those of the texts before.

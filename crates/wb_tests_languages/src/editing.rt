@@ -7,7 +7,7 @@ use crate::samples::{KEYWORDS, LISTS, STATEMENTS};
 use std::alloc::Global;
 use wb_parser::{Parsed, parse};
 use wb_scan::Language;
-use wb_session::{EditRefusal, Session};
+use wb_session::{EditRefusal, LeafPlace, Session};
 use wb_terms::print_value;
 use wb_values::{Signatures, TreeId, TreeStore, Value};
 
@@ -49,7 +49,12 @@ fn is_answer(
 }
 
 // Whether the session's answer is that of a parse of its text.
-fn agrees(alloc: Global, language: &Language, signatures: &Signatures, session: &Session) -> bool {
+pub(crate) fn agrees(
+    alloc: Global,
+    language: &Language,
+    signatures: &Signatures,
+    session: &Session,
+) -> bool {
     let mut store = TreeStore::new(alloc);
     match parse(alloc, language, session.text(), &mut store) {
         Ok(parsed) => is_answer(alloc, signatures, session, parsed, &store),
@@ -190,4 +195,155 @@ fn refuses(alloc: Global) -> bool {
 #[test]
 fn edits_that_do_not_fit_are_refused(rt: HostRuntime) {
     assert!(rt; refuses(rt.alloc()));
+}
+
+fn is_piece(text: &[u8], place: LeafPlace, piece: &str) -> bool {
+    place.lexeme == place.begin
+        && place.begin <= place.end
+        && place.end <= text.len()
+        && &text[place.begin..place.end] == piece.as_bytes()
+}
+
+// Whether the leaves of a session are these pieces of its text, in order.
+fn has_leaves(session: &Session, pieces: &[&str]) -> bool {
+    for number in 0..pieces.len() {
+        match session.place_of(number) {
+            Some(place) => {
+                if !is_piece(session.text(), place, pieces[number]) {
+                    return false;
+                }
+            }
+            None => return false,
+        }
+    }
+    session.leaves() == pieces.len() && session.place_of(pieces.len()).is_none()
+}
+
+fn are_placed_on(alloc: Global, language: &Language, row: &PlacedRow) -> bool {
+    if row.text.len() > 1024 {
+        return false;
+    }
+    match Session::open(alloc, language, row.text.as_bytes()) {
+        Ok(mut session) => {
+            has_leaves(&session, row.leaves)
+                && session.edit(row.from, row.to, row.with.as_bytes()).is_ok()
+                && has_leaves(&session, row.leaves_after)
+                && session.release().is_ok()
+                && has_leaves(&session, row.leaves_after)
+        }
+        Err(_) => false,
+    }
+}
+
+fn are_placed(alloc: Global, row: &PlacedRow) -> bool {
+    match language(alloc, row.sample) {
+        Ok(language) => {
+            let placed = are_placed_on(alloc, &language, row);
+            language.release();
+            placed
+        }
+        Err(_) => false,
+    }
+}
+
+fn all_placed(alloc: Global, rows: &[PlacedRow]) -> bool {
+    for row in rows {
+        if !are_placed(alloc, row) {
+            return false;
+        }
+    }
+    true
+}
+
+// A text with its leaves, and an edit with the leaves after it.
+struct PlacedRow {
+    sample: &'static Sample,
+    text: &'static str,
+    leaves: &'static [&'static str],
+    from: usize,
+    to: usize,
+    with: &'static str,
+    leaves_after: &'static [&'static str],
+}
+
+static PLACED: [PlacedRow; 4] = [
+    PlacedRow {
+        sample: &LISTS,
+        text: " 1 23  4 ",
+        leaves: &["1", "23", "4"],
+        from: 2,
+        to: 2,
+        with: " 5",
+        leaves_after: &["1", "5", "23", "4"],
+    },
+    PlacedRow {
+        sample: &KEYWORDS,
+        text: "iff y",
+        leaves: &["iff"],
+        from: 2,
+        to: 3,
+        with: "",
+        leaves_after: &["if", "y"],
+    },
+    PlacedRow {
+        sample: &STATEMENTS,
+        text: "let x = 2 + 3;",
+        leaves: &["let", "x", "=", "2", "+", "3", ";"],
+        from: 4,
+        to: 5,
+        with: "xyz ",
+        leaves_after: &["let", "xyz", "=", "2", "+", "3", ";"],
+    },
+    PlacedRow {
+        sample: &STATEMENTS,
+        text: "let x = 2 + 3;",
+        leaves: &["let", "x", "=", "2", "+", "3", ";"],
+        from: 8,
+        to: 9,
+        with: "",
+        leaves_after: &["let", "x", "="],
+    },
+];
+
+#[test]
+fn leaves_are_where_they_stand_in_the_text(rt: HostRuntime) {
+    assert!(rt; all_placed(rt.alloc(), &PLACED));
+}
+
+// Whether a release leaves the answer, and as many trees as a session that is opened with the text has.
+fn releases_in(alloc: Global, language: &Language, signatures: &Signatures) -> bool {
+    match Session::open(alloc, language, b"1 2 3") {
+        Ok(mut session) => {
+            let opened = session.store().len();
+            let edited = session.edit(0, 1, b"4").is_ok() && session.edit(0, 1, b"5").is_ok();
+            let grown = session.store().len() > opened;
+            let released = session.release().is_ok();
+            edited
+                && grown
+                && released
+                && session.store().len() == opened
+                && agrees(alloc, language, signatures, &session)
+        }
+        Err(_) => false,
+    }
+}
+
+fn releases(alloc: Global, sample: &Sample) -> bool {
+    let mut signatures = Signatures::new(alloc);
+    if !add_signatures(alloc, sample.rules, &mut signatures) {
+        return false;
+    }
+    match language(alloc, sample) {
+        Ok(language) => {
+            let releases = releases_in(alloc, &language, &signatures);
+            language.release();
+            releases
+        }
+        Err(_) => false,
+    }
+}
+
+#[test]
+fn a_release_drops_the_trees_of_earlier_texts(rt: HostRuntime) {
+    assert!(rt; releases(rt.alloc(), &LISTS));
 }

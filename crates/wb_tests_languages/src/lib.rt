@@ -3,6 +3,7 @@
 
 mod editing;
 mod generating;
+mod long_editing;
 mod parsing;
 mod sample;
 mod samples;
