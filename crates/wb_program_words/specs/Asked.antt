@@ -3,7 +3,8 @@ use Rattle.std.specs.Prelude.{ℕ, List, map, String, string_bytes}
 use Rattle.std.specs.declared.alloc.Global.{Global}
 use Rattle.wb_program_words.specs.declared.command.Command.{Command}
 use Rattle.wb_program_words.specs.declared.command.Command.TheVariants.{Value, Show, Check, Certify, Compose, Tree, Run, Generate}
-use Rattle.wb_program_words.specs.declared.command.Command.TheVariants.{Certificate, Reading}
+use Rattle.wb_program_words.specs.declared.command.Command.TheVariants.{Certificate, Recheck, Reading}
+use Rattle.wb_program_words.specs.declared.command.Command.TheVariants.{Edit}
 
 -- what is asked, one variant a command
 pub data Asked : Type 0 where
@@ -25,6 +26,10 @@ pub data Asked : Type 0 where
   generate : (number size : ℕ) (attribute host : List ℕ) (extensions : List (List ℕ)) → Asked
   -- write the certificate of the host, or where there is an extension, of that with the host
   certificate : (host : List ℕ) (extensions : List (List ℕ)) → Asked
+  -- certify the host by its certificate, and where there is an extension, that with the host by its certificate, which is the second word
+  recheck : (host certificate : List ℕ) (extension : List (List ℕ)) → Asked
+  -- print the tree of a text, and that after each edit of a list
+  edit : (text edits host : List ℕ) (extensions : List (List ℕ)) → Asked
   -- say whether a text reads as in its host alone, or which marker is the first in it
   reading : (text host : List ℕ) (extensions : List (List ℕ)) → Asked
 
@@ -43,4 +48,6 @@ asked_by (Tree text host extensions) = tree text.now host.now (texts extensions.
 asked_by (Run text attribute steps host extensions) = run text.now attribute.now steps host.now (texts extensions.now)
 asked_by (Generate number size attribute host extensions) = generate number size attribute.now host.now (texts extensions.now)
 asked_by (Certificate host extensions) = certificate host.now (texts extensions.now)
+asked_by (Recheck host text extension) = recheck host.now text.now (texts extension.now)
+asked_by (Edit text edits host extensions) = edit text.now edits.now host.now (texts extensions.now)
 asked_by (Reading text host extensions) = reading text.now host.now (texts extensions.now)

@@ -11,9 +11,11 @@ use Rattle.wb_program_words.specs.declared.rows.Form.{Form}
 use Rattle.wb_program_words.specs.declared.rows.Form.TheVariants as f
 use Rattle.wb_program_words.specs.declared.rows.OptionName.{OptionName}
 use Rattle.wb_program_words.specs.declared.rows.OptionName.TheVariants.{Text, Attribute, Steps, Number, Size}
+use Rattle.wb_program_words.specs.declared.rows.OptionName.TheVariants.{Edits}
 use Rattle.wb_program_words.specs.declared.rows.Verb.{Verb}
 use Rattle.wb_program_words.specs.declared.rows.Verb.TheVariants.{Value, Show, Check, Certify, Compose, Tree, Run, Generate}
-use Rattle.wb_program_words.specs.declared.rows.Verb.TheVariants.{Certificate, Reading}
+use Rattle.wb_program_words.specs.declared.rows.Verb.TheVariants.{Certificate, Recheck, Reading}
+use Rattle.wb_program_words.specs.declared.rows.Verb.TheVariants.{Edit}
 
 -- how an option is named
 abbrev pub name_of : OptionName → List ℕ
@@ -22,6 +24,7 @@ name_of Attribute = codes "attr"
 name_of Steps = codes "steps"
 name_of Number = codes "number"
 name_of Size = codes "size"
+name_of Edits = codes "edits"
 
 -- what the value of an option is: a word as it is written, or a number within bounds, which may be one that stands where none is given
 abbrev pub form_of : OptionName → Form
@@ -30,6 +33,7 @@ form_of Attribute = f.Word
 form_of Steps = f.NumberOr 1 10000000 1000000
 form_of Number = f.Number 0 (2 ^ 64 - 1)
 form_of Size = f.Number 0 100000
+form_of Edits = f.Word
 
 -- how a verb is written, which options it has, in the order of their values, and how many positional words come after them
 pub record Row : Type 0 where
@@ -57,6 +61,10 @@ row_of Run = record { verb = codes "run"; options = Text ∷ Attribute ∷ Steps
 row_of Generate = record { verb = codes "generate"; options = Number ∷ Size ∷ Attribute ∷ []; words = From 1 }
 -- certificate HOST [EXT]
 row_of Certificate = record { verb = codes "certificate"; options = []; words = Either 1 2 }
+-- recheck HOST CERT [EXT CERT]
+row_of Recheck = record { verb = codes "recheck"; options = []; words = Either 2 4 }
+-- edit --text FILE --edits FILE HOST EXT..
+row_of Edit = record { verb = codes "edit"; options = Text ∷ Edits ∷ []; words = From 1 }
 -- reading --text FILE HOST EXT..
 row_of Reading = record { verb = codes "reading"; options = Text ∷ []; words = From 1 }
 
@@ -83,4 +91,6 @@ asked_of Tree values words = a.tree (text_at values 0) (word_at words 0) (drop 1
 asked_of Run values words = a.run (text_at values 0) (text_at values 1) (number_at values 2) (word_at words 0) (drop 1 words)
 asked_of Generate values words = a.generate (number_at values 0) (number_at values 1) (text_at values 2) (word_at words 0) (drop 1 words)
 asked_of Certificate values words = a.certificate (word_at words 0) (drop 1 words)
+asked_of Recheck values words = a.recheck (word_at words 0) (word_at words 1) (drop 1 (drop 1 words))
+asked_of Edit values words = a.edit (text_at values 0) (text_at values 1) (word_at words 0) (drop 1 words)
 asked_of Reading values words = a.reading (text_at values 0) (word_at words 0) (drop 1 words)

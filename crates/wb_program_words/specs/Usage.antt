@@ -4,4 +4,4 @@ use lib.Chars.{codes}
 
 -- the line for them
 abbrev pub usage_line : List ℕ
-usage_line = codes "usage: workbench value|show|check|certify|compose|tree|run|generate|certificate|reading ARGUMENTS\n"
+usage_line = codes "usage: workbench value|show|check|certify|compose|tree|run|generate|certificate|recheck|edit|reading ARGUMENTS\n"

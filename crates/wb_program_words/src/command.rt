@@ -54,6 +54,19 @@ pub enum Command<'a> {
         host: &'a str,
         extensions: &'a [String],
     },
+    /// `recheck HOST CERT [EXT CERT]`; an extension and its certificate, or neither
+    Recheck {
+        host: &'a str,
+        certificate: &'a str,
+        extension: &'a [String],
+    },
+    /// `edit --text FILE --edits FILE HOST EXT..`
+    Edit {
+        text: &'a str,
+        edits: &'a str,
+        host: &'a str,
+        extensions: &'a [String],
+    },
     /// `reading --text FILE HOST EXT..`
     Reading {
         text: &'a str,

@@ -17,6 +17,8 @@ pub enum Verb {
     Run,
     Generate,
     Certificate,
+    Recheck,
+    Edit,
     Reading,
 }
 
@@ -28,6 +30,7 @@ pub enum OptionName {
     Steps,
     Number,
     Size,
+    Edits,
 }
 
 /// What the value of an option is.
@@ -75,6 +78,9 @@ static OF_TEXT: [OptionName; 1] = [OptionName::Text];
 // Those of `run`.
 static OF_RUN: [OptionName; 3] = [OptionName::Text, OptionName::Attribute, OptionName::Steps];
 
+// Those of `edit`.
+static OF_EDIT: [OptionName; 2] = [OptionName::Text, OptionName::Edits];
+
 // Those of `generate`.
 static OF_GENERATE: [OptionName; 3] = [OptionName::Number, OptionName::Size, OptionName::Attribute];
 
@@ -121,6 +127,14 @@ pub(crate) fn row_of(verb: Verb) -> Row
             options: &NONE,
             words: Count::Either(1, 2),
         },
+        Verb::Recheck => Row {
+            options: &NONE,
+            words: Count::Either(2, 4),
+        },
+        Verb::Edit => Row {
+            options: &OF_EDIT,
+            words: Count::From(1),
+        },
         Verb::Reading => Row {
             options: &OF_TEXT,
             words: Count::From(1),
@@ -143,6 +157,8 @@ pub(crate) fn verb_of(word: &str) -> Option<Verb>
         "run" => Some(Verb::Run),
         "generate" => Some(Verb::Generate),
         "certificate" => Some(Verb::Certificate),
+        "recheck" => Some(Verb::Recheck),
+        "edit" => Some(Verb::Edit),
         "reading" => Some(Verb::Reading),
         _ => None,
     }
@@ -158,6 +174,7 @@ pub(crate) fn name_of(option: OptionName) -> &'static str
         OptionName::Steps => "steps",
         OptionName::Number => "number",
         OptionName::Size => "size",
+        OptionName::Edits => "edits",
     }
 }
 
@@ -181,5 +198,6 @@ pub(crate) fn form_of(option: OptionName) -> Form
             least: 0,
             most: 100_000,
         },
+        OptionName::Edits => Form::Word,
     }
 }

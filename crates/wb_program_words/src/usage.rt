@@ -7,5 +7,5 @@ ghost use Rattle.wb_program_words.specs.Usage.{usage_line};
 pub fn usage_line() -> &'static str
     ensures { result.now ≡ usage_line }
 {
-    "usage: workbench value|show|check|certify|compose|tree|run|generate|certificate|reading ARGUMENTS\n"
+    "usage: workbench value|show|check|certify|compose|tree|run|generate|certificate|recheck|edit|reading ARGUMENTS\n"
 }

@@ -69,6 +69,17 @@ fn command_with<'a>(verb: Verb, values: &[Value<'a>], words: &'a [String]) -> Co
         Verb::Run => run_with(values, words),
         Verb::Generate => generate_with(values, words),
         Verb::Certificate => Command::Certificate { host, extensions },
+        Verb::Recheck => Command::Recheck {
+            host,
+            certificate: word_at(words, 1),
+            extension: words_after(extensions),
+        },
+        Verb::Edit => Command::Edit {
+            text: text_at(values, 0),
+            edits: text_at(values, 1),
+            host,
+            extensions,
+        },
         Verb::Reading => Command::Reading {
             text: text_at(values, 0),
             host,

@@ -35,6 +35,7 @@ done_lines (d.Certified host extensions) = codes "certified host " ++ host ++ co
 done_lines (d.Composed host extensions prefixed) =
     codes "composed " ++ host ++ codes " with " ++ decimal extensions ++ codes " extensions\n" ++ prefix_lines prefixed
 done_lines (d.Tree text) = text ++ codes "\n"
+done_lines (d.Edited lines) = lines
 done_lines (d.Generated leaves bytes attribute value) =
     codes "leaves " ++ decimal leaves ++ codes "\nbytes " ++ decimal bytes ++ codes "\n" ++ value_line attribute value
 done_lines (d.Rechecked host extension) = rechecked_lines host extension

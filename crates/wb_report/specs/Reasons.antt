@@ -6,6 +6,8 @@ use Rattle.wb_report.specs.declared.attribute_reason.AttributeReason.{AttributeR
 use Rattle.wb_report.specs.declared.attribute_reason.AttributeReason.TheVariants as a
 use Rattle.wb_report.specs.declared.certificate_reason.CertificateReason.{CertificateReason}
 use Rattle.wb_report.specs.declared.certificate_reason.CertificateReason.TheVariants as k
+use Rattle.wb_report.specs.declared.edits_reason.EditsReason.{EditsReason}
+use Rattle.wb_report.specs.declared.edits_reason.EditsReason.TheVariants as u
 use Rattle.wb_report.specs.declared.extension_reason.ExtensionReason.{ExtensionReason}
 use Rattle.wb_report.specs.declared.extension_reason.ExtensionReason.TheVariants as e
 use Rattle.wb_report.specs.declared.grammar_reason.GrammarReason.{GrammarReason}
@@ -87,6 +89,13 @@ certificate_text (k.WrongLine line) = codes "K2 line " ++ decimal line
 certificate_text (k.Missing kernel) = codes "K3 kernel " ++ decimal kernel
 certificate_text k.TooLong = codes "K4"
 
+-- the rules of lists of edits
+abbrev pub edits_text : EditsReason → List ℕ
+edits_text (u.Syntax offset) = codes "U1 at " ++ decimal offset
+edits_text (u.OutOfRange line) = codes "U2 line " ++ decimal line
+edits_text (u.TextTooLong line) = codes "U3 line " ++ decimal line
+edits_text u.TooLong = codes "U4"
+
 -- why a file is refused
 abbrev pub refusal_text : Refusal → List ℕ
 refusal_text (r.Specification reason) = spec_text reason
@@ -95,3 +104,4 @@ refusal_text (r.Extension reason) = extension_text reason
 refusal_text (r.Attributes reason) = attribute_text reason
 refusal_text (r.Term reason) = term_text reason
 refusal_text (r.Certificate reason) = certificate_text reason
+refusal_text (r.Edits reason) = edits_text reason

@@ -32,6 +32,8 @@ pub enum Done {
     },
     /// A printed tree.
     Tree(Sequence<u8>),
+    /// The lines of a text and of what becomes of it by each of its edits.
+    Edited(Sequence<u8>),
     /// A generated text with so many leaves and bytes, and an attribute with its printed value.
     Generated {
         leaves: u64,
@@ -76,6 +78,7 @@ pub(crate) fn push_done(out: &mut Vec<u8>, done: &Done) -> Result<(), AllocError
             out.extend_from_slice(text.as_slice())?;
             out.extend_from_slice(b"\n")
         }
+        Done::Edited(lines) => out.extend_from_slice(lines.as_slice()),
         Done::Generated {
             leaves,
             bytes,

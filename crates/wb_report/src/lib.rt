@@ -6,6 +6,7 @@
 mod attribute_reason;
 mod certificate_reason;
 mod done;
+mod edits_reason;
 mod extension_reason;
 mod grammar_reason;
 mod lines;
@@ -18,6 +19,7 @@ mod spec_reason;
 pub use attribute_reason::AttributeReason;
 pub use certificate_reason::CertificateReason;
 pub use done::Done;
+pub use edits_reason::EditsReason;
 pub use extension_reason::ExtensionReason;
 pub use grammar_reason::GrammarReason;
 pub use lines::report;

@@ -5,11 +5,13 @@ ghost use Rattle.wb_report.specs.Reasons.{refusal_text};
 
 use crate::attribute_reason::push_attribute_reason;
 use crate::certificate_reason::push_certificate_reason;
+use crate::edits_reason::push_edits_reason;
 use crate::extension_reason::push_extension_reason;
 use crate::grammar_reason::push_grammar_reason;
 use crate::spec_reason::{push_spec_reason, push_term_reason};
 use crate::{
-    AttributeReason, CertificateReason, ExtensionReason, GrammarReason, SpecReason, TermReason,
+    AttributeReason, CertificateReason, EditsReason, ExtensionReason, GrammarReason, SpecReason,
+    TermReason,
 };
 use std::alloc::AllocError;
 
@@ -28,6 +30,8 @@ pub enum Refusal {
     Term(TermReason),
     /// Certificates.
     Certificate(CertificateReason),
+    /// Lists of edits.
+    Edits(EditsReason),
 }
 
 // Appends why a file is refused.
@@ -41,5 +45,6 @@ pub(crate) fn push_refusal(out: &mut Vec<u8>, refusal: &Refusal) -> Result<(), A
         Refusal::Attributes(reason) => push_attribute_reason(out, reason),
         Refusal::Term(reason) => push_term_reason(out, reason),
         Refusal::Certificate(reason) => push_certificate_reason(out, reason),
+        Refusal::Edits(reason) => push_edits_reason(out, reason),
     }
 }
