@@ -110,9 +110,7 @@ module _ (host : ResolvedParts) (h : GrammarView) (operations : List OperationSi
       y_at ∙ ap Some (sym (extended_is x y (all_at Both xs k x one at) (all_at Both ys (to k) y two y_at) is))
 
   module _ (xs ys : List Extended) (one : AreCertifiedApart host h operations xs) (two : AreCertifiedApart host h operations ys)
-      (to from : ℕ → ℕ) (re : IsReordering to from (resolved_in xs) (resolved_in ys)) (l m : LanguageView)
-      (l_is : IsUnitedLanguage h host.extensible (lexicon_of host h) (written_in xs) l)
-      (m_is : IsUnitedLanguage h host.extensible (lexicon_of host h) (written_in ys) m) (ok : IsLanguage m) where
+      (to from : ℕ → ℕ) (re : IsReordering to from (resolved_in xs) (resolved_in ys)) where
     reordered_are : IsReordering to from xs ys
     reordered_are = record {
       there = extended_there xs ys to one.each two.each re.there;
@@ -121,18 +119,14 @@ module _ (host : ResolvedParts) (h : GrammarView) (operations : List OperationSi
       redone = re.redone;
     }
 
-    written_are : IsReordering to from (written_in xs) (written_in ys)
+    pub written_are : IsReordering to from (written_in xs) (written_in ys)
     written_are = reordering_map (λ (e : Extended). written_with e.resolved e.grammar) reordered_are
 
-    abbrev names : Renaming
+    abbrev pub names : Renaming
     names = names_to h host.extensible (written_in xs) (written_in ys) to
 
-    same : HasSameAnswers names l m
-    same = same_union_answers h host.extensible (lexicon_of host h) (written_in xs) (written_in ys) to from
-        (all_certified host h operations xs one).are_pieces written_are l m l_is m_is
-
     -- terminals have the same names
-    named : (t : ℕ) → name_at (terminals_of host (resolved_in ys)) (names.terminal t) ≡ name_at (terminals_of host (resolved_in xs)) t
+    pub named : (t : ℕ) → name_at (terminals_of host (resolved_in ys)) (names.terminal t) ≡ name_at (terminals_of host (resolved_in xs)) t
     named t =
         let own = own_terminals host h operations xs one in
         let first = terminal_lens host h operations one.host_start xs one.each in
@@ -142,23 +136,29 @@ module _ (host : ResolvedParts) (h : GrammarView) (operations : List OperationSi
         (map length (map (added_names host) (resolved_in ys))) to t ≡ names.terminal t = λ z. number_to (own z) (first z) (second z) to t in
         ap (name_at (terminals_of host (resolved_in ys))) (sym number) ∙ ap or_end there
 
-    -- and trees are printed alike
-    printed_there : (text : List ℕ) (p : List ℕ)
-        (tree : HasPrintedTree (terminals_of host (resolved_in xs)) (signatures_of host (resolved_in xs)) l text p) (q : List ℕ)
-        (other : HasPrintedTree (terminals_of host (resolved_in ys)) (signatures_of host (resolved_in ys)) m text q) →
-        other.root ≡ renamed_forest names tree.root → p ≡ q
-    printed_there text p tree q other root =
-        let blocks = reordering_map (λ (r : ResolvedParts). map (λ (s : Signature). s.name) (added_signatures host r)) re in
-        let turn = names_there (in_turn_are host h operations xs one) (in_turn_are host h operations ys two) blocks l.grammar in
-        tree.is ∙ (sym (printed_alike names l.grammar (signatures_of host (resolved_in xs)) (signatures_of host (resolved_in ys)) turn
-        tree.root tree.parses.is_tree tree.value other.value tree.shows (subst (Shows other.value) root other.shows)) ∙ sym other.is)
+    module _ (l m : LanguageView) (l_is : IsUnitedLanguage h host.extensible (lexicon_of host h) (written_in xs) l)
+        (m_is : IsUnitedLanguage h host.extensible (lexicon_of host h) (written_in ys) m) (ok : IsLanguage m) where
+      same : HasSameAnswers names l m
+      same = same_union_answers h host.extensible (lexicon_of host h) (written_in xs) (written_in ys) to from
+          (all_certified host h operations xs one).are_pieces written_are l m l_is m_is
 
-    pub one_in_both : (text : List ℕ) (x y : TextAnswer) →
-        IsAnswerIn (terminals_of host (resolved_in xs)) (signatures_of host (resolved_in xs)) l text x →
-        IsAnswerIn (terminals_of host (resolved_in ys)) (signatures_of host (resolved_in ys)) m text y → x ≡ y
-    one_in_both text x y first second =
-        one_answer names l m same ok (terminals_of host (resolved_in xs)) (terminals_of host (resolved_in ys)) named
-        (signatures_of host (resolved_in xs)) (signatures_of host (resolved_in ys)) printed_there text x y first second
+      -- and trees are printed alike
+      printed_there : (text : List ℕ) (p : List ℕ)
+          (tree : HasPrintedTree (terminals_of host (resolved_in xs)) (signatures_of host (resolved_in xs)) l text p) (q : List ℕ)
+          (other : HasPrintedTree (terminals_of host (resolved_in ys)) (signatures_of host (resolved_in ys)) m text q) →
+          other.root ≡ renamed_forest names tree.root → p ≡ q
+      printed_there text p tree q other root =
+          let blocks = reordering_map (λ (r : ResolvedParts). map (λ (s : Signature). s.name) (added_signatures host r)) re in
+          let turn = names_there (in_turn_are host h operations xs one) (in_turn_are host h operations ys two) blocks l.grammar in
+          tree.is ∙ (sym (printed_alike names l.grammar (signatures_of host (resolved_in xs)) (signatures_of host (resolved_in ys)) turn
+          tree.root tree.parses.is_tree tree.value other.value tree.shows (subst (Shows other.value) root other.shows)) ∙ sym other.is)
+
+      pub one_in_both : (text : List ℕ) (x y : TextAnswer) →
+          IsAnswerIn (terminals_of host (resolved_in xs)) (signatures_of host (resolved_in xs)) l text x →
+          IsAnswerIn (terminals_of host (resolved_in ys)) (signatures_of host (resolved_in ys)) m text y → x ≡ y
+      one_in_both text x y first second =
+          one_answer names l m same ok (terminals_of host (resolved_in xs)) (terminals_of host (resolved_in ys)) named
+          (signatures_of host (resolved_in xs)) (signatures_of host (resolved_in ys)) printed_there text x y first second
 
 pub same_answer : (host : ResolvedParts) (operations : List OperationSignature) (extensions others : List ResolvedParts) (to from : ℕ → ℕ) →
     IsReordering to from extensions others → HasSameAnswer host operations extensions others

@@ -71,13 +71,13 @@ module _ {s a : AttributionParts} {t : NumberMap} (is : IsAttribution s) (ok : I
 
 module _ (host : ResolvedParts) (operations : List OperationSignature) (extensions : List ResolvedParts)
     (differ : Differ (map name_in extensions)) (all : Union host operations extensions) where
-  abbrev a : AttributionParts
+  abbrev pub a : AttributionParts
   a = attributes_in host operations extensions all
 
-  abbrev alone : Union host operations []
+  abbrev pub alone : Union host operations []
   alone = alone_with host operations extensions all
 
-  abbrev t : NumberMap
+  abbrev pub t : NumberMap
   t = numbers host operations extensions differ all
 
   -- what may be asked by the host alone
@@ -89,18 +89,24 @@ module _ (host : ResolvedParts) (operations : List OperationSignature) (extensio
       (attributes_extend host operations extensions differ all) refl name all.grammar.start y
       (asked_there host operations [] alone none name y asked))
 
-  no_root : (name : List ℕ) → IsHostAttribute host name → HasNoRootAttribute host operations [] name → (x : ℕ) →
-      ¬ IsAskedIn host operations extensions all name x
-  no_root name (y, named) none x asked =
+  -- what may be asked by the name of an attribute of the host is that attribute, and may be asked by the host alone
+  pub root_back : (none : Union host operations []) (name : List ℕ) (y : ℕ) → IsPrintedAs host.attributes name y → (x : ℕ) →
+      IsAskedIn host operations extensions all name x → (x ≡ t.attribute y) × IsAskedIn host operations [] none name y
+  root_back none name y named x asked =
       let ok = are_attribution host operations extensions differ all in
       let is = host_attribution host operations extensions differ all in
       let extends = attributes_extend host operations extensions differ all in
       let here = subst (λ (b : AttributionParts). IsPrintedAs b name y) (host_is host operations extensions differ all) named in
       let same = one_attribute a ok name x (t.attribute y) asked.named (named_there is ok extends refl name y here) in
       let there = subst (λ m. IsAskedOn a name m (t.attribute y)) (sym (start_stays host operations extensions differ all))
-      (subst (IsAskedOn a name all.grammar.start) same asked) in
-      none.none y (asked_there host operations [] none.whole alone name y
-      (asked_back is ok extends refl name all.grammar.start y here there))
+      (subst (IsAskedOn a name all.grammar.start) same asked) in (
+        same,
+        asked_there host operations [] none alone name y (asked_back is ok extends refl name all.grammar.start y here there),
+      )
+
+  no_root : (name : List ℕ) → IsHostAttribute host name → HasNoRootAttribute host operations [] name → (x : ℕ) →
+      ¬ IsAskedIn host operations extensions all name x
+  no_root name (y, named) none x asked = none.none y (root_back none.whole name y named x asked).1
 
   pub same_roots : (name : List ℕ) → IsHostAttribute host name → HasSameRoots host operations extensions name
   same_roots name hosts = record {

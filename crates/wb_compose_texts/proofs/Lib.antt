@@ -29,8 +29,12 @@ pub mod PlainLemmas
 pub mod AskedLemmas
 pub mod ValueLemmas
 mod FlagLemmas
--- the first marker of a text in other languages of one union
+-- the first marker of a text in other numbers
 pub mod MarkerLemmas
--- a text has one reading
+-- a text has one reading, in every order of the extensions
 pub mod OneReading
 mod ReadingLemmas
+-- a host by itself
+pub mod AloneLemmas
+-- what comes of a text with extensions comes of it without
+pub mod ValueAlone

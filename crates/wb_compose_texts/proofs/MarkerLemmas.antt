@@ -1,21 +1,14 @@
--- The first marker of a text by other sets of the same markers, and in other languages of one union.
-use Rattle.std.proofs.Common.{◌≡◌, ◌↔◌, ◌∷◌, ◌∙◌, [], ℕ, Bool, List, map, ap, subst}
+-- The first marker of a text by other sets of the same markers, and in a language in other numbers.
+use Rattle.std.proofs.Common.{◌↔◌, ◌∷◌, ◌∙◌, [], ℕ, Bool, List, map, ap}
 use Rattle.std.proofs.lemmas.List.{map-append}
-use Rattle.wb_base.specs.Grammar.{GrammarView}
 use Rattle.wb_compose_theory.specs.Renamings.{renamed}
-use Rattle.wb_compose_theory_grammar.specs.Pieces.{ArePieces}
-use Rattle.wb_compose_theory_language.specs.Languages.{IsUnitedLanguage}
-use Rattle.wb_compose_theory_language.specs.Written.{WrittenPiece, pieces_of}
 use Rattle.wb_compose_theory_order.specs.Answers.{renamed_forest}
 use Rattle.wb_compose_theory_order.specs.Languages.{IsSameLanguage, Renumbering}
-use Rattle.wb_compose_theory_order.proofs.LanguageLemmas.{same_union}
 use Rattle.wb_compose_theory_order.proofs.TextLemmas.{derivation_there, leaves_there, next_there, on_text_there, renamed_leaf}
-use Rattle.wb_compose_texts.proofs.SameLanguage.{same_number, still}
-use Rattle.wb_determinism_contexts.specs.Considered.{LexiconView}
 use Rattle.wb_grammar_theory.specs.Trees.{Leaf}
 use Rattle.wb_reading_theory.specs.Markers.{HasNoMarker, IsMarkerAt, IsPlain}
 use Rattle.wb_scan_theory.specs.Languages.{LanguageView}
-use Rattle.wb_scan_theory.specs.Tokens.{NextToken, token}
+use Rattle.wb_scan_theory.specs.Tokens.{NextToken}
 use Rattle.wb_termset.specs.Sets.{IsMember}
 
 module _ (a b : List Bool) (same : (t : ℕ) → IsMember a t ↔ IsMember b t) where
@@ -49,15 +42,15 @@ pub plain_by : (a b : List Bool) → ((t : ℕ) → IsMember a t ↔ IsMember b 
 plain_by a b same l text plain place marker x =
     plain place marker (marker_by b a (λ t. ((same t).1, (same t).0)) l text place marker x)
 
-module _ {r s : Renumbering} {l m : LanguageView} (same : IsSameLanguage r s l m) (stays : (t : ℕ) → r.names.terminal t ≡ t)
-    (markers : List Bool) where
-  none_there : (xs : List Leaf) → HasNoMarker markers xs → HasNoMarker markers (map (renamed_leaf r.names) xs)
+module _ {r s : Renumbering} {l m : LanguageView} (same : IsSameLanguage r s l m) (markers others : List Bool)
+    (moved : (t : ℕ) → IsMember markers t ↔ IsMember others (r.names.terminal t)) where
+  none_there : (xs : List Leaf) → HasNoMarker markers xs → HasNoMarker others (map (renamed_leaf r.names) xs)
   none_there [] none_in = tt
-  none_there (x ∷ xs) (first, rest) =
-      (λ has. first (subst (IsMember markers) (stays x.terminal) has), none_there xs rest)
+  none_there (x ∷ xs) (first, rest) = (λ has. first ((moved x.terminal).1 has), none_there xs rest)
 
-  -- where terminals keep their numbers, a first marker in one language is one in the other
-  pub marker_there : (text : List ℕ) (place marker : ℕ) → IsMarkerAt l markers text place marker → IsMarkerAt m markers text place marker
+  -- where markers move to markers and nothing else does, a first marker in one language is one in the other
+  pub marker_there : (text : List ℕ) (place marker : ℕ) → IsMarkerAt l markers text place marker →
+      IsMarkerAt m others text place (r.names.terminal marker)
   marker_there text place marker x = record {
     tree = renamed_forest r.names x.tree;
     is_tree = derivation_there same.there.grammar x.tree x.is_tree;
@@ -72,16 +65,6 @@ module _ {r s : Renumbering} {l m : LanguageView} (same : IsSameLanguage r s l m
         x.prefix x.from x.on_text;
     lexeme = x.lexeme;
     after = x.after;
-    is_next = subst (λ t. NextToken m text (map (renamed r.names) x.prefix) x.from (token place t x.lexeme x.after)) (stays marker)
-        (next_there same text x.prefix x.is_next);
-    marks = x.marks;
+    is_next = next_there same text x.prefix x.is_next;
+    marks = (moved marker).0 x.marks;
   }
-
--- so it is in two languages of one union
-pub marker_in_union : (host : GrammarView) (extensible : List ℕ) (own : LexiconView) (written : List WrittenPiece) →
-    ArePieces host extensible (pieces_of written) → (l m : LanguageView) → IsUnitedLanguage host extensible own written l →
-    IsUnitedLanguage host extensible own written m → (markers : List Bool) (text : List ℕ) (place marker : ℕ) →
-    IsMarkerAt l markers text place marker → IsMarkerAt m markers text place marker
-marker_in_union host extensible own written ok l m is also markers text place marker =
-    marker_there (same_union host extensible own written written (λ k. k) (λ k. k) ok (still written) l m is also).2
-    (same_number _ _) markers text place marker

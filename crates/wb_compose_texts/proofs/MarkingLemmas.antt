@@ -71,7 +71,7 @@ marked_true true o a is = refl
 marked_true false o a is = let bad : bare ≡ on a = is in absurd (cc bad)
 
 module _ (host : ResolvedParts) (h : GrammarView) (operations : List OperationSignature) where
-  abbrev Both : Extended → Type 0
+  abbrev pub Both : Extended → Type 0
   Both e = AreCertifiedBoth host e.resolved h e.grammar operations
 
   -- a marker of a certified extension has its mark, and nothing else has one
@@ -89,7 +89,7 @@ module _ (host : ResolvedParts) (h : GrammarView) (operations : List OperationSi
 
   module _ (start : host.grammar ≡ Some h) where
     -- each extension has a flag for each terminal that it adds
-    flag_lens : (xs : List Extended) → All Both xs →
+    pub flag_lens : (xs : List Extended) → All Both xs →
         map length (map (added_markers host) (resolved_in xs)) ≡ terminal_sizes h host.extensible (pieces_of (written_in xs))
     flag_lens [] each = refl
     flag_lens (e ∷ xs) each =

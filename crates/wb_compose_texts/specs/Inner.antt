@@ -4,7 +4,7 @@ pub mod Tables
 pub mod Added
 -- what comes of what a text was parsed to
 pub mod Parsed
--- what is composed of a host alone and with extensions, and the first marker by number
-pub mod Pairs
+-- the first marker of a text by number
+pub mod FirstMarkers
 -- sets that are filled
 pub mod Sets

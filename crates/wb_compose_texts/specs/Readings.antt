@@ -36,3 +36,9 @@ abbrev pub HasOneReading : ResolvedParts → List OperationSignature → List Re
 HasOneReading host operations extensions =
     (text : List ℕ) (one other : TextReading) → IsUnionReading host operations extensions text one →
     IsUnionReading host operations extensions text other → one ≡ other
+
+-- with these extensions and with the others a text has one reading at most
+abbrev pub HasSameReading : ResolvedParts → List OperationSignature → (extensions others : List ResolvedParts) → Type 0
+HasSameReading host operations extensions others =
+    (text : List ℕ) (one other : TextReading) → IsUnionReading host operations extensions text one →
+    IsUnionReading host operations others text other → one ≡ other

@@ -40,7 +40,7 @@ pub fn united_text_answer(
     let language = composed.language();
     let _grammar = language.grammar();
     let parsed = parse(alloc, language, text, &mut store)?;
-    answer_of(alloc, host, extensions, &store, parsed)
+    united_parsed_answer(alloc, host, extensions, &store, parsed)
 }
 
 /// Why a text stops, by names.
@@ -74,8 +74,8 @@ pub fn united_name(
     name_of(alloc, names.as_slice(), terminal)
 }
 
-// The answer for what a text was parsed to.
-fn answer_of(
+/// The answer for what a text was parsed to in a language of the union.
+pub fn united_parsed_answer(
     alloc: Global,
     host: &CertifiedHost,
     extensions: &[CertifiedExtension],

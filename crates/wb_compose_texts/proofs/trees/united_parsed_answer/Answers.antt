@@ -3,7 +3,7 @@ use Rattle.wb_parser.specs.Parses.{IsParsed, IsTreeOf}
 use Rattle.wb_compose_texts.specs.Answers.{IsAnswerIn}
 use Rattle.wb_compose_texts.specs.Names.{terminals_of}
 use Rattle.wb_compose_texts.specs.Unions.{all_resolved}
-use Rattle.wb_compose_texts.proofs.trees.answer_of.Goals as goal
+use Rattle.wb_compose_texts.proofs.trees.united_parsed_answer.Goals as goal
 
 pub returns-in_ok-signatures-in-Tree : goal.returns-in_ok-signatures-in-Tree
 returns-in_ok-signatures-in-Tree c l text is =
