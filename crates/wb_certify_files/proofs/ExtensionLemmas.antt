@@ -13,7 +13,7 @@ use Rattle.wb_certify_shown.specs.Extensions.{extension_refusal_shown}
 use Rattle.wb_syntax.specs.SpecText.{HasText, SpecView}
 use Rattle.wb_certify_files.specs.ExtensionContents.{StandsFor, IsOfKinds, IsRefusedValue, IsExtensionRefusal}
 use Rattle.wb_certify_files.specs.Specifications.{IsHeaderRefusal}
-use Rattle.wb_certify_files.specs.Inner.Numbered.{IsNumbered}
+use Rattle.wb_certify_files.specs.Numbered.{IsNumbered}
 use Rattle.wb_certify_files.specs.declared.extension_refusal.FileRefusal.{FileRefusal}
 use Rattle.wb_certify_files.specs.declared.extension_refusal.FileRefusal.TheVariants as f
 use Rattle.wb_certify_files.specs.Inner.RefusedExtensions.{IsSort}

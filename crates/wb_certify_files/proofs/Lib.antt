@@ -1,7 +1,7 @@
 pub mod OneHostAnswer
-mod ShownHosts
-mod UnresolvedLemmas
-mod HostLemmas
+pub mod ShownHosts
+pub mod UnresolvedLemmas
+pub mod HostLemmas
 pub mod OneExtensionAnswer
-mod ShownExtensions
-mod ExtensionLemmas
+pub mod ShownExtensions
+pub mod ExtensionLemmas

@@ -77,7 +77,7 @@ not_memory (t.BadRegex at) shown is memory = absurd memory
 not_memory (t.MatchesEmpty name) shown is memory = absurd memory
 not_memory (t.NoMemory error) shown is memory = none_some is
 
-no_bad_text : (contents : List ℕ) (shown : Refusal) (spec : SpecView) → IsAcceptedText contents spec → IsBadText contents shown → ⊥
+pub no_bad_text : (contents : List ℕ) (shown : Refusal) (spec : SpecView) → IsAcceptedText contents spec → IsBadText contents shown → ⊥
 no_bad_text contents shown spec accepted bad =
     not_memory bad.refusal shown bad.shows (none_refused contents spec bad.refusal accepted bad.cause)
 
@@ -110,7 +110,7 @@ module _ (host : ResolvedParts) where
       two_owners p.owner (subst (λ (z : List (List ℕ)). p.owner ≤ length z) one named.owner))
 
   -- contents stand for one value at most
-  one_value : (contents : List ℕ) (r s : ResolvedParts) → StandsFor host contents r → StandsFor host contents s → r ≡ s
+  pub one_value : (contents : List ℕ) (r s : ResolvedParts) → StandsFor host contents r → StandsFor host contents s → r ≡ s
   one_value contents r s first second =
       let same = one_spec contents second.spec first.spec second.accepted first.accepted in
       let names : ResolvesExtension host first.spec s = subst (λ (z : SpecView). ResolvesExtension host z s) same second.names in
@@ -118,14 +118,14 @@ module _ (host : ResolvedParts) where
       first.names.value s names.value
 
   -- contents that stand for a value name this host
-  no_other_host : (contents name : List ℕ) (r : ResolvedParts) → StandsFor host contents r → NamesOtherHost host contents name → ⊥
+  pub no_other_host : (contents name : List ℕ) (r : ResolvedParts) → StandsFor host contents r → NamesOtherHost host contents name → ⊥
   no_other_host contents name r stands other =
       let same = one_spec contents other.spec stands.spec other.accepted stands.accepted in
       let header = subst (λ (z : SpecView). z.header ≡ h.Extension name) same other.header in
       other.differs (same_name name host.host (sym header ∙ stands.names.header))
 
   -- another host has one name
-  one_host : (contents : List ℕ) (name other : List ℕ) → NamesOtherHost host contents name → NamesOtherHost host contents other
+  pub one_host : (contents : List ℕ) (name other : List ℕ) → NamesOtherHost host contents name → NamesOtherHost host contents other
       → name ≡ other
   one_host contents name other first second =
       let same = one_spec contents first.spec second.spec first.accepted second.accepted in
@@ -152,7 +152,7 @@ module _ (host : ResolvedParts) where
   other_excludes spec name shown header differs (n.NoMemory error) cause = none_some
 
   -- so contents that name another host aren't refused for names
-  names_or_host : (contents : List ℕ) (shown : Refusal) (name : List ℕ) → NamesOtherHost host contents name
+  pub names_or_host : (contents : List ℕ) (shown : Refusal) (name : List ℕ) → NamesOtherHost host contents name
       → HasBadNames host contents shown → ⊥
   names_or_host contents shown name other bad =
       let same = one_spec contents bad.spec other.spec bad.accepted other.accepted in
@@ -184,7 +184,8 @@ one_header host contents = record {
 
 module _ (beside : ExcludesBeside) (names : ExcludesNames) (host : ResolvedParts) where
   -- contents whose names are right aren't refused for names
-  no_bad_names : (contents : List ℕ) (shown : Refusal) (r : ResolvedParts) → StandsFor host contents r → HasBadNames host contents shown → ⊥
+  pub no_bad_names : (contents : List ℕ) (shown : Refusal) (r : ResolvedParts) → StandsFor host contents r
+      → HasBadNames host contents shown → ⊥
   no_bad_names contents shown r stands bad =
       let same = one_spec contents bad.spec stands.spec bad.accepted stands.accepted in
       let cause = subst (λ (z : SpecView). IsExtensionNameRefusal host z bad.refusal) same bad.cause in

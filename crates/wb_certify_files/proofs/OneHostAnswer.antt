@@ -67,7 +67,7 @@ sees_all spec r is alone =
     inl (omega (arith, few)))
 
 -- they stand for one value at most
-one_value : (contents : List ℕ) (r s : ResolvedParts) → StandsFor contents r → StandsFor contents s → r ≡ s
+pub one_value : (contents : List ℕ) (r s : ResolvedParts) → StandsFor contents r → StandsFor contents s → r ≡ s
 one_value contents r s first second =
     let same = one_spec contents second.spec first.spec second.accepted first.accepted in
     let names : ResolvesHost first.spec s = subst (λ (z : SpecView). ResolvesHost z s) same second.names in
@@ -83,7 +83,7 @@ not_memory (t.BadRegex at) shown is memory = absurd memory
 not_memory (t.MatchesEmpty name) shown is memory = absurd memory
 not_memory (t.NoMemory error) shown is memory = none_some is
 
-no_bad_text : (contents : List ℕ) (shown : Refusal) (spec : SpecView) → IsAcceptedText contents spec → IsBadText contents shown → ⊥
+pub no_bad_text : (contents : List ℕ) (shown : Refusal) (spec : SpecView) → IsAcceptedText contents spec → IsBadText contents shown → ⊥
 no_bad_text contents shown spec accepted bad =
     not_memory bad.refusal shown bad.shows (none_refused contents spec bad.refusal accepted bad.cause)
 
@@ -105,14 +105,14 @@ names_exclude spec r shown is (n.Orphan name) (inl (ext, e)) shows =
     no_extension ext.0 (sym is.header ∙ ext.1)
 names_exclude spec r shown is (n.Orphan name) (inr (e, fails)) shows = fails.extension refl
 
-no_bad_names : (contents : List ℕ) (shown : Refusal) (r : ResolvedParts) → StandsFor contents r → HasBadNames contents shown → ⊥
+pub no_bad_names : (contents : List ℕ) (shown : Refusal) (r : ResolvedParts) → StandsFor contents r → HasBadNames contents shown → ⊥
 no_bad_names contents shown r stands bad =
     let same = one_spec contents bad.spec stands.spec bad.accepted stands.accepted in
     names_exclude stands.spec r shown stands.names bad.refusal
     (subst (λ (z : SpecView). IsHostNameRefusal z bad.refusal) same bad.cause) bad.shows
 
 module _ (r : ResolvedParts) (operations : List OperationSignature) where
-  kinds_exclude : KindsOk r.attributes operations → (refusal : TypeRefusal) → IsTrueRefusal r.attributes operations refusal
+  pub kinds_exclude : KindsOk r.attributes operations → (refusal : TypeRefusal) → IsTrueRefusal r.attributes operations refusal
       → ¬ IsTypeMemory refusal → ⊥
   kinds_exclude ok (k.UnknownOperation name) fails other = ((one_kinds r.attributes operations).rules ok).unknown name fails
   kinds_exclude ok (k.WrongArity at) fails other = ((one_kinds r.attributes operations).rules ok).arity at fails
@@ -193,7 +193,8 @@ module _ (r : ResolvedParts) (operations : List OperationSignature) where
   kinds_before shown (c.NoMemory error) reason other shows = absurd (none_some shows)
 
   -- a refusal for kinds is false where they are right
-  kinds_refuse : KindsOk r.attributes operations → (refusal : CertifyRefusal) → IsValueRefusal r operations refusal → IsOfKinds refusal → ⊥
+  pub kinds_refuse : KindsOk r.attributes operations → (refusal : CertifyRefusal) → IsValueRefusal r operations refusal
+      → IsOfKinds refusal → ⊥
   kinds_refuse ok (c.Names refusal) reason of_kinds = absurd of_kinds
   kinds_refuse ok (c.Types refusal) reason of_kinds = kinds_exclude ok refusal reason.0 reason.1
   kinds_refuse ok c.NoStart reason of_kinds = absurd of_kinds

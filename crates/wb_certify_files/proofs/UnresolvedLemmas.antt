@@ -5,7 +5,7 @@ use Rattle.wb_certify_files.specs.HostContents.{IsHostRefusal}
 use Rattle.wb_certify_files.specs.WellDefined.{IsWellDefinedTextRefusal}
 use Rattle.wb_certify_files.specs.declared.host_refusal.HostRefusal.{HostRefusal}
 use Rattle.wb_certify_files.specs.declared.host_refusal.HostRefusal.TheVariants as h
-use Rattle.wb_certify_files.specs.Inner.Unresolved.{IsUnresolved}
+use Rattle.wb_certify_files.specs.Unresolved.{IsUnresolved}
 
 -- no certified one
 pub host_unresolved : (operations : List OperationSignature) (contents : List ℕ) (refusal : HostRefusal) → IsUnresolved contents refusal

@@ -3,7 +3,7 @@
 //! They are read, names get their numbers beside the host, and the value that they stand for is certified with it; each refusal is handed
 //! on as a report shows it.
 
-ghost use Rattle.std.specs.Prelude.{◌≡◌, ◌≢◌, IfErr, IfOk, List, None};
+ghost use Rattle.std.specs.Prelude.{◌≡◌, ◌≢◌, IfErr, IfOk, List, [], None};
 ghost use Rattle.wb_certify.specs.Kept.{Extends};
 ghost use Rattle.wb_certify.specs.Refusals.{IsBesideRefusal};
 ghost use Rattle.wb_certify_host.specs.Refusals.{IsNameMemory};
@@ -14,7 +14,7 @@ ghost use Rattle.wb_certify_shown.specs.Extensions.{extension_refusal_shown};
 ghost use Rattle.wb_syntax.specs.SpecText.{SpecView};
 ghost use Rattle.wb_certify_files.specs.ExtensionContents.{IsExtensionRefusal, IsExtensionText};
 ghost use Rattle.wb_certify_files.specs.Specifications.{IsExtensionSpec, IsSpecRefusal};
-ghost use Rattle.wb_certify_files.specs.Inner.Numbered.{IsNumbered};
+ghost use Rattle.wb_certify_files.specs.Numbered.{IsNumbered, IsOfNames};
 ghost use Rattle.wb_certify_files.specs.Inner.RefusedExtensions.{IsOtherHost, IsSort};
 
 use crate::FileRefusal;
@@ -67,12 +67,32 @@ pub fn extension_of_spec<M: Meaning>(
     ensures operations { IfOk result (λ extension. extension.operations ≡ host.now.operations) }
     ensures refused { IfErr result (IsSpecRefusal host.now.resolved host.now.operations spec.now) }
 {
-    let resolved = value_of(alloc, host, spec)?;
+    let resolved = resolved_extension_of(alloc, host.resolved(), spec)?;
     // Some text is the specification.
     spec.items();
     let answer = certified(alloc, host, &resolved, operations);
     resolved.release();
     answer
+}
+
+/// The host with an extension by numbers, where a specification is that of the extension, or why it is none: a name is wrong, or the
+/// extension is for another host.
+pub fn resolved_extension_of(
+    alloc: Global,
+    host: &Resolved,
+    spec: &Spec,
+) -> Result<Resolved, FileRefusal>
+    requires { host.now.attributes.extensions ≡ [] }
+    ensures ok { IfOk result (IsNumbered host.now spec.now) }
+    ensures refused { IfErr result (λ refusal. (operations : List OperationSignature) → IsSpecRefusal host.now operations spec.now refusal) }
+    ensures names { IfErr result IsOfNames }
+{
+    match resolve_extension(alloc, host, spec) {
+        Ok(resolved) => Ok(resolved),
+        Err(NameRefusal::NoMemory(error)) => Err(FileRefusal::NoMemory(error)),
+        Err(NameRefusal::WrongHost(name)) => Err(FileRefusal::WrongHost(name)),
+        Err(refusal) => Err(bad_names(refusal)),
+    }
 }
 
 // The certified extension that a value is.
@@ -100,24 +120,12 @@ fn certified<M: Meaning>(
     }
 }
 
-// The numbered value of the host with the extension that a specification is.
-fn value_of(alloc: Global, host: &CertifiedHost, spec: &Spec) -> Result<Resolved, FileRefusal>
-    ensures ok { IfOk result (IsNumbered host.now.resolved spec.now) }
-    ensures refused { IfErr result (λ refusal. (operations : List OperationSignature) → IsSpecRefusal host.now.resolved operations spec.now refusal) }
-{
-    match resolve_extension(alloc, host.resolved(), spec) {
-        Ok(resolved) => Ok(resolved),
-        Err(NameRefusal::NoMemory(error)) => Err(FileRefusal::NoMemory(error)),
-        Err(NameRefusal::WrongHost(name)) => Err(FileRefusal::WrongHost(name)),
-        Err(refusal) => Err(bad_names(refusal)),
-    }
-}
-
 // What is shown of a specification whose names aren't right.
 fn bad_names(refusal: NameRefusal) -> FileRefusal
     requires host { ¬ IsOtherHost refusal }
     requires memory { ¬ IsNameMemory refusal }
-    ensures { (host : ResolvedParts) (operations : List OperationSignature) (spec : SpecView) → IsExtensionNameRefusal host spec refusal → IsSpecRefusal host operations spec result }
+    ensures shown { (host : ResolvedParts) (operations : List OperationSignature) (spec : SpecView) → IsExtensionNameRefusal host spec refusal → IsSpecRefusal host operations spec result }
+    ensures names { IsOfNames result }
 {
     let rule = name_rule(&refusal);
     refusal.release();

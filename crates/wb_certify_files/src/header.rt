@@ -18,6 +18,7 @@ use wb_certify_shown::{of_spec, written_rule};
 use wb_reader::{SpecRefusal, read_spec};
 use wb_report::{Refusal, SpecReason};
 use wb_syntax::{Header, Spec};
+use wb_syntax_resolved::Resolved;
 
 /// The contents of a file as the specification of an extension of a certified host, or why they aren't one.
 ///
@@ -30,6 +31,18 @@ pub fn extension_spec(
     ensures spec { IfOk result (IsSpecFor host.now.resolved contents.now) }
     ensures refused { IfErr result (IsHeaderRefusal host.now.resolved contents.now) }
 {
+    extension_spec_of(alloc, host.resolved(), contents)
+}
+
+/// Like [`extension_spec`], of a host by numbers.
+pub fn extension_spec_of(
+    alloc: Global,
+    host: &Resolved,
+    contents: &[u8],
+) -> Result<Spec, FileRefusal>
+    ensures spec { IfOk result (IsSpecFor host.now contents.now) }
+    ensures refused { IfErr result (IsHeaderRefusal host.now contents.now) }
+{
     let spec = spec_of(alloc, contents)?;
     match check_header(alloc, host, &spec) {
         Ok(()) => Ok(spec),
@@ -41,14 +54,14 @@ pub fn extension_spec(
 }
 
 // Whether a specification is an extension of this host.
-fn check_header(alloc: Global, host: &CertifiedHost, spec: &Spec) -> Result<(), FileRefusal>
-    ensures ok { IfOk result (λ done. spec.now.header ≡ header.Extension host.now.resolved.host) }
-    ensures refused { IfErr result (λ refusal. (contents : List ℕ) → IsAcceptedText contents spec.now → IsHeaderRefusal host.now.resolved contents refusal) }
+fn check_header(alloc: Global, host: &Resolved, spec: &Spec) -> Result<(), FileRefusal>
+    ensures ok { IfOk result (λ done. spec.now.header ≡ header.Extension host.now.host) }
+    ensures refused { IfErr result (λ refusal. (contents : List ℕ) → IsAcceptedText contents spec.now → IsHeaderRefusal host.now contents refusal) }
 {
     match spec.header() {
         Header::Host => Err(no_extension(alloc, spec)),
         Header::Extension { host: other } => {
-            if other.as_slice() == host.name() {
+            if other.as_slice() == host.parts().host.as_slice() {
                 return Ok(());
             }
             match Bytes::from_slice(alloc, other.as_slice()) {

@@ -11,7 +11,7 @@ ghost use Rattle.wb_reader.specs.Refusals.{HasCause, IsAcceptedText};
 ghost use Rattle.wb_certify_shown.specs.Shows.{refusal_shown};
 ghost use Rattle.wb_certify_files.specs.HostContents.{IsHostRefusal, IsHostText, StandsFor};
 ghost use Rattle.wb_certify_files.specs.Inner.RefusedHosts.{IsShownAs, IsSort};
-ghost use Rattle.wb_certify_files.specs.Inner.Unresolved.{IsUnresolved};
+ghost use Rattle.wb_certify_files.specs.Unresolved.{IsUnresolved};
 
 use crate::HostRefusal;
 use std::alloc::{AllocError, Global};
@@ -37,7 +37,7 @@ pub fn host_of<M: Meaning>(
     ensures operations { IfOk result (λ host. host.operations ≡ operations.now.signatures) }
     ensures refused { IfErr result (IsHostRefusal operations.now.signatures contents.now) }
 {
-    let resolved = value_of(alloc, contents)?;
+    let resolved = resolved_host_of(alloc, contents)?;
     let answer = certified(alloc, &resolved, operations);
     resolved.release();
     answer
@@ -65,8 +65,8 @@ fn certified<M: Meaning>(
     }
 }
 
-// The numbered value that contents stand for.
-pub(crate) fn value_of(alloc: Global, contents: &[u8]) -> Result<Resolved, HostRefusal>
+/// The host by numbers that the contents of a file stand for, or why they stand for none: what is written or a name is wrong.
+pub fn resolved_host_of(alloc: Global, contents: &[u8]) -> Result<Resolved, HostRefusal>
     ensures ok { IfOk result (StandsFor contents.now) }
     ensures refused { IfErr result (IsUnresolved contents.now) }
 {

@@ -12,10 +12,10 @@ mod host_refusal;
 mod laws;
 mod well_defined;
 
-pub use extension_contents::{extension_of, extension_of_spec};
+pub use extension_contents::{extension_of, extension_of_spec, resolved_extension_of};
 pub use extension_refusal::FileRefusal;
-pub use header::extension_spec;
-pub use host_contents::host_of;
+pub use header::{extension_spec, extension_spec_of};
+pub use host_contents::{host_of, resolved_host_of};
 pub use host_refusal::HostRefusal;
 pub use laws::{header_law, one_extension_answer_law, one_host_answer_law, one_well_defined_law};
 pub use well_defined::well_defined_host_of;

@@ -6,7 +6,7 @@ ghost use Rattle.wb_certify_files.specs.HostContents.{StandsFor};
 ghost use Rattle.wb_certify_files.specs.WellDefined.{IsWellDefinedText, IsWellDefinedTextRefusal};
 
 use crate::HostRefusal;
-use crate::host_contents::{bad_value, value_of};
+use crate::host_contents::{bad_value, resolved_host_of};
 use std::alloc::{AllocError, Global};
 use wb_certify_host::{CertifyRefusal, check_well_defined};
 use wb_operations::{Meaning, OperationTable};
@@ -24,7 +24,7 @@ pub fn well_defined_host_of<M: Meaning>(
     ensures host { IfOk result (IsWellDefinedText operations.now.signatures contents.now) }
     ensures refused { IfErr result (IsWellDefinedTextRefusal operations.now.signatures contents.now) }
 {
-    let resolved = value_of(alloc, contents)?;
+    let resolved = resolved_host_of(alloc, contents)?;
     match check_attributes(alloc, &resolved, operations) {
         Ok(()) => Ok(resolved),
         Err(refusal) => {

@@ -32,15 +32,15 @@ use Rattle.wb_types.specs.declared.refusal.TypeRefusal.TheVariants as t
 use Rattle.wb_recheck.specs.declared.refusal.RecheckRefusal.TheVariants as k
 use Rattle.wb_recheck.specs.Certificates.{IsCertificateOfExtension, IsCertificateOfHost, IsFaultOfExtension, IsFaultOfHost}
 use Rattle.wb_recheck.specs.HostRefusals.{IsInTime}
-use Rattle.wb_recheck.specs.OneAnswer.{HasOneExtensionAnswer, HasOneHostAnswer}
-use Rattle.wb_recheck.proofs.FaultLemmas.{HasNoFault, HasOneCertificate, IsFaultMemory, fault_excluded}
+use Rattle.wb_recheck.specs.OneAnswer.{HasOneExtensionAnswer, HasOneHostAnswer, IsFaultMemory}
+use Rattle.wb_recheck.proofs.FaultLemmas.{HasNoFault, HasOneCertificate, fault_excluded}
 
 -- nothing is no something
-none_some : {X : Type 0} {x : X} → None ≡ Some x → ⊥
+pub none_some : {X : Type 0} {x : X} → None ≡ Some x → ⊥
 none_some e = cc
 
 module _ (r : ResolvedParts) (operations : List OperationSignature) where
-  kinds_exclude : KindsOk r.attributes operations → (refusal : TypeRefusal) → IsTrueRefusal r.attributes operations refusal
+  pub kinds_exclude : KindsOk r.attributes operations → (refusal : TypeRefusal) → IsTrueRefusal r.attributes operations refusal
       → ¬ IsTypeMemory refusal → ⊥
   kinds_exclude ok (t.UnknownOperation name) fails other = ((one_kinds r.attributes operations).rules ok).unknown name fails
   kinds_exclude ok (t.WrongArity at) fails other = ((one_kinds r.attributes operations).rules ok).arity at fails
@@ -120,17 +120,18 @@ module _ (r : ResolvedParts) (operations : List OperationSignature) where
 
 module _ (no_fault : HasNoFault) (one : HasOneCertificate) (r : ResolvedParts) (text : List ℕ) where
   -- a certificate of a host has no fault
-  host_excluded : IsCertificateOfHost r text → (fault : CertificateFault) → IsFaultOfHost r text fault → IsFaultMemory fault
+  pub host_excluded : IsCertificateOfHost r text → (fault : CertificateFault) → IsFaultOfHost r text fault → IsFaultMemory fault
   host_excluded is fault has =
       let same = same_Some has.grammar is.grammar (sym has.start ∙ is.start) in
       fault_excluded no_fault one text (IsHostHead r.host) (with_holes_of is.grammar r.extensible) is.is fault
       (subst (λ (g : GrammarView). IsFault text (IsHostHead r.host) (with_holes_of g r.extensible) fault) same has.first)
 
-  first_same : (x y : List ℕ) → IsOneExtension r x → IsOneExtension r y → x ≡ y
+  pub first_same : (x y : List ℕ) → IsOneExtension r x → IsOneExtension r y → x ≡ y
   first_same x y one_x one_y = let both = sym one_x ∙ one_y in cc
 
   -- nor has one of an extension
-  extension_excluded : IsCertificateOfExtension r text → (fault : CertificateFault) → IsFaultOfExtension r text fault → IsFaultMemory fault
+  pub extension_excluded : IsCertificateOfExtension r text → (fault : CertificateFault) → IsFaultOfExtension r text fault
+      → IsFaultMemory fault
   extension_excluded is fault has =
       let same = same_Some has.grammar is.grammar (sym has.start ∙ is.start) in
       let named = first_same has.name is.name has.one is.one in

@@ -13,6 +13,7 @@ use Rattle.wb_recheck_entries.specs.Faults.{IsRightEntry, LacksEntry, nothing_li
 use Rattle.wb_recheck_entries.specs.Texts.{HasCertificate, IsFault, IsFaultOf, IsMissing, IsWrongLine}
 use Rattle.wb_recheck_entries.specs.declared.fault.CertificateFault.{CertificateFault}
 use Rattle.wb_recheck_entries.specs.declared.fault.CertificateFault.TheVariants as f
+use Rattle.wb_recheck.specs.OneAnswer.{IsFaultMemory}
 
 -- what the laws of texts say
 abbrev pub HasNoFault : Type 0
@@ -20,11 +21,6 @@ HasNoFault = (text : List ℕ) (c : Certificate) (at : ℕ) → IsTextOf text c 
 
 abbrev pub HasOneCertificate : Type 0
 HasOneCertificate = (text : List ℕ) (c other : Certificate) → IsTextOf text c → IsTextOf text other → c ≡ other
-
--- the fault is that memory ran out
-abbrev pub IsFaultMemory : CertificateFault → Type 0
-IsFaultMemory (f.NoMemory error) = Unit {0}
-IsFaultMemory other = ⊥
 
 module _ (g : GrammarView) (lines : List Line) (entries : List Entry) (is : IsCertificate g lines entries) where
   -- each entry of a certificate is right

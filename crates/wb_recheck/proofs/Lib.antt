@@ -3,3 +3,5 @@ mod ExtensionLemmas
 mod FaultLemmas
 mod HandedLemmas
 mod HostLemmas
+mod OneFaultLemmas
+mod SortLemmas

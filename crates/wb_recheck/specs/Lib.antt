@@ -4,7 +4,7 @@ pub mod Certificates
 pub mod HostRefusals
 -- why an extension isn't certified with its host by a text
 pub mod ExtensionRefusals
--- that there is one answer
+-- that there is one answer, and refusals are of one sort
 pub mod OneAnswer
 -- words of private functions
 pub mod Inner

@@ -3,16 +3,18 @@
 ghost use Rattle.std.specs.Prelude.{List, ℕ};
 ghost use Rattle.wb_operations.specs.Operations.{OperationSignature};
 ghost use Rattle.wb_syntax_resolved.specs.declared.resolved.ResolvedParts.{ResolvedParts};
-ghost use Rattle.wb_recheck.specs.OneAnswer.{HasOneExtensionAnswer, HasOneHostAnswer};
+ghost use Rattle.wb_recheck.specs.OneAnswer.{HasOneExtensionAnswer, HasOneExtensionSort, HasOneHostAnswer, HasOneHostSort};
 
 use wb_certify::one_answer_law;
 use wb_recheck_text::laws::text_law;
 
 /// What is certified, and of which a text is a certificate, has no refusal but out of memory. So `recheck_resolved` and `recheck_beside`
-/// answer that it is, or are out of memory.
+/// answer that it is, or are out of memory. Refusals of one value are of one sort: by rules of kinds, by other rules, or of the text.
 pub fn one_recheck_answer_law()
     ensures host { (r : ResolvedParts) (operations : List OperationSignature) (text : List ℕ) → HasOneHostAnswer r operations text }
     ensures extension { (host r : ResolvedParts) (operations : List OperationSignature) (text : List ℕ) → HasOneExtensionAnswer host r operations text }
+    ensures host_sort { (r : ResolvedParts) (operations : List OperationSignature) (text : List ℕ) → HasOneHostSort r operations text }
+    ensures extension_sort { (host r : ResolvedParts) (operations : List OperationSignature) (text : List ℕ) → HasOneExtensionSort host r operations text }
 {
     text_law();
     one_answer_law();

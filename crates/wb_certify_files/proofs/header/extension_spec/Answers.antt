@@ -1,12 +1,15 @@
-use Rattle.wb_lemmas.proofs.Refusals.{handed_on}
-use Rattle.wb_certify_files.specs.Specifications.{IsHeaderRefusal}
+-- A certified host is one by numbers.
+use Rattle.std.proofs.Common.{IfErr, IfOk, subst}
+use Rattle.wb_syntax_resolved.specs.declared.resolved.ResolvedParts.{ResolvedParts}
+use Rattle.wb_certify_files.specs.Specifications.{IsHeaderRefusal, IsSpecFor}
 use Rattle.wb_certify_files.proofs.header.extension_spec.Goals as goal
 
-pub returns-in_err-spec-clause-refused : goal.returns-in_err-spec-clause-refused
-returns-in_err-spec-clause-refused c =
-    let R = IsHeaderRefusal c.args.host.now.resolved c.args.contents.now in
-    handed_on R R c.from_residual.result c.in_err-spec.field-0.0 c.from_residual.ensures.1 (λ f p. p)
-    (c.in_err-spec.ensures.refused c.args.host.now.resolved)
+pub returns-clause-spec : goal.returns-clause-spec
+returns-clause-spec c =
+    subst (λ (r : ResolvedParts). IfOk c.extension_spec_of.result (IsSpecFor r c.args.contents.now)) c.resolved.ensures.resolved
+    c.extension_spec_of.ensures.spec
 
-pub returns-in-Err-clause-refused : goal.returns-in-Err-clause-refused
-returns-in-Err-clause-refused c = c.in-Err.ensures.refused c.args.contents.now c.in_ok-spec.ensures.ok
+pub returns-clause-refused : goal.returns-clause-refused
+returns-clause-refused c =
+    subst (λ (r : ResolvedParts). IfErr c.extension_spec_of.result (IsHeaderRefusal r c.args.contents.now)) c.resolved.ensures.resolved
+    c.extension_spec_of.ensures.refused

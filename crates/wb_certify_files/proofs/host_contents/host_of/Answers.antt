@@ -1,6 +1,6 @@
 use Rattle.wb_lemmas.proofs.Refusals.{handed_on}
 use Rattle.wb_certify_files.specs.HostContents.{IsHostRefusal}
-use Rattle.wb_certify_files.specs.Inner.Unresolved.{IsUnresolved}
+use Rattle.wb_certify_files.specs.Unresolved.{IsUnresolved}
 use Rattle.wb_certify_files.proofs.UnresolvedLemmas.{host_unresolved}
 use Rattle.wb_certify_files.proofs.HostLemmas.{of_text}
 use Rattle.wb_certify_files.proofs.host_contents.host_of.Goals as goal

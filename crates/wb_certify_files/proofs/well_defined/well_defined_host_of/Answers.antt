@@ -1,6 +1,6 @@
 use Rattle.wb_lemmas.proofs.Refusals.{handed_on}
 use Rattle.wb_certify_files.specs.WellDefined.{IsWellDefinedTextRefusal}
-use Rattle.wb_certify_files.specs.Inner.Unresolved.{IsUnresolved}
+use Rattle.wb_certify_files.specs.Unresolved.{IsUnresolved}
 use Rattle.wb_certify_files.proofs.UnresolvedLemmas.{well_defined_unresolved}
 use Rattle.wb_certify_files.proofs.well_defined.well_defined_host_of.Goals as goal
 

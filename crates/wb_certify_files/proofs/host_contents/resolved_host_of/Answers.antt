@@ -1,6 +1,6 @@
 use Rattle.wb_lemmas.proofs.Refusals.{handed_on}
-use Rattle.wb_certify_files.specs.Inner.Unresolved.{IsUnresolved}
-use Rattle.wb_certify_files.proofs.host_contents.value_of.Goals as goal
+use Rattle.wb_certify_files.specs.Unresolved.{IsUnresolved}
+use Rattle.wb_certify_files.proofs.host_contents.resolved_host_of.Goals as goal
 
 pub returns-in_err-spec-clause-refused : goal.returns-in_err-spec-clause-refused
 returns-in_err-spec-clause-refused c =

@@ -1,0 +1,2 @@
+-- what is shown of refusals
+pub mod Shown
