@@ -1,0 +1,4 @@
+-- the steps from contents to an extension after others
+pub mod Next
+-- what a composed language shows of its fields
+pub mod Fields

@@ -1,0 +1,12 @@
+-- What a composed language shows of its fields.
+use Rattle.wb_compose_files.specs.Languages.{TextLanguageParts}
+use Rattle.wb_compose_files.specs.declared.language.Fields.{Fields}
+
+-- the host and the extensions, the language with the withdrawn markers, and the signatures
+abbrev pub parts_of : Fields → TextLanguageParts
+parts_of fields = record {
+  certified = fields.certified;
+  language = fields.composed.language;
+  withdrawn = fields.composed.withdrawn.items;
+  signatures = fields.signatures;
+}

@@ -1,0 +1,158 @@
+//! What is composed of a certified host and extensions? Their language, and what shows its trees. Texts share it.
+
+ghost use Rattle.std.specs.Prelude.{◌≡◌, IfOk};
+ghost use Rattle.wb_compose_texts.specs.Composed.{IsComposed};
+ghost use Rattle.wb_compose_files.specs.Languages.{AreSignatures, IsTextLanguage};
+ghost use Rattle.wb_compose_files.specs.Inner.Fields.{parts_of};
+
+use crate::Certified;
+use std::alloc::{AllocError, Global};
+use std::marker::Model;
+use std::rc::Rc;
+use wb_compose_texts::{Composed, compose, united_signatures};
+use wb_scan::Language;
+use wb_values::Signatures;
+
+// A host and extensions, what is composed of them, and the signatures of the productions.
+pub(crate) struct Fields {
+    pub(crate) certified: Certified,
+    pub(crate) composed: Composed,
+    pub(crate) signatures: Signatures,
+}
+
+impl Drop for Fields {
+    fn drop(self) {
+        let Fields {
+            certified,
+            composed,
+            signatures,
+        } = self;
+        certified.release();
+        composed.release();
+        drop(signatures);
+    }
+}
+
+/// The language that is composed of a certified host and extensions, beside these, and the signatures of its productions, by number.
+pub struct TextLanguage {
+    fields: Rc<Fields>,
+}
+
+impl Model for TextLanguage {
+    ghost use Rattle.std.specs.Coded.{codes};
+    ghost use Rattle.std.specs.Rc.{rc_value};
+    ghost use Rattle.wb_regex.specs.contracts.regex.Regex as regex;
+    ghost use Rattle.wb_compose_files.specs.Languages.{TextLanguageParts, IsTextLanguage};
+    ghost use Rattle.wb_compose_files.specs.Inner.Fields.{parts_of};
+
+    ghost Value = { TextLanguageParts };
+
+    ghost coded = { Prim.hlevel (codes, regex.the_row.coded) };
+
+    ghost view = { λ l. parts_of (rc_value l.fields) };
+
+    ghost invariant = { λ l. IsTextLanguage (parts_of (rc_value l.fields)) };
+}
+
+impl Drop for TextLanguage {
+    fn drop(self) {
+        let TextLanguage { fields } = self;
+        drop(fields);
+    }
+}
+
+impl TextLanguage {
+    /// The language of a certified host with extensions. The only error is out of memory. No clause bounds the time.
+    pub fn of(alloc: Global, certified: Certified) -> Result<TextLanguage, AllocError>
+        ensures { IfOk result (λ made. made.certified ≡ certified) }
+    {
+        match signatures_of(alloc, &certified) {
+            Ok(signatures) => with_signatures(alloc, certified, signatures),
+            Err(error) => {
+                certified.release();
+                Err(error)
+            }
+        }
+    }
+
+    /// The same language, which is shared. The only error is that something has too many copies to be counted.
+    pub fn copy(&self) -> Result<TextLanguage, AllocError>
+        ensures { IfOk result (λ made. made ≡ self.now) }
+    {
+        Ok(TextLanguage {
+            fields: self.fields.clone()?,
+        })
+    }
+
+    /// The host and the extensions.
+    pub fn certified(&self) -> &Certified
+        ensures { result.now ≡ self.now.certified }
+    {
+        &self.fields.certified
+    }
+
+    /// The language.
+    pub fn language(&self) -> &Language
+        ensures language { result.now ≡ self.now.language }
+        ensures is { IsTextLanguage self.now }
+    {
+        self.fields.composed.language()
+    }
+
+    /// The signatures of its productions.
+    pub fn signatures(&self) -> &Signatures
+        ensures { result.now ≡ self.now.signatures }
+    {
+        &self.fields.signatures
+    }
+}
+
+// The language of a certified host with extensions, with the signatures.
+fn with_signatures(
+    alloc: Global,
+    certified: Certified,
+    signatures: Signatures,
+) -> Result<TextLanguage, AllocError>
+    requires { AreSignatures certified signatures }
+    ensures { IfOk result (λ made. made.certified ≡ certified) }
+{
+    match composed_of(alloc, &certified) {
+        Ok(composed) => shared(
+            alloc,
+            Fields {
+                certified,
+                composed,
+                signatures,
+            },
+        ),
+        Err(error) => {
+            certified.release();
+            drop(signatures);
+            Err(error)
+        }
+    }
+}
+
+// The language of these fields.
+fn shared(alloc: Global, fields: Fields) -> Result<TextLanguage, AllocError>
+    requires { IsTextLanguage (parts_of fields) }
+    ensures { IfOk result (λ made. made ≡ parts_of fields) }
+{
+    Ok(TextLanguage {
+        fields: Rc::new(alloc, fields)?,
+    })
+}
+
+// What is composed of a host and extensions.
+fn composed_of(alloc: Global, certified: &Certified) -> Result<Composed, AllocError>
+    ensures { IfOk result (λ made. IsComposed certified.now.host certified.now.extensions made.language.language made.withdrawn.items) }
+{
+    compose(alloc, certified.certified_host(), certified.extensions())
+}
+
+// The signatures of the productions of a host with extensions.
+fn signatures_of(alloc: Global, certified: &Certified) -> Result<Signatures, AllocError>
+    ensures { IfOk result (AreSignatures certified.now) }
+{
+    united_signatures(alloc, certified.certified_host(), certified.extensions())
+}
