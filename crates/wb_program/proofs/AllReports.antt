@@ -3,8 +3,10 @@ mod CertificateLaws
 mod CertifyLaws
 mod CheckLaws
 mod ComposeLaws
+mod EditLaws
 mod GenerateLaws
 mod ReadingLaws
+mod RecheckLaws
 mod RunLaws
 mod ShowLaws
 mod TreeLaws
@@ -16,9 +18,11 @@ use Rattle.wb_program.proofs.AllReports.CertificateLaws.{certificate_laws}
 use Rattle.wb_program.proofs.AllReports.CertifyLaws.{certify_laws}
 use Rattle.wb_program.proofs.AllReports.CheckLaws.{check_laws}
 use Rattle.wb_program.proofs.AllReports.ComposeLaws.{compose_laws}
+use Rattle.wb_program.proofs.AllReports.EditLaws.{edit_laws}
 use Rattle.wb_program.proofs.AllReports.GenerateLaws.{generate_laws}
 use Rattle.wb_program.proofs.AllReports.ReadingLaws.{reading_laws}
 use Rattle.wb_program.proofs.ReportLaws.{HasLaws}
+use Rattle.wb_program.proofs.AllReports.RecheckLaws.{recheck_laws}
 use Rattle.wb_program.proofs.AllReports.RunLaws.{run_laws}
 use Rattle.wb_program.proofs.AllReports.ShowLaws.{show_laws}
 use Rattle.wb_program.proofs.AllReports.TreeLaws.{tree_laws}
@@ -34,4 +38,6 @@ has_laws operations (a.tree text host extensions) = tree_laws operations text ho
 has_laws operations (a.run text attribute steps host extensions) = run_laws operations text attribute steps host extensions
 has_laws operations (a.generate number size attribute host extensions) = generate_laws operations number size attribute host extensions
 has_laws operations (a.certificate host extensions) = certificate_laws operations host extensions
+has_laws operations (a.recheck host certificate extension) = recheck_laws operations host certificate extension
+has_laws operations (a.edit text edits host extensions) = edit_laws operations text edits host extensions
 has_laws operations (a.reading text host extensions) = reading_laws operations text host extensions

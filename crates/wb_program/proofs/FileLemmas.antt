@@ -35,7 +35,8 @@ weaker_known None name P Q weaker is = tt
 weaker_known (Some files) name P Q weaker is = weaker_file (files name) P Q weaker is
 
 -- what holds of the contents holds of the file
-known_is : (known : Option Files) (name bytes : List ℕ) (P : List ℕ → Type 0) → KnownIs known name bytes → P bytes → KnownFile known name P
+pub known_is : (known : Option Files) (name bytes : List ℕ) (P : List ℕ → Type 0) → KnownIs known name bytes → P bytes
+    → KnownFile known name P
 known_is None name bytes P is holds = tt
 known_is (Some files) name bytes P is holds = subst (λ (file : Option (List ℕ)). FileIs file P) (sym is) holds
 

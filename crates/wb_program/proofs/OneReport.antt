@@ -5,7 +5,7 @@ use Rattle.wb_operations.specs.Operations.{Operations}
 use Rattle.wb_program_words.proofs.OneAsked.{one_asked}
 use Rattle.wb_program_words.specs.Asked.{Asked}
 use Rattle.wb_program_words.specs.Words.{Asks}
-use Rattle.wb_program.specs.Laws.{HasOneRefusal, HaveOneStatus, HaveOneText, EndAsReported}
+use Rattle.wb_program.specs.Laws.{HasOneRefusal, HaveOneStatus, HaveOneText, EndAsReported, ShowsKernel}
 use Rattle.wb_program.specs.Commands.{IsReportOf}
 use Rattle.wb_program.specs.Report.{InCommandSet, IsAnswered, IsReport}
 use Rattle.wb_program.specs.Inner.Below.{LawsBelow}
@@ -21,13 +21,14 @@ in_set operations known s bytes words x =
     record { asked = x.asked; asks = x.asks }
 
 -- one text is wanted of the words: it is no refusal, or one that has no choice
-abbrev WantsOneText : List (List ℕ) → Status → Type 0
-WantsOneText words s = ((s ≢ SpecRefused) × (s ≢ NotCertified)) ⊎ ((asked : Asked) → Asks words asked → HasOneRefusal asked)
+abbrev WantsOneText : List (List ℕ) → Status → List ℕ → Type 0
+WantsOneText words s bytes =
+    ((s ≢ SpecRefused) × (s ≢ NotCertified) × ¬ ShowsKernel s bytes) ⊎ ((asked : Asked) → Asks words asked → HasOneRefusal asked)
 
 -- two reports of words and files are one
 one_report : LawsBelow → (operations : Operations) (words : List (List ℕ)) (files : Files) (s t : Status) (bytes others : List ℕ)
     → IsReport operations words (Some files) s bytes →
-    IsReport operations words (Some files) t others → (s ≡ t) × (WantsOneText words s → bytes ≡ others)
+    IsReport operations words (Some files) t others → (s ≡ t) × (WantsOneText words s bytes → bytes ≡ others)
 one_report below operations words files s t bytes others (inl x) (inl y) = (x.usage ∙ sym y.usage, λ wants. x.line ∙ sym y.line)
 one_report below operations words files s t bytes others (inl x) (inr y) =
     absurd (x.none_asked (in_set operations (Some files) t others words y))

@@ -4,7 +4,7 @@ use Rattle.wb_world.specs.Shelf.{Files}
 use Rattle.wb_operations.specs.Operations.{Operations}
 use Rattle.wb_program_words.specs.Asked.{Asked}
 use Rattle.wb_program_words.specs.Asked as a
-use Rattle.wb_program.specs.Laws.{HasOneRefusal, show_refuses}
+use Rattle.wb_program.specs.Laws.{HasOneRefusal, ShowsKernel, show_refuses}
 use Rattle.wb_program.specs.Commands.{IsReportOf}
 use Rattle.wb_program.specs.Inner.Below.{LawsBelow}
 use Rattle.wb_program.specs.declared.status.Status.{Status}
@@ -16,7 +16,7 @@ use Rattle.wb_program.proofs.WrittenWhole.{IsReported}
 -- two reports: one status, and one text unless they are a refusal that may choose its example
 abbrev pub AreOneOf : Asked → Status → Status → List ℕ → List ℕ → Type 0
 AreOneOf asked s t bytes others =
-    (s ≡ t) × (((s ≢ SpecRefused) × (s ≢ NotCertified)) ⊎ HasOneRefusal asked → bytes ≡ others)
+    (s ≡ t) × (((s ≢ SpecRefused) × (s ≢ NotCertified) × ¬ ShowsKernel s bytes) ⊎ HasOneRefusal asked → bytes ≡ others)
 
 -- a report of what is asked has a status with which it is written whole, and two of known files are one
 pub record HasLaws (operations : Operations) (asked : Asked) : Type 0 where
@@ -34,7 +34,7 @@ IsOther (a.show file) = ⊥
 IsOther other = Unit {0}
 
 -- its refusals may differ
-may_differ : (asked : Asked) → IsOther asked → ¬ HasOneRefusal asked
+pub may_differ : (asked : Asked) → IsOther asked → ¬ HasOneRefusal asked
 may_differ asked is show_refuses = is
 
 -- reports whose refusals may differ

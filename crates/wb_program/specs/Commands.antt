@@ -10,6 +10,8 @@ pub mod Value
 pub mod Run
 pub mod Generate
 pub mod Certificate
+pub mod Recheck
+pub mod Edit
 use Rattle.std.specs.Prelude.{◌≤◌, ℕ, Option, List, [], ◌∷◌, length, map}
 use Rattle.wb_operations.specs.Operations.{Operations, OperationSignature}
 use Rattle.wb_program_words.specs.Asked.{Asked}
@@ -19,8 +21,10 @@ use Rattle.wb_program.specs.Commands.Certificate.{CertificateReport}
 use Rattle.wb_program.specs.Commands.Certify.{CertifyReport}
 use Rattle.wb_program.specs.Commands.Check.{CheckReport}
 use Rattle.wb_program.specs.Commands.Compose.{ComposeReport}
+use Rattle.wb_program.specs.Commands.Edit.{EditReport, EditStops}
 use Rattle.wb_program.specs.Commands.Generate.{GenerateReport}
 use Rattle.wb_program.specs.Commands.Reading.{ReadingReport}
+use Rattle.wb_program.specs.Commands.Recheck.{RecheckReport, rechecked_reads}
 use Rattle.wb_program.specs.Commands.Run.{RunReport, RunStops}
 use Rattle.wb_program.specs.Commands.Show.{ShowReport}
 use Rattle.wb_program.specs.Stops.{certified_extension, certified_host, specification, well_defined_host, written_term}
@@ -44,6 +48,10 @@ IsReportOf operations known status bytes (a.generate number size attribute host 
     GenerateReport operations known number size attribute host extensions status bytes
 IsReportOf operations known status bytes (a.certificate host extensions) =
     CertificateReport operations.signatures known host extensions status bytes
+IsReportOf operations known status bytes (a.recheck host certificate extension) =
+    RecheckReport operations.signatures known host certificate extension status bytes
+IsReportOf operations known status bytes (a.edit text edits host extensions) =
+    EditReport operations.signatures known text edits host extensions status bytes
 IsReportOf operations known status bytes (a.reading text host extensions) =
     ReadingReport operations.signatures known text host extensions status bytes
 
@@ -60,4 +68,6 @@ ReadsTo operations known (a.run text attribute steps host extensions) P = RunSto
 ReadsTo operations known (a.generate number size attribute host extensions) P =
     StopsComposed operations known host extensions P (λ r values. ⊥)
 ReadsTo operations known (a.certificate host extensions) P = StopsComposed operations known host extensions P (λ r values. ⊥)
+ReadsTo operations known (a.recheck host certificate extension) P = StopsAt operations known P (rechecked_reads host certificate extension)
+ReadsTo operations known (a.edit text edits host extensions) P = EditStops operations known text edits host extensions P
 ReadsTo operations known (a.reading text host extensions) P = StopsComposed operations known host extensions P (λ r values. P text)

@@ -6,13 +6,24 @@ use Rattle.wb_program_words.specs.Asked.{Asked}
 use Rattle.wb_program_words.specs.Asked as a
 use Rattle.wb_program_words.specs.Words.{Asks}
 use Rattle.wb_program.specs.declared.status.Status.{Status}
-use Rattle.wb_program.specs.declared.status.Status.TheVariants.{SpecRefused, NotCertified, WriteFault}
+use Rattle.wb_report.specs.Lines.{report_of}
+use Rattle.wb_report.specs.declared.certificate_reason.CertificateReason.TheVariants as q
+use Rattle.wb_report.specs.declared.outcome.Outcome.TheVariants as o
+use Rattle.wb_report.specs.declared.refusal.Refusal.TheVariants as r
+use Rattle.wb_program.specs.declared.status.Status.TheVariants.{CertificateRefused, SpecRefused, NotCertified, WriteFault}
 use Rattle.wb_program.specs.Report.{IsReport}
 use Rattle.wb_program.specs.Written.{Wrote, WritesNothing}
 
 -- each refusal of the command has one text; the others may show any true example
 pub data HasOneRefusal : Asked → Type 0 where
   show_refuses : {file : List ℕ} → HasOneRefusal (a.show file)
+
+-- the report shows one kernel of those of which a certificate lacks something
+pub record ShowsKernel (status : Status) (bytes : List ℕ) : Type 0 where
+  pub refused : status ≡ CertificateRefused
+  pub file : List ℕ
+  pub kernel : ℕ
+  pub line : bytes ≡ report_of (o.Refused file (r.Certificate (q.Missing kernel)))
 
 -- words and known files have one status at most
 abbrev pub HaveOneStatus : Type 0
@@ -22,7 +33,8 @@ HaveOneStatus = (operations : Operations) (words : List (List ℕ)) (files : Fil
 -- words and known files have one text at most with a status, unless it is a refusal that may choose its example
 abbrev pub HaveOneText : Type 0
 HaveOneText = (operations : Operations) (words : List (List ℕ)) (files : Files) (status : Status) (bytes others : List ℕ)
-    → ((status ≢ SpecRefused) × (status ≢ NotCertified)) ⊎ ((asked : Asked) → Asks words asked → HasOneRefusal asked)
+    → ((status ≢ SpecRefused) × (status ≢ NotCertified) × ¬ ShowsKernel status bytes)
+    ⊎ ((asked : Asked) → Asks words asked → HasOneRefusal asked)
     → IsReport operations words (Some files) status bytes → IsReport operations words (Some files) status others → bytes ≡ others
 
 -- where words and known files have a report, a run ends with its status, so with 0 where everything is in order; else it ends at a file or

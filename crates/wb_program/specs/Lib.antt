@@ -10,6 +10,8 @@ pub mod HostChecks
 pub mod ExtensionChecks
 -- the checks of several extensions
 pub mod SeveralChecks
+-- the checks of a file with its certificate
+pub mod CertificateChecks
 -- a text, and one that is too long
 pub mod Texts
 -- files as what they are read, and which one is missing or faulty where a run stops

@@ -3,6 +3,8 @@ use Rattle.std.specs.Prelude.{ℕ}
 use Rattle.wb_program.specs.declared.status.Status.{Status}
 use Rattle.wb_program.specs.declared.status.Status.TheVariants.{Done, Usage, SpecRefused, OperationFault, MoreSteps, TermRefused}
 use Rattle.wb_program.specs.declared.status.Status.TheVariants.{NoSentence}
+use Rattle.wb_program.specs.declared.status.Status.TheVariants.{CertificateRefused}
+use Rattle.wb_program.specs.declared.status.Status.TheVariants.{EditRefused}
 use Rattle.wb_program.specs.declared.status.Status.TheVariants.{NotCertified, TextStopped, TextTooLong, TooLongToPrint, WrongHost}
 use Rattle.wb_program.specs.declared.status.Status.TheVariants.{TooManyExtensions, DuplicateExtension, UnknownAttribute, Absent}
 use Rattle.wb_program.specs.declared.status.Status.TheVariants.{ReadFault}
@@ -29,3 +31,5 @@ number_of WrongHost = 16
 number_of UnknownAttribute = 17
 number_of TermRefused = 18
 number_of NoSentence = 19
+number_of CertificateRefused = 20
+number_of EditRefused = 21

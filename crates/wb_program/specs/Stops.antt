@@ -7,6 +7,8 @@ use Rattle.wb_certify_files.specs.HostContents.{IsHostText}
 use Rattle.wb_certify_files.specs.WellDefined.{IsWellDefinedText}
 use Rattle.wb_operations.specs.Operations.{OperationSignature}
 use Rattle.wb_syntax_resolved.specs.declared.resolved.ResolvedParts.{ResolvedParts}
+use Rattle.wb_recheck_contents.specs.Hosts.{IsRecheckedHost}
+use Rattle.wb_program.specs.CertificateChecks.{IsPair}
 use Rattle.wb_program.specs.SeveralChecks.{IsNext, AreEach}
 use Rattle.wb_program.specs.Files.{KnownFile, KnownAbsent}
 
@@ -22,6 +24,10 @@ pub data Read : Type 0 where
   certified_extension : (host : List ℕ) → List ℕ → Read
   -- a term
   written_term : List ℕ → Read
+  -- a file whose certificate is read before it is checked
+  unchecked : List ℕ → Read
+  -- the certificate of the host of a file
+  certificate_of_host : (host : List ℕ) → List ℕ → Read
 
 -- the name of the file
 abbrev pub file_of : Read → List ℕ
@@ -30,6 +36,8 @@ file_of (certified_host file) = file
 file_of (well_defined_host file) = file
 file_of (certified_extension host file) = file
 file_of (written_term file) = file
+file_of (unchecked file) = file
+file_of (certificate_of_host host file) = file
 
 -- the file is an extension that is certified beside the host of another file
 pub record IsCertifiedBesideFile (operations : List OperationSignature) (known : Option Files) (host file : List ℕ) : Type 0 where
@@ -46,6 +54,9 @@ Passes operations known (well_defined_host file) =
     KnownFile known file (λ contents. (r : ResolvedParts) × IsWellDefinedText operations contents r)
 Passes operations known (certified_extension host file) = IsCertifiedBesideFile operations known host file
 Passes operations known (written_term file) = Unit {0}
+Passes operations known (unchecked file) = Unit {0}
+Passes operations known (certificate_of_host host file) =
+    (r : ResolvedParts) × IsPair known host file (λ contents text. IsRecheckedHost operations contents text r)
 
 -- a file of the list meets this, and all before it pass their checks
 abbrev pub StopsAt : List OperationSignature → Option Files → (List ℕ → Type 0) → List Read → Type 0

@@ -14,8 +14,10 @@ mod certificate;
 mod certify;
 mod check;
 mod compose;
+mod edit;
 mod generate;
 pub(crate) mod reading;
+mod recheck;
 mod run;
 mod show;
 pub(crate) mod tree;
@@ -28,7 +30,9 @@ use certificate::answer_certificate;
 use certify::answer_certify;
 use check::answer_check;
 use compose::answer_compose;
+use edit::answer_edit;
 use generate::answer_generate;
+use recheck::answer_recheck;
 use run::answer_run;
 use show::answer_show;
 use std::alloc::Global;
@@ -70,6 +74,11 @@ pub(crate) fn answer_to<S: Shelf, M: Meaning>(
         Command::Certificate { host, extensions } => {
             answer_certificate(alloc, shelf, host, extensions, operations)
         }
+        Command::Recheck {
+            host,
+            certificate,
+            extension,
+        } => answer_recheck(alloc, shelf, host, certificate, extension, operations),
         on_text => answer_on_text(alloc, shelf, on_text, operations),
     }
 }
@@ -117,6 +126,12 @@ fn answer_on_text<S: Shelf, M: Meaning>(
         } => answer_generate(
             alloc, shelf, number, size, attribute, host, extensions, operations,
         ),
+        Command::Edit {
+            text,
+            edits,
+            host,
+            extensions,
+        } => answer_edit(alloc, shelf, text, edits, host, extensions, operations),
         Command::Reading {
             text,
             host,

@@ -6,9 +6,11 @@ ghost use Rattle.wb_program.specs.Inner.Below.{LawsBelow};
 ghost use Rattle.wb_program.specs.Laws.{EndAsReported, HaveOneStatus, HaveOneText};
 ghost use Rattle.wb_program.specs.ShownAgain.{IsStable};
 
+use wb_compose_edits::laws::one_edits_law;
 use wb_compose_texts::reading_laws::one_reading_law;
 use wb_compose_texts::tree_laws::{one_answer_law, withdrawn_law};
 use wb_compose_texts::value_laws::{one_root_law, one_value_law};
+use wb_session_edits::laws::list_law;
 
 /// Words and files have at most one status that is reported.
 pub fn one_status_law()
@@ -46,9 +48,13 @@ fn laws_below()
     wb_certify_files::header_law();
     withdrawn_law();
     one_answer_law();
+    list_law();
+    one_edits_law();
     one_reading_law();
     one_root_law();
     one_value_law();
     wb_compose_texts::generated_laws::one_text_law();
     wb_recheck_files::laws::one_text_law();
+    wb_recheck_contents::laws::one_host_law();
+    wb_recheck_contents::laws::one_extension_law();
 }

@@ -11,6 +11,7 @@ mod composable;
 mod files;
 mod hosts;
 mod laws;
+mod pairs;
 mod program;
 mod several;
 mod shown;

@@ -46,6 +46,10 @@ pub enum Status {
     TermRefused = 18,
     /// No sentence has so few leaves as a text that is made may have.
     NoSentence = 19,
+    /// A file isn't a certificate of its host or extension, or is too long for one.
+    CertificateRefused = 20,
+    /// A file isn't a list of edits, or one of them isn't done.
+    EditRefused = 21,
 }
 
 impl Status {

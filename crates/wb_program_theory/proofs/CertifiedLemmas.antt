@@ -30,10 +30,13 @@ use Rattle.wb_program.specs.Commands.Certificate.{CertificateChecks}
 use Rattle.wb_program.specs.Commands.Generate.{GenerateChecks, ShownMade}
 use Rattle.wb_program.specs.Commands.Run.{RunChecks}
 use Rattle.wb_program.specs.Values.{ShownTextValue, ShownTreeValue}
+use Rattle.wb_compose_edits.specs.declared.answer.EditsAnswer.{EditsAnswer}
+use Rattle.wb_compose_edits.specs.declared.answer.EditsAnswer.TheVariants as edits
+use Rattle.wb_program.specs.Commands.Edit.{ShownEdits}
 use Rattle.wb_program.specs.Commands.Reading.{ShownReading}
 use Rattle.wb_program.specs.Commands.Tree.{ShownText}
 use Rattle.wb_program_theory.specs.Certified.{AreCertified, ComposeChecks, HaveNoRefusal, HaveOneValue, IsItsRest, IsRefusalStatus}
-use Rattle.wb_program_theory.specs.Certified.{ReadingChecks, TreeChecks}
+use Rattle.wb_program_theory.specs.Certified.{EditChecks, ReadingChecks, TreeChecks}
 use Rattle.wb_program_theory.proofs.FileLemmas.{all_differ}
 
 module _ (extensions : ExcludesExtensions) (headers : ExcludesHeaders) (operations : List OperationSignature) (files : Files)
@@ -98,6 +101,13 @@ read_well : (read : TextReading) (s : Status) (bytes : List ℕ) → ShownReadin
 read_well reading.Host s bytes (ends, line) refused = subst IsRefusalStatus ends refused
 read_well (reading.MarkerAt place marker) s bytes (ends, line) refused = subst IsRefusalStatus ends refused
 
+-- nor what becomes of a text by edits
+edits_well : (file : List ℕ) (answer : EditsAnswer) (s : Status) (bytes : List ℕ) → ShownEdits file answer s bytes → ¬ IsRefusalStatus s
+edits_well file (edits.Lines lines) s bytes (ends, line) refused = subst IsRefusalStatus ends refused
+edits_well file edits.TooLong s bytes (ends, line) refused = subst IsRefusalStatus ends refused
+edits_well file (edits.OutOfRange number) s bytes (ends, line) refused = subst IsRefusalStatus ends refused
+edits_well file (edits.TextTooLong number) s bytes (ends, line) refused = subst IsRefusalStatus ends refused
+
 -- nor is what comes of a text
 text_value_well : (shows : List ℕ → Done) (steps : ℕ) (value : TextValue) (s : Status) (bytes : List ℕ)
     → ShownTextValue shows steps value s bytes → ¬ IsRefusalStatus s
@@ -131,6 +141,14 @@ module _ (operations : Operations) (files : Files) (r : ResolvedParts) (values :
       → ¬ IsRefusalStatus s
   reading_well text s bytes (inl (ends, x)) refused = subst IsRefusalStatus ends refused
   reading_well text s bytes (inr (contents, is, report)) refused = read_well report.reading s bytes report.shown refused
+
+  -- nor those of `edit`
+  pub edit_well : (text list : List ℕ) (s : Status) (bytes : List ℕ)
+      → EditChecks operations.signatures (Some files) text list r values s bytes → ¬ IsRefusalStatus s
+  edit_well text list s bytes (inl (ends, x)) refused = subst IsRefusalStatus ends refused
+  edit_well text list s bytes (inr (contents, is, inl (ends, x))) refused = subst IsRefusalStatus ends refused
+  edit_well text list s bytes (inr (contents, is, inr (all, are, report))) refused =
+      edits_well list report.answer s bytes report.shown refused
 
   -- nor those of `run`
   pub run_well : (text name : List ℕ) (steps : ℕ) (s : Status) (bytes : List ℕ)
@@ -167,6 +185,8 @@ no_refusal extensions headers operations files host all r values are = record {
   generate = λ number size name. rest_of (GenerateChecks operations number size name)
       (generate_well operations files r values number size name);
   certificate = rest_of CertificateChecks (certificate_well operations files r values);
+  edit = λ text list. rest_of (EditChecks operations.signatures (Some files) text list)
+      (edit_well operations files r values text list);
   reading = λ text. rest_of (ReadingChecks operations.signatures (Some files) text) (reading_well operations files r values text);
 }
   where

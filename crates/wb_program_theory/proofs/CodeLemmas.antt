@@ -25,13 +25,14 @@ use Rattle.wb_program.specs.Laws.{HaveOneStatus}
 use Rattle.wb_program.specs.Commands.{IsReportOf}
 use Rattle.wb_program.specs.Commands.Show.{ShowReport}
 use Rattle.wb_program.specs.Commands.Value.{RootReport, ValueReport}
-use Rattle.wb_program_theory.specs.Certified.{ComposeChecks, IsRefusalStatus, ReadingChecks, TreeChecks}
+use Rattle.wb_program_theory.specs.Certified.{ComposeChecks, EditChecks, IsRefusalStatus, ReadingChecks, TreeChecks}
 use Rattle.wb_program_theory.specs.Codes.{HaveOneCode, IsCodeStatus, ShowOneCode}
 use Rattle.wb_program_theory.proofs.AlikeLemmas.{IsTold, told_alike, written_alike}
-use Rattle.wb_program_theory.proofs.CertifiedLemmas.{certificate_well, compose_well, generate_well, reading_well, run_well, tree_well}
+use Rattle.wb_program_theory.proofs.CertifiedLemmas.{certificate_well, compose_well, edit_well, generate_well, reading_well, run_well, tree_well}
 use Rattle.wb_program_theory.proofs.FileLemmas.{file_is}
 use Rattle.wb_program_theory.proofs.HostCodes.{IsWellDefinedShown, attributes_shown, well_defined_alike, written_shown}
 use Rattle.wb_program_theory.proofs.MarkerCodes.{RefusalsExclude}
+use Rattle.wb_program_theory.proofs.RecheckCodes.{recheck_refused, refused_files}
 use Rattle.wb_program_theory.proofs.RefusedFiles.{certify_refused, coding, host_refused, one_file_code, several_refused}
 
 -- a status with a code refuses a host or an extension
@@ -142,6 +143,18 @@ module _ (extensions : ExcludesExtensions) (headers : ExcludesHeaders) (marks : 
           (λ r values report. certificate_well operations files r values s bytes report (refuses s code)) x)
           (several_refused extensions headers marks operations.signatures files t others code' host all CertificateChecks
           (λ r values report. certificate_well operations files r values t others report (refuses t code')) y)
+      asked_code (a.recheck host certificate extension) x y =
+          one_file_code extensions headers marks operations.signatures files host (refused_files extension) bytes others
+          (recheck_refused extensions headers marks operations.signatures files s bytes code host certificate extension x)
+          (recheck_refused extensions headers marks operations.signatures files t others code' host certificate extension y)
+      asked_code (a.edit text list host all) x y =
+          one_file_code extensions headers marks operations.signatures files host all bytes others
+          (several_refused extensions headers marks operations.signatures files s bytes code host all
+          (EditChecks operations.signatures (Some files) text list)
+          (λ r values report. edit_well operations files r values text list s bytes report (refuses s code)) x)
+          (several_refused extensions headers marks operations.signatures files t others code' host all
+          (EditChecks operations.signatures (Some files) text list)
+          (λ r values report. edit_well operations files r values text list t others report (refuses t code')) y)
       asked_code (a.reading text host all) x y =
           one_file_code extensions headers marks operations.signatures files host all bytes others
           (several_refused extensions headers marks operations.signatures files s bytes code host all

@@ -8,6 +8,8 @@ use Rattle.wb_report.specs.declared.attribute_reason.AttributeReason.{AttributeR
 use Rattle.wb_report.specs.declared.attribute_reason.AttributeReason.TheVariants as a
 use Rattle.wb_report.specs.declared.certificate_reason.CertificateReason.{CertificateReason}
 use Rattle.wb_report.specs.declared.certificate_reason.CertificateReason.TheVariants as k
+use Rattle.wb_report.specs.declared.edits_reason.EditsReason.{EditsReason}
+use Rattle.wb_report.specs.declared.edits_reason.EditsReason.TheVariants as u
 use Rattle.wb_report.specs.declared.extension_reason.ExtensionReason.{ExtensionReason}
 use Rattle.wb_report.specs.declared.extension_reason.ExtensionReason.TheVariants as e
 use Rattle.wb_report.specs.declared.grammar_reason.GrammarReason.{GrammarReason}
@@ -81,6 +83,12 @@ certificate_begins (k.WrongLine line) = (codes " line " ++ decimal line, refl)
 certificate_begins (k.Missing kernel) = (codes " kernel " ++ decimal kernel, refl)
 certificate_begins k.TooLong = ([], refl)
 
+edits_begins : (reason : EditsReason) → BeginsWithCode (r.Edits reason)
+edits_begins (u.Syntax offset) = (codes " at " ++ decimal offset, refl)
+edits_begins (u.OutOfRange line) = (codes " line " ++ decimal line, refl)
+edits_begins (u.TextTooLong line) = (codes " line " ++ decimal line, refl)
+edits_begins u.TooLong = ([], refl)
+
 pub begins : (refusal : Refusal) → BeginsWithCode refusal
 begins (r.Specification reason) = spec_begins reason
 begins (r.Grammar reason) = grammar_begins reason
@@ -88,3 +96,4 @@ begins (r.Extension reason) = extension_begins reason
 begins (r.Attributes reason) = attribute_begins reason
 begins (r.Term reason) = term_begins reason
 begins (r.Certificate reason) = certificate_begins reason
+begins (r.Edits reason) = edits_begins reason

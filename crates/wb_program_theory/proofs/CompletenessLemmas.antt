@@ -1,5 +1,5 @@
 -- A run writes the report that its words and files have, and `run` comes to the value of a text's attribute.
-use Rattle.std.proofs.Common.{◌≡◌, ◌≢◌, ℕ, List, Option, Some, inl, inr, refl, subst}
+use Rattle.std.proofs.Common.{◌≡◌, ◌≢◌, ℕ, List, Option, Some, inl, inr, refl, subst, sym}
 use Rattle.std.specs.Io.KnownBytes.{append_known}
 use Rattle.wb_compose_texts.specs.Roots.{attributes_in}
 use Rattle.wb_compose_texts.specs.declared.value.TextValue.TheVariants as v
@@ -10,9 +10,9 @@ use Rattle.wb_eval_theory.specs.Walks as walk
 use Rattle.wb_operations.specs.Operations.{Operations}
 use Rattle.wb_program.specs.Inner.Below.{ExcludesExtensions, ExcludesHeaders}
 use Rattle.wb_program.specs.declared.status.Status.{Status}
-use Rattle.wb_program.specs.declared.status.Status.TheVariants.{Done, NotCertified, SpecRefused}
+use Rattle.wb_program.specs.declared.status.Status.TheVariants.{CertificateRefused, Done, NotCertified, SpecRefused}
 use Rattle.wb_program.specs.Commands.Run.{RunChecks}
-use Rattle.wb_program.specs.Laws.{HaveOneStatus, HaveOneText}
+use Rattle.wb_program.specs.Laws.{HaveOneStatus, HaveOneText, ShowsKernel}
 use Rattle.wb_program.specs.Report.{IsReport}
 use Rattle.wb_program.specs.Written.{Wrote, WrotePrefix}
 use Rattle.wb_program_words.specs.Asked as a
@@ -23,16 +23,20 @@ use Rattle.wb_world.specs.Shelf.{Files}
 use Rattle.wb_program_theory.specs.Completeness.{HaveEnoughSteps, RunComesToValue, WriteAsReported, WroteReport}
 use Rattle.wb_program_theory.proofs.CertifiedLemmas.{reports}
 
+-- what is done is no refusal
+no_refusal : Done ≡ CertificateRefused → ⊥
+no_refusal same = cc
+
 module _ (one_status : HaveOneStatus) (one_text : HaveOneText) where
   module _ (operations : Operations) (words : List (List ℕ)) (files : Files) (status : Status) (bytes : List ℕ)
       (before now : Option (List ℕ)) (written : status ≢ SpecRefused) (certified : status ≢ NotCertified)
-      (report : IsReport operations words (Some files) status bytes) where
+      (kernel : ¬ ShowsKernel status bytes) (report : IsReport operations words (Some files) status bytes) where
     -- another report is the same
     same_bytes : (other : Status) (others : List ℕ) → IsReport operations words (Some files) other others → others ≡ bytes
     same_bytes other others is =
         let same : other ≡ status = one_status operations words files other status others bytes is report in
-        one_text operations words files status others bytes (inl (written, certified))
-        (subst (λ (z : Status). IsReport operations words (Some files) z others) same is) report
+        sym (one_text operations words files status bytes others (inl (written, certified, kernel)) report
+        (subst (λ (z : Status). IsReport operations words (Some files) z others) same is))
 
     as_reported : (end : Status) → Wrote (IsReport operations words (Some files)) before now end
         → WroteReport status bytes before now end
@@ -48,15 +52,15 @@ module _ (one_status : HaveOneStatus) (one_text : HaveOneText) where
 
   -- a run writes the report that there is
   pub write_as_reported : WriteAsReported
-  write_as_reported operations words files status end bytes before now written certified report =
-      as_reported operations words files status bytes before now written certified report end
+  write_as_reported operations words files status end bytes before now written certified kernel report =
+      as_reported operations words files status bytes before now written certified kernel report end
 
   -- `run` comes to the value
   pub run_comes : ExcludesExtensions → ExcludesHeaders → RunComesToValue
   run_comes extensions headers operations words files text name host steps all r values contents printed before now end asks are is_text
       comes =
       as_reported operations words files Done (report_of (o.Done (done.Value name printed))) before now (λ same. absurd (cc))
-      (λ same. absurd (cc))
+      (λ same. absurd (cc)) (λ shows. no_refusal shows.refused)
       (inr (record {
         asked = a.run text name steps host all;
         asks = asks;

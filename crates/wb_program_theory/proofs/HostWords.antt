@@ -9,7 +9,7 @@ use Rattle.wb_program_words.proofs.OneAsked.{one_asked}
 use Rattle.wb_program_words.specs.Asked.{Asked}
 use Rattle.wb_program_words.specs.Asked as a
 use Rattle.wb_program_words.specs.Words.{Asks}
-use Rattle.wb_program.specs.Laws.{HaveOneStatus, HaveOneText}
+use Rattle.wb_program.specs.Laws.{HaveOneStatus, HaveOneText, ShowsKernel}
 use Rattle.wb_program.specs.Commands.{IsReportOf}
 use Rattle.wb_program.specs.Report.{IsReport}
 use Rattle.wb_program_theory.specs.Certified.{HaveNoRefusal, IsRefusalStatus}
@@ -31,6 +31,9 @@ not_specification status accepted same = accepted (subst IsRefusalStatus (sym sa
 not_certification : (status : Status) → ¬ IsRefusalStatus status → status ≢ NotCertified
 not_certification status accepted same = accepted (subst IsRefusalStatus (sym same) tt)
 
+not_kernel : (status : Status) (bytes : List ℕ) → ¬ IsRefusalStatus status → ¬ ShowsKernel status bytes
+not_kernel status bytes accepted shows = accepted (subst IsRefusalStatus (sym shows.refused) tt)
+
 module _ (one_status : HaveOneStatus) (one_text : HaveOneText) where
   -- where each report of the other is one of the one, and refuses no host and no extension, both are one
   equal_reports : (operations : Operations) (files : Files) (asked other : Asked)
@@ -42,7 +45,8 @@ module _ (one_status : HaveOneStatus) (one_text : HaveOneText) where
       let also : IsReport operations words (Some files) end ends = inr (record { asked = asked; asks = asks; report = there }) in
       let same : status ≡ end = one_status operations words files status end bytes ends report also in (
         same,
-        one_text operations words files end bytes ends (inl (not_specification end accepted, not_certification end accepted))
+        one_text operations words files end bytes ends
+            (inl (not_specification end accepted, not_certification end accepted, not_kernel end bytes accepted))
             (subst (λ (z : Status). IsReport operations words (Some files) z bytes) same report) also,
       )
 

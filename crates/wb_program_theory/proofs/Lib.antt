@@ -17,6 +17,8 @@ mod PrefixedExist
 mod ExpressionsExist
 mod GenerateReports
 mod ReadingReports
+mod EditsExist
+mod EditReports
 mod ReadingLemmas
 mod HostWords
 mod ReportsExist
@@ -29,5 +31,6 @@ mod AlikeLemmas
 mod HostCodes
 mod ExtensionCodes
 mod RefusedFiles
+mod RecheckCodes
 mod CodeLemmas
 mod CodeTexts

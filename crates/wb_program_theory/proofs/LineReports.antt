@@ -1,5 +1,5 @@
--- Words that ask for `check`, `certify`, `compose` or `certificate` have a report, where files are certified.
-use Rattle.std.proofs.Common.{◌<◌, ◌≤◌, ◌⊎◌, ◌++◌, ◌∷◌, [], ℕ, List, Some, inl, inr, length, refl}
+-- Words that ask for `check`, `certify`, `compose`, `certificate` or `recheck` have a report, where files are certified.
+use Rattle.std.proofs.Common.{◌<◌, ◌≤◌, ◌⊎◌, ◌++◌, ◌∷◌, [], ℕ, List, Some, None, inl, inr, length, refl}
 use Rattle.std.proofs.lemmas.Bool.{cases_lt}
 use Rattle.wb_certify.specs.Extensions.{IsOneExtension}
 use Rattle.wb_certify_files.specs.ExtensionContents.{IsExtensionText}
@@ -19,7 +19,7 @@ use Rattle.wb_program.specs.Commands.Certificate.{CertificateChecks, IsCertifica
 use Rattle.wb_program.specs.Commands.Certify.{ExtensionsReport}
 use Rattle.wb_program_theory.specs.Certified.{ComposeChecks}
 use Rattle.wb_program_theory.specs.Reported.{HaveCertificateReport, HaveCertifyReport, HaveCheckReport, HaveComposeReport, IsDone}
-use Rattle.wb_program_theory.specs.Reported.{IsPrintStatus, IsReported}
+use Rattle.wb_program_theory.specs.Reported.{HaveRecheckReport, HaveRecheckedExtensionReport, IsPrintStatus, IsReported}
 use Rattle.wb_program_theory.proofs.CertifiedLemmas.{reports}
 use Rattle.wb_program_theory.proofs.ExistenceLemmas.{from_file, has_withdrawn}
 use Rattle.wb_program_theory.proofs.FileLemmas.{file_is}
@@ -121,3 +121,25 @@ have_certificate_report excludes headers operations words files host all r value
         report = reports excludes headers operations.signatures files host all r values are CertificateChecks x.status x.bytes x.is;
       });
     })
+
+-- `recheck` of a host
+pub have_recheck_report : HaveRecheckReport
+have_recheck_report operations words files host certificate r asks is = record {
+  status = Done;
+  bytes = report_of (o.Done (done.Rechecked r.host None));
+  such = refl;
+  is = inr (record { asked = a.recheck host certificate []; asks = asks; report = inr (inr (r, is, (refl, refl))) });
+}
+
+-- and of an extension with it
+pub have_rechecked_extension_report : HaveRecheckedExtensionReport
+have_rechecked_extension_report operations words files host certificate extension other r name asks is beside = record {
+  status = Done;
+  bytes = report_of (o.Done (done.Rechecked r.host (Some name)));
+  such = refl;
+  is = inr (record {
+    asked = a.recheck host certificate (extension ∷ other ∷ []);
+    asks = asks;
+    report = inr (inr (r, is, inr (inr (name, beside, (refl, refl)))));
+  });
+}

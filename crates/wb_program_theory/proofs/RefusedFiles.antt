@@ -52,7 +52,7 @@ module _ (extensions : ExcludesExtensions) (headers : ExcludesHeaders) (marks : 
   host_fault contents shown (inr p) = host.certification_shown operations contents shown p
 
   -- and this of one that isn't a certified extension
-  abbrev IsExtensionFault : ResolvedParts → List ℕ → Refusal → Type 0
+  abbrev pub IsExtensionFault : ResolvedParts → List ℕ → Refusal → Type 0
   IsExtensionFault r contents shown =
       IsExtensionRefusal r operations contents (f.Specification shown) ⊎ IsExtensionRefusal r operations contents (f.Certification shown)
 
@@ -66,7 +66,7 @@ module _ (extensions : ExcludesExtensions) (headers : ExcludesHeaders) (marks : 
   IsCertifiedFile r file = (value : ResolvedParts) × FileIs (files file) (λ contents. IsExtensionText r operations contents value)
 
   -- of extensions in their order one is refused, and those before it are certified
-  abbrev RefusesOne : ResolvedParts → List (List ℕ) → List ℕ → Type 0
+  abbrev pub RefusesOne : ResolvedParts → List (List ℕ) → List ℕ → Type 0
   RefusesOne r [] bytes = ⊥
   RefusesOne r (file ∷ left) bytes =
       IsTold (IsExtensionFault r) files file bytes ⊎ (IsCertifiedFile r file × RefusesOne r left bytes)

@@ -14,8 +14,9 @@ use Rattle.wb_program_words.specs.Asked as a
 use Rattle.wb_program_words.specs.Words.{Asks}
 use Rattle.wb_program_theory.specs.Certified.{AreCertified, TreeChecks}
 use Rattle.wb_program_theory.specs.Reported.{HaveReport, HaveReports, IsAny, of_certificate, of_certify, of_check, of_compose}
-use Rattle.wb_program_theory.specs.Reported.{of_generate, of_reading, of_run, of_tree}
+use Rattle.wb_program_theory.specs.Reported.{of_edit, of_generate, of_reading, of_run, of_tree}
 use Rattle.wb_program_theory.proofs.CertifiedLemmas.{reports}
+use Rattle.wb_program_theory.proofs.EditReports.{edit_reported}
 use Rattle.wb_program_theory.proofs.GenerateReports.{have_generate_report}
 use Rattle.wb_program_theory.proofs.LineReports.{have_certificate_report, have_certify_report, have_check_report, have_compose_report}
 use Rattle.wb_program_theory.proofs.ReadingReports.{reading_reported}
@@ -68,6 +69,10 @@ module _ (excludes : ExcludesExtensions) (headers : ExcludesHeaders) where
       (λ x. record { status = x.status; bytes = x.bytes; such = tt; is = x.is })
   have_reports operations words files host all r values asked ops are (of_generate {number = number} {size = size} {name = name} match) asks =
       have_generate_report excludes headers operations words files number size name host all r values ops match asks are
+  have_reports operations words files host all r values asked ops are
+      (of_edit {text = text} {edits = edits} (contents, there) edits_there) asks =
+      edit_reported excludes headers operations words files text edits host all r values are asks contents there edits_there
+      (cases_lt 1048576 (length contents))
   have_reports operations words files host all r values asked ops are (of_reading {text = text} (contents, there)) asks =
       reading_reported excludes headers operations words files text host all r values are asks contents there
       (cases_lt 1048576 (length contents))

@@ -11,11 +11,13 @@ use Rattle.wb_program.specs.SeveralChecks.{AreEach, names_of}
 use Rattle.wb_program.specs.Texts.{IsText, IsTooLongText}
 use Rattle.wb_program.specs.declared.status.Status.{Status}
 use Rattle.wb_program.specs.declared.status.Status.TheVariants.{Done, DuplicateExtension, NotCertified, SpecRefused, TextTooLong}
+use Rattle.wb_program.specs.declared.status.Status.TheVariants.{CertificateRefused}
 use Rattle.wb_program.specs.declared.status.Status.TheVariants.{TooManyExtensions, WrongHost}
 use Rattle.wb_program.specs.Commands.Generate.{GenerateChecks, GenerateReport}
 use Rattle.wb_program.specs.Commands.Run.{RunChecks, RunReport}
 use Rattle.wb_program.specs.Commands.Certificate.{CertificateChecks, CertificateReport}
 use Rattle.wb_program.specs.Commands.Compose.{ComposeReport, ComposedLines}
+use Rattle.wb_program.specs.Commands.Edit.{EditReport, EditsReport}
 use Rattle.wb_program.specs.Commands.Reading.{ReadingReport, TextReadingReport}
 use Rattle.wb_program.specs.Commands.Tree.{TextReport, TreeReport}
 
@@ -41,13 +43,20 @@ abbrev pub ReadingChecks : List OperationSignature → Option Files → (text : 
 ReadingChecks operations known file host extensions =
     Check TextTooLong (IsTooLongText known file) (IsText known file) (λ (text : List ℕ). TextReadingReport operations host extensions text)
 
--- a status that says that a host or an extension is refused, or that there are too many extensions: 3, 4, 14, 15 or 16
+-- what `edit` reports of them: that the text is too long, or what becomes of it by the edits of a file in their language
+abbrev pub EditChecks : List OperationSignature → Option Files → (text edits : List ℕ) → ResolvedParts → List ResolvedParts → Report
+EditChecks operations known file edits host extensions =
+    Check TextTooLong (IsTooLongText known file) (IsText known file)
+    (λ (text : List ℕ). EditsReport operations known edits host extensions text)
+
+-- a status that says that a host, an extension or a certificate is refused, or that there are too many extensions: 3, 4, 14, 15, 16 or 20
 abbrev pub IsRefusalStatus : Status → Type 0
 IsRefusalStatus SpecRefused = Unit {0}
 IsRefusalStatus NotCertified = Unit {0}
 IsRefusalStatus TooManyExtensions = Unit {0}
 IsRefusalStatus DuplicateExtension = Unit {0}
 IsRefusalStatus WrongHost = Unit {0}
+IsRefusalStatus CertificateRefused = Unit {0}
 IsRefusalStatus other = ⊥
 
 -- the whole report is its rest, and has no status of a refusal
@@ -70,6 +79,9 @@ pub record HaveNoRefusal (operations : Operations) (files : Files) (host : List 
       → IsItsRest (GenerateReport operations (Some files) number size name host extensions)
       (GenerateChecks operations number size name r values)
   pub certificate : IsItsRest (CertificateReport operations.signatures (Some files) host extensions) (CertificateChecks r values)
+  pub edit : (text edits : List ℕ)
+      → IsItsRest (EditReport operations.signatures (Some files) text edits host extensions)
+      (EditChecks operations.signatures (Some files) text edits r values)
   pub reading : (text : List ℕ)
       → IsItsRest (ReadingReport operations.signatures (Some files) text host extensions)
       (ReadingChecks operations.signatures (Some files) text r values)

@@ -6,6 +6,8 @@ use Rattle.wb_report.specs.declared.attribute_reason.AttributeReason.{AttributeR
 use Rattle.wb_report.specs.declared.attribute_reason.AttributeReason.TheVariants as a
 use Rattle.wb_report.specs.declared.certificate_reason.CertificateReason.{CertificateReason}
 use Rattle.wb_report.specs.declared.certificate_reason.CertificateReason.TheVariants as k
+use Rattle.wb_report.specs.declared.edits_reason.EditsReason.{EditsReason}
+use Rattle.wb_report.specs.declared.edits_reason.EditsReason.TheVariants as u
 use Rattle.wb_report.specs.declared.extension_reason.ExtensionReason.{ExtensionReason}
 use Rattle.wb_report.specs.declared.extension_reason.ExtensionReason.TheVariants as e
 use Rattle.wb_report.specs.declared.grammar_reason.GrammarReason.{GrammarReason}
@@ -84,6 +86,13 @@ certificate_code (k.WrongLine line) = codes "K2"
 certificate_code (k.Missing kernel) = codes "K3"
 certificate_code k.TooLong = codes "K4"
 
+-- that of a rule of lists of edits
+abbrev pub edits_code : EditsReason → List ℕ
+edits_code (u.Syntax offset) = codes "U1"
+edits_code (u.OutOfRange line) = codes "U2"
+edits_code (u.TextTooLong line) = codes "U3"
+edits_code u.TooLong = codes "U4"
+
 -- the code of a refusal
 abbrev pub code_of : Refusal → List ℕ
 code_of (r.Specification reason) = spec_code reason
@@ -92,6 +101,7 @@ code_of (r.Extension reason) = extension_code reason
 code_of (r.Attributes reason) = attribute_code reason
 code_of (r.Term reason) = term_code reason
 code_of (r.Certificate reason) = certificate_code reason
+code_of (r.Edits reason) = edits_code reason
 
 -- the text of a refusal begins with its code
 abbrev pub BeginsWithCode : Refusal → Type 0

@@ -26,6 +26,7 @@ use Rattle.wb_program_words.specs.Words.{Asks}
 use Rattle.wb_program.specs.Texts.{IsText}
 use Rattle.wb_program.specs.declared.status.Status.{Status}
 use Rattle.wb_program.specs.declared.status.Status.TheVariants.{Done, NotCertified, SpecRefused, WriteFault}
+use Rattle.wb_program.specs.Laws.{ShowsKernel}
 use Rattle.wb_program.specs.Report.{IsReport}
 use Rattle.wb_program.specs.Written.{WritesNothing, Wrote, WrotePrefix}
 use Rattle.wb_program_theory.specs.Certified.{AreCertified}
@@ -37,12 +38,13 @@ WroteReport status bytes before now end =
     ((end ≡ status) × (now ≡ append_known before bytes)) ⊎ ((end ≡ WriteFault) × WrotePrefix before now bytes)
     ⊎ (WritesNothing end × (now ≡ before))
 
--- where words and known files have a report that refuses no specification, a run wrote that report, unless it ended at a file, at the
--- output or out of memory
+-- where words and known files have a report that refuses no specification, and shows no kernel of a certificate, a run wrote that report,
+-- unless it ended at a file, at the output or out of memory
 abbrev pub WriteAsReported : Type 0
 WriteAsReported = (operations : Operations) (words : List (List ℕ)) (files : Files) (status end : Status) (bytes : List ℕ)
-    (before now : Option (List ℕ)) → status ≢ SpecRefused → status ≢ NotCertified → IsReport operations words (Some files) status bytes
-    → Wrote (IsReport operations words (Some files)) before now end → WroteReport status bytes before now end
+    (before now : Option (List ℕ)) → status ≢ SpecRefused → status ≢ NotCertified → ¬ ShowsKernel status bytes
+    → IsReport operations words (Some files) status bytes → Wrote (IsReport operations words (Some files)) before now end
+    → WroteReport status bytes before now end
 
 module _ (host : ResolvedParts) (operations : Operations) (extensions : List ResolvedParts) (text name : List ℕ) where
   -- within so many steps the attribute of this name has a value at the root of the text's tree, which is printed so and isn't too long

@@ -13,7 +13,7 @@ use wb_certify_files::{header_law, one_extension_answer_law};
 use wb_program::{one_status_law, one_text_law};
 
 /// Where files hold a certified host and at most 64 extensions, each certified with it and named apart, `compose`, `tree`, `run`,
-/// `generate`, `certificate` and `reading` refuse nothing: no report of theirs has status 3, 4, 14, 15 or 16. What they report is what comes after these
+/// `generate`, `certificate`, `edit` and `reading` refuse nothing: no report of theirs has status 3, 4, 14, 15 or 16. What they report is what comes after these
 /// checks, of the one host and the extensions that the files hold.
 pub fn no_refusal_law()
     ensures accepted { (operations : Operations) (files : Files) (host : List ℕ) (extensions : List (List ℕ)) (r : ResolvedParts) (values : List ResolvedParts) → certified.AreCertified operations.signatures files host extensions r values → certified.HaveNoRefusal operations files host extensions r values }
@@ -64,12 +64,23 @@ pub fn tree_report_law()
 
 /// Where words ask for `check` and the file holds a certified host, they have a report with status 0; and so have words that ask for
 /// `certify` or `compose` where files are certified, and for `certificate` with status 0 or 13. Of `compose` and `certificate` it is said
-/// that they have none can't be.
+/// that they have none can't be. Words that ask for `recheck` have one with status 0 where each file is certified by its certificate.
 pub fn line_report_law()
     ensures check { reported.HaveCheckReport }
     ensures certify { reported.HaveCertifyReport }
     ensures compose { reported.HaveComposeReport }
     ensures certificate { reported.HaveCertificateReport }
+    ensures recheck { reported.HaveRecheckReport }
+    ensures rechecked_extension { reported.HaveRecheckedExtensionReport }
+{
+    one_extension_answer_law();
+    header_law();
+}
+
+/// Where words ask for `edit` of such files, the text's file is known and not too long, and the file of edits is there, they have a report
+/// with status 0, 13 or 21. That they have none can't be.
+pub fn edit_report_law()
+    ensures { reported.HaveEditReport }
 {
     one_extension_answer_law();
     header_law();
@@ -95,8 +106,8 @@ pub fn generate_report_law()
     header_law();
 }
 
-/// So words that ask for `check`, `certify`, `compose`, `certificate`, `tree`, `run`, `generate` or `reading` of certified files have a
-/// report, where a text's file is there, or each terminal matches some text: that they have none can't be.
+/// So words that ask for `check`, `certify`, `compose`, `certificate`, `tree`, `run`, `generate`, `edit` or `reading` of certified files have
+/// a report, where a text's file is there, and that of its edits, or each terminal matches some text: that they have none can't be.
 pub fn report_law()
     ensures { reported.HaveReports }
 {

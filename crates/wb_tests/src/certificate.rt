@@ -57,7 +57,7 @@ fn a_certificate_lists_kernels_and_lookaheads(rt: HostRuntime) {
 }
 
 const USAGE: &str =
-    "usage: workbench value|show|check|certify|compose|tree|run|generate|certificate|reading ARGUMENTS\n";
+    "usage: workbench value|show|check|certify|compose|tree|run|generate|certificate|recheck|edit|reading ARGUMENTS\n";
 
 static OTHERS: [Row; 14] = [
     ("workbench certificate", &[ONE], Status::Usage, USAGE),

@@ -7,7 +7,7 @@ use wb_program::Status;
 use wb_world::MemorySink;
 
 const USAGE: &str =
-    "usage: workbench value|show|check|certify|compose|tree|run|generate|certificate|reading ARGUMENTS\n";
+    "usage: workbench value|show|check|certify|compose|tree|run|generate|certificate|recheck|edit|reading ARGUMENTS\n";
 
 static ROWS: [Row; 9] = [
     (

@@ -14,6 +14,8 @@ mod closed;
 #[cfg(test)]
 mod compose;
 #[cfg(test)]
+mod edit;
+#[cfg(test)]
 mod failing_runs;
 #[cfg(test)]
 mod generate;
@@ -35,6 +37,8 @@ mod prefixes;
 mod reading;
 #[cfg(test)]
 mod reading_texts;
+#[cfg(test)]
+mod recheck;
 #[cfg(test)]
 mod run;
 #[cfg(test)]

@@ -109,7 +109,7 @@ fn each_text_has_its_first_marker_or_none(rt: HostRuntime) {
 }
 
 const USAGE: &str =
-    "usage: workbench value|show|check|certify|compose|tree|run|generate|certificate|reading ARGUMENTS\n";
+    "usage: workbench value|show|check|certify|compose|tree|run|generate|certificate|recheck|edit|reading ARGUMENTS\n";
 
 static OTHERS: [Row; 11] = [
     ("workbench reading h", &[KW, "if"], Status::Usage, USAGE),

@@ -211,13 +211,13 @@ static OTHERS: [Row; 14] = [
         "workbench run --attr value --text v --steps 0 h",
         &[TINY, "", "", "3"],
         Status::Usage,
-        "usage: workbench value|show|check|certify|compose|tree|run|generate|certificate|reading ARGUMENTS\n",
+        "usage: workbench value|show|check|certify|compose|tree|run|generate|certificate|recheck|edit|reading ARGUMENTS\n",
     ),
     (
         "workbench run --attr value --text v --steps 10000001 h",
         &[TINY, "", "", "3"],
         Status::Usage,
-        "usage: workbench value|show|check|certify|compose|tree|run|generate|certificate|reading ARGUMENTS\n",
+        "usage: workbench value|show|check|certify|compose|tree|run|generate|certificate|recheck|edit|reading ARGUMENTS\n",
     ),
 ];
 

@@ -343,7 +343,7 @@ fn a_host_is_refused_before_the_term_is_read(rt: HostRuntime) {
 }
 
 const USAGE: &str =
-    "usage: workbench value|show|check|certify|compose|tree|run|generate|certificate|reading ARGUMENTS\n";
+    "usage: workbench value|show|check|certify|compose|tree|run|generate|certificate|recheck|edit|reading ARGUMENTS\n";
 
 // Command lines that aren't valid. The first have no word at all and an empty one.
 static NO_COMMANDS: [&str; 42] = [

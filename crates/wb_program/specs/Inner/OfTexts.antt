@@ -20,5 +20,6 @@ abbrev pub IsOnText : Command → Type 0
 IsOnText (c.Tree text host extensions) = Unit {0}
 IsOnText (c.Run text attribute steps host extensions) = Unit {0}
 IsOnText (c.Generate number size attribute host extensions) = Unit {0}
+IsOnText (c.Edit text edits host extensions) = Unit {0}
 IsOnText (c.Reading text host extensions) = Unit {0}
 IsOnText other = ⊥

@@ -14,6 +14,7 @@ ghost use Rattle.wb_program.specs.Commands.Certificate.{CertificateChecks, Certi
 use crate::answer::{Answer, reported};
 use crate::composable::read_composable;
 use crate::files::ReadFailure;
+use crate::pairs::MOST_BYTES;
 use crate::status::Status;
 use std::alloc::{AllocError, Global};
 use wb_base::Bytes;
@@ -23,9 +24,6 @@ use wb_operations::{Meaning, OperationTable};
 use wb_recheck_files::{extension_certificate, host_certificate};
 use wb_report::Outcome;
 use wb_world::Shelf;
-
-// The most bytes of a certificate that is printed, so that none is too long for `recheck`.
-const MOST_BYTES: usize = 16_777_216;
 
 // The answer to `certificate HOST [EXT]`.
 pub(crate) fn answer_certificate<S: Shelf, M: Meaning>(

@@ -25,6 +25,11 @@ returns-in-Generate g c =
     let operations : Operations = record { signatures = c.args.operations.now.signatures; meaning = g.M.Meaning.meaning } in
     of_command operations c.answer_generate.result c.args.command c.in-Generate.is c.answer_generate.ensures
 
+pub returns-in-Edit : goal.returns-in-Edit
+returns-in-Edit g c =
+    let operations : Operations = record { signatures = c.args.operations.now.signatures; meaning = g.M.Meaning.meaning } in
+    of_command operations c.answer_edit.result c.args.command c.in-Edit.is c.answer_edit.ensures
+
 pub returns-in-Reading : goal.returns-in-Reading
 returns-in-Reading g c =
     let operations : Operations = record { signatures = c.args.operations.now.signatures; meaning = g.M.Meaning.meaning } in

@@ -34,3 +34,8 @@ pub returns-in-Certificate : goal.returns-in-Certificate
 returns-in-Certificate g c =
     let operations : Operations = record { signatures = c.args.operations.now.signatures; meaning = g.M.Meaning.meaning } in
     of_command operations c.answer_certificate.result c.args.command c.in-Certificate.is c.answer_certificate.ensures
+
+pub returns-in-Recheck : goal.returns-in-Recheck
+returns-in-Recheck g c =
+    let operations : Operations = record { signatures = c.args.operations.now.signatures; meaning = g.M.Meaning.meaning } in
+    of_command operations c.answer_recheck.result c.args.command c.in-Recheck.is c.answer_recheck.ensures
