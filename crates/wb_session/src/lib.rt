@@ -12,6 +12,7 @@ mod memory;
 mod place;
 mod reduce;
 mod refusal;
+mod rejoining;
 mod session;
 mod stacks;
 mod step;

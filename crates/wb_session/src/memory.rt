@@ -8,9 +8,10 @@ ghost use Rattle.wb_session.specs.Places.{KeepsPlaces};
 ghost use Rattle.wb_session.specs.Kept.{IsMemory};
 ghost use Rattle.wb_session.specs.Inner.Memories.{IsNew};
 
-use crate::checkpoint::Checkpoint;
+use crate::checkpoint::{Checkpoint, last_before};
 use crate::edited_text::make_edited;
 use crate::going_on::{go_back, go_on};
+use crate::rejoining::{Shift, Tail, go_on_beside, keep_tail};
 use crate::stacks::Stacks;
 use crate::{Edited, LeafPlace};
 use std::alloc::{AllocError, Global};
@@ -135,16 +136,27 @@ pub(crate) fn reread_text(
 {
     make_edited(&memory.text, &mut memory.spare, from, to, with)?;
     let before = memory.stacks.store.len();
+    let mut tail = Tail::new(*memory.text.allocator());
+    let place = last_before(&memory.checkpoints, from);
+    keep_tail(&memory.checkpoints, &memory.stacks, place, &mut tail)?;
     let point = go_back(&mut memory.checkpoints, &mut memory.stacks, from);
     let kept = memory.checkpoints.len() - 1;
     take_first(&memory.places, &mut memory.spare_places, kept)?;
-    let parsed = go_on(
+    let shift = Shift {
+        to,
+        moved: from + with.len(),
+        kept,
+    };
+    let parsed = go_on_beside(
         language,
         &memory.rules,
         &memory.spare,
         &mut memory.checkpoints,
         &mut memory.stacks,
         &mut memory.spare_places,
+        &tail,
+        &memory.places,
+        shift,
     )?;
     swap(&mut memory.text, &mut memory.spare);
     swap(&mut memory.places, &mut memory.spare_places);
