@@ -21,6 +21,8 @@ mod EditsExist
 mod EditReports
 mod ReadingLemmas
 mod HostWords
+mod AloneLemmas
+mod ReadingOrder
 mod ReportsExist
 mod WordLemmas
 mod ChainLemmas

@@ -50,10 +50,10 @@ is_plain operations r values text reading.Host is shown =
 is_plain operations r values text (reading.MarkerAt place marker) is (ends, line) = absurd (not_marker place marker line)
 
 -- done is no refusal
-abbrev IsDone : Status → Type 0
+abbrev pub IsDone : Status → Type 0
 IsDone status = status ≡ Done
 
-refuses_none : RefusesNone IsDone
+pub refuses_none : RefusesNone IsDone
 refuses_none = record {
   specification = λ same. absurd (cc same);
   certification = λ same. absurd (cc same);
@@ -63,7 +63,7 @@ refuses_none = record {
 }
 
 -- a file is one text
-one_contents : (files : Files) (file text other : List ℕ) → IsText (Some files) file text → IsText (Some files) file other → text ≡ other
+pub one_contents : (files : Files) (file text other : List ℕ) → IsText (Some files) file text → IsText (Some files) file other → text ≡ other
 one_contents files file text other is also =
     on_file (files file) (λ contents. contents ≡ text) (λ contents. contents ≡ other) (text ≡ other) (λ contents x y. sym x ∙ y) is.0 also.0
 

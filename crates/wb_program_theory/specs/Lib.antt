@@ -8,6 +8,8 @@ pub mod RunLaws
 pub mod ReadingLaws
 -- and of words that ask for a command with extensions and without, of such a text
 pub mod ReadingWords
+-- reports of such a text without the extensions, and readings in every order of them
+pub mod ReadingAlone
 -- reports of files that hold a certified host and certified extensions
 pub mod Certified
 -- that a text has an answer

@@ -2,6 +2,7 @@
 //! one code, the order of extensions doesn't matter, and a text without markers means what it means to the host. Each function is a law.
 #![tactic(auto)]
 
+pub mod alone_laws;
 pub mod certified_laws;
 pub mod code_laws;
 pub mod laws;
