@@ -8,5 +8,7 @@ pub mod Stacks
 pub mod Kept
 -- what a session shows of its fields, and what holds of them
 pub mod Views
+-- texts that are kept apart from their language
+pub mod KeptTexts
 -- words of private functions, and what loops keep
 pub mod Inner

@@ -7,6 +7,7 @@
 mod checkpoint;
 mod edited_text;
 mod going_on;
+mod kept_text;
 mod leaf;
 mod memory;
 mod place;
@@ -17,5 +18,6 @@ mod stacks;
 mod step;
 
 pub use place::LeafPlace;
+pub use kept_text::KeptText;
 pub use refusal::EditRefusal;
 pub use session::{Edited, Session};

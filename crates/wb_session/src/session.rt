@@ -15,7 +15,7 @@ use wb_scan::Language;
 use wb_values::TreeStore;
 
 // The longest text.
-const LIMIT: usize = 1_048_576;
+pub(crate) const LIMIT: usize = 1_048_576;
 
 /// A text in a language, with its answer: its one tree, or its one stop. The tree is in the session's store, and so are those of all texts
 /// before.
