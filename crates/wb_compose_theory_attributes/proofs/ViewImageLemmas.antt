@@ -1,6 +1,7 @@
 -- The part of a world that an owner's part has is the part of the owner's own world, in new numbers.
 use Rattle.std.proofs.Common.{◌≡◌, ◌∙◌, ◌≤◌, ℕ, List, Option, Some, None, map, option_map, slice_get, length, refl}
 use Rattle.std.proofs.Common.{sym, ap, subst}
+use Rattle.wb_lemmas.proofs.Booleans.{and_parts}
 use Rattle.wb_lemmas.proofs.Elements.{all_at}
 use Rattle.wb_lemmas.proofs.Places.{at_once}
 use Rattle.wb_flow_theory.specs.Modular.{IsHosts}
@@ -8,7 +9,6 @@ use Rattle.wb_flow_theory.specs.Occurrences.{Goes}
 use Rattle.wb_flow_theory.specs.Rules.{IsBelow}
 use Rattle.wb_flow_theory.specs.Vertices.{local, forward, Step, child, made, Vertex}
 use Rattle.wb_base.specs.declared.symbol.Kind.TheVariants as kind
-use Rattle.wb_eval_theory.proofs.RuleLemmas.{both}
 use Rattle.wb_syntax_resolved.specs.declared.attributes.Attribute.{Attribute}
 use Rattle.wb_syntax_resolved.specs.declared.attributes.Direction.{Direction}
 use Rattle.wb_syntax_resolved.specs.declared.attributes.Direction.TheVariants.{Synthesized}
@@ -218,7 +218,7 @@ module _ (a : AttributionParts) (is : IsAttribution a) (start : ℕ) (first : Is
   occurs_to : (d : Direction) (m x : ℕ) → OccursIn small part d m x → OccursIn large other d (v.t.nonterminal m) (v.t.attribute x)
   occurs_to d m x (o, has, declares) =
       let (r, listed, on, of, owner, at) = declared_from v.s v.is begin begins d o m x declares in
-      let (goes, declared) = both (goes_so d (slice_get v.s.attributes x)) (declared_by o (occurrence_at m x v.s.occurrences)) declares in
+      let (goes, declared) = and_parts (goes_so d (slice_get v.s.attributes x)) (declared_by o (occurrence_at m x v.s.occurrences)) declares in
       let there = goes_same x ∙ goes_from d (slice_get v.s.attributes x) goes in
       let written = declares_to a is start first d (v.t.nonterminal m) (v.t.attribute x) (new_occurrence v.t k r)
       (v.seen.occurrences r listed)
@@ -230,7 +230,7 @@ module _ (a : AttributionParts) (is : IsAttribution a) (start : ℕ) (first : Is
   occurs_from d n b (o, has, declares) =
       let (r, listed, on, of, owner, at) = declared_from a is start first d o n b declares in
       let (from, there, equal) = v.seen.occurrences_from r listed (sees_from k r.owner (subst (Has other) owner has)) in
-      let (goes, declared) = both (goes_so d (slice_get a.attributes b)) (declared_by o (occurrence_at n b a.occurrences)) declares in
+      let (goes, declared) = and_parts (goes_so d (slice_get a.attributes b)) (declared_by o (occurrence_at n b a.occurrences)) declares in
       let b_is : b ≡ v.t.attribute from.attribute = of ∙ ap (λ (z : Occurrence). z.attribute) equal in
       let n_is : n ≡ v.t.nonterminal from.nonterminal = on ∙ ap (λ (z : Occurrence). z.nonterminal) equal in
       let goes_there = goes_from d (slice_get a.attributes b) goes in

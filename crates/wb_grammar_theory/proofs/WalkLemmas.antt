@@ -2,13 +2,13 @@
 use Rattle.std.proofs.Common.{◌≡◌, ◌≢◌, ℕ, ◌<◌, ◌+◌, zero, suc, List, [], ◌∷◌, length, Some, ◌⊎◌, refl, sym, ◌∙◌, ap, subst, inl, inr}
 use Rattle.std.proofs.Common.{arith}
 use Rattle.std.specs.Prelude.{slice_get, ◌↔◌, Contains}
+use Rattle.std.proofs.lemmas.Option.{slice_get-get_or}
 use Rattle.wb_base.specs.Grammar.{GrammarView}
 use Rattle.wb_grammar_theory.specs.Cycles.{DerivesItself, IsHiddenLeftRecursive, IsLeftCorner, IsHiddenCorner, IsFollowedBy}
 use Rattle.wb_grammar_theory.specs.Cycles.{IsCycleOf, IsUnitCycle, IsHiddenCycle}
 use Rattle.wb_grammar_theory.specs.Walks.{Walk, one, more, HiddenWalk, last, here, later}
 use Rattle.wb_grammar_theory.proofs.HiddenLemmas.{hidden_is}
 use Rattle.wb_grammar_theory.proofs.CycleLemmas.{cycle_walk, unit_cycle_member, follower_place, cycle_of_one}
-use Rattle.wb_lemmas.proofs.Members.{place_of}
 
 -- the relation leads from each to the next, and from the last to b
 abbrev AreChained : (ℕ → ℕ → Type 0) → List ℕ → ℕ → Type 0
@@ -121,7 +121,8 @@ hidden_cycle_is g a = (there, λ (list, cycle, has). back list cycle has)
 
     back : (list : List ℕ) → IsHiddenCycle g list → Contains list a → IsHiddenLeftRecursive g a
     back list cycle has =
-        let (i, at) = place_of list a has in
+        let (i, within, is) = has in
+        let at : slice_get list i ≡ Some a = slice_get-get_or list i a within ∙ ap Some is in
         let (j, below_at) = follower_place list cycle.above cycle.below cycle.place in
         let to : Walk (IsLeftCorner g) a cycle.above = cycle_walk
         (IsLeftCorner g) list cycle.cycle i cycle.place.place a cycle.above at cycle.place.one in
@@ -132,5 +133,5 @@ hidden_cycle_is g a = (there, λ (list, cycle, has). back list cycle has)
 pub unit_cycle_in : (g : GrammarView) (a : ℕ) → DerivesItself g a ↔ ((list : List ℕ) × IsUnitCycle g list × Contains list a)
 unit_cycle_in g a = (
   λ cycle. (a ∷ [], cycle_of_one g a cycle, (0, omega arith, refl)),
-  λ (list, cycle, has). let (i, at) = place_of list a has in unit_cycle_member g list cycle i a at,
+  λ (list, cycle, (i, within, is)). unit_cycle_member g list cycle i a (slice_get-get_or list i a within ∙ ap Some is),
 )
