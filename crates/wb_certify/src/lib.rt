@@ -19,4 +19,10 @@ pub use extension::certify_extension;
 pub use laws::{names_law, one_answer_law};
 pub use marks::test_marks;
 pub use value::{certify_beside, check_attributes};
-pub use wb_certify_host::{CertifiedHost, certify_host};
+pub use wb_certify_host as hosts;
+pub use wb_certify_host::{
+    CertifiedHost, CertifyRefusal, certify_host, certify_resolved, check_well_defined,
+};
+pub use wb_determinism::judge_extension;
+pub use wb_determinism_host::{DeterminismRefusal, HostFacts, HostParts, host_facts, judge_host};
+pub use wb_names::{resolve_extension, resolve_host};

@@ -1,9 +1,9 @@
 -- What is said of a value, and of a file's first line, is said of the contents.
 use Rattle.std.proofs.Common.{◌≡◌, inl, inr, List, ℕ, Some, ap, refl, sym, subst}
-use Rattle.wb_certify.specs.Kept.{Extends}
-use Rattle.wb_certify.specs.Refusals.{IsBesideRefusal}
-use Rattle.wb_certify_host.specs.declared.refusal.CertifyRefusal.{CertifyRefusal}
-use Rattle.wb_certify_host.specs.declared.refusal.CertifyRefusal.TheVariants as c
+use Rattle.wb_recheck.specs.Kept.{Extends}
+use Rattle.wb_recheck.specs.BesideRefusals.{IsBesideRefusal}
+use Rattle.wb_recheck.specs.certify_refusal.CertifyRefusal.{CertifyRefusal}
+use Rattle.wb_recheck.specs.certify_refusal.CertifyRefusal.TheVariants as c
 use Rattle.wb_names_theory.specs.declared.refusal.NameRefusal.TheVariants as n
 use Rattle.wb_operations.specs.Operations.{OperationSignature}
 use Rattle.wb_reader.specs.Refusals.{IsAcceptedText}

@@ -1,10 +1,10 @@
 -- A refusal of a value is one of the contents that stand for it.
 use Rattle.std.proofs.Common.{◌≡◌, inr, List, ℕ, Some, sym, subst}
-use Rattle.wb_certify_host.specs.Hosts.{IsOfText}
-use Rattle.wb_certify_host.specs.Refusals.{IsValueRefusal}
-use Rattle.wb_certify_host.specs.WellDefined.{IsWellDefinedRefusal}
-use Rattle.wb_certify_host.specs.declared.refusal.CertifyRefusal.{CertifyRefusal}
-use Rattle.wb_certify_host.specs.declared.refusal.CertifyRefusal.TheVariants as c
+use Rattle.wb_recheck.specs.Hosts.{IsOfText}
+use Rattle.wb_recheck.specs.CertifyRefusals.{IsValueRefusal}
+use Rattle.wb_recheck.specs.WellDefinedHosts.{IsWellDefinedRefusal}
+use Rattle.wb_recheck.specs.certify_refusal.CertifyRefusal.{CertifyRefusal}
+use Rattle.wb_recheck.specs.certify_refusal.CertifyRefusal.TheVariants as c
 use Rattle.wb_operations.specs.Operations.{OperationSignature}
 use Rattle.wb_report.specs.declared.refusal.Refusal.{Refusal}
 use Rattle.wb_syntax_resolved.specs.declared.resolved.ResolvedParts.{ResolvedParts}

@@ -5,3 +5,10 @@ pub mod HostLemmas
 pub mod OneExtensionAnswer
 pub mod ShownExtensions
 pub mod ExtensionLemmas
+pub mod RecheckCallerLemmas
+mod RecheckShownLemmas
+mod RecheckSortLemmas
+mod RecheckedExtensionLemmas
+mod RecheckedHostLemmas
+mod OneRecheckedExtension
+mod OneRecheckedHost

@@ -1,14 +1,13 @@
 -- Contents are one certified extension at most, and a refusal of none is true of one.
-use Rattle.std.proofs.Common.{◌≡◌, ◌≢◌, ◌≤◌, ◌⊎◌, inl, inr, ◌∷◌, [], ℕ, List, Some, None, length, refl, sym, subst, ◌∙◌, zero, suc}
-use Rattle.std.proofs.Common.{arith}
+use Rattle.std.proofs.Common.{◌≡◌, ◌≢◌, ◌≤◌, ◌⊎◌, inl, inr, ◌∷◌, [], ℕ, List, Some, None, length, refl, sym, subst, ◌∙◌, zero, suc, arith}
 use Rattle.wb_lemmas.proofs.Elements.{all_from_contained, all_contained}
-use Rattle.wb_certify.specs.Extensions.{IsCertifiedBeside}
-use Rattle.wb_certify.specs.OneAnswer.{HasOneAnswer as HasOneAnswerBeside, NamesExclude}
-use Rattle.wb_certify.specs.Refusals.{IsBesideRefusal, IsMemory}
-use Rattle.wb_certify_host.specs.Refusals.{IsNameMemory}
-use Rattle.wb_certify_host.specs.declared.refusal.CertifyRefusal.{CertifyRefusal}
-use Rattle.wb_certify_host.specs.declared.refusal.CertifyRefusal.TheVariants as c
-use Rattle.wb_names.specs.Resolving.{ResolvesExtension, IsExtensionNameRefusal, IsForOther, extension_file, file_scope}
+use Rattle.wb_recheck.specs.Extensions.{IsCertifiedBeside}
+use Rattle.wb_recheck.specs.OneCertifyAnswer.{HasOneAnswer as HasOneAnswerBeside, NamesExclude}
+use Rattle.wb_recheck.specs.BesideRefusals.{IsBesideRefusal, IsMemory}
+use Rattle.wb_recheck.specs.CertifyRefusals.{IsNameMemory}
+use Rattle.wb_recheck.specs.certify_refusal.CertifyRefusal.{CertifyRefusal}
+use Rattle.wb_recheck.specs.certify_refusal.CertifyRefusal.TheVariants as c
+use Rattle.wb_recheck.specs.Resolving.{ResolvesExtension, IsExtensionNameRefusal, IsForOther, extension_file, file_scope}
 use Rattle.wb_names_theory.specs.Refusals.{IsTrueRefusal}
 use Rattle.wb_names_theory.specs.declared.refusal.NameRefusal.{NameRefusal}
 use Rattle.wb_names_theory.specs.declared.refusal.NameRefusal.TheVariants as n
@@ -32,8 +31,7 @@ use Rattle.wb_certify_shown.specs.Shows.{written_reason, name_reason, of_spec}
 use Rattle.wb_syntax.specs.SpecText.{SpecView}
 use Rattle.wb_syntax.specs.declared.header.Header.TheVariants as h
 use Rattle.wb_certify_files.specs.ExtensionContents.{StandsFor, IsExtensionText, IsBadText, HasBadNames, IsOfKinds, IsRefusedValue}
-use Rattle.wb_certify_files.specs.ExtensionContents.{NamesOtherHost}
-use Rattle.wb_certify_files.specs.ExtensionContents.{IsExtensionRefusal}
+use Rattle.wb_certify_files.specs.ExtensionContents.{NamesOtherHost, IsExtensionRefusal}
 use Rattle.wb_certify_files.specs.OneExtensionAnswer.{HaveOneExtensionAnswer, HaveOneHeader, IsFileMemory}
 use Rattle.wb_certify_files.specs.Specifications.{IsHeaderRefusal, IsSpecFor}
 use Rattle.wb_certify_files.proofs.ExtensionLemmas.{header_refused}

@@ -4,18 +4,18 @@ use Rattle.std.specs.Prelude.{Option, option_map}
 use Rattle.wb_lemmas.proofs.Elements.{all_from_contained, all_contained}
 use Rattle.wb_flow_theory.specs.Modular.{AreWellDefinedAttributes}
 use Rattle.wb_base.specs.Grammar.{GrammarView}
-use Rattle.wb_certify_host.specs.Hosts.{IsCertifiedValue}
-use Rattle.wb_certify_host.specs.Refusals.{IsValueRefusal, IsAttributeRefusal, IsDeterminismOf, start_of}
-use Rattle.wb_certify_host.specs.declared.refusal.CertifyRefusal.{CertifyRefusal}
-use Rattle.wb_certify_host.specs.declared.refusal.CertifyRefusal.TheVariants as c
+use Rattle.wb_recheck.specs.Hosts.{IsCertifiedValue}
+use Rattle.wb_recheck.specs.CertifyRefusals.{IsValueRefusal, IsAttributeRefusal, IsDeterminismOf, start_of, IsTypeMemory, IsAttributeMemory}
+use Rattle.wb_recheck.specs.certify_refusal.CertifyRefusal.{CertifyRefusal}
+use Rattle.wb_recheck.specs.certify_refusal.CertifyRefusal.TheVariants as c
 use Rattle.wb_complete.proofs.AnswerLemmas.{one_answer as one_completeness}
 use Rattle.wb_complete.specs.Refusals.{CompleteOk, IsTrueCompletenessRefusal}
-use Rattle.wb_determinism_host.proofs.RefusalLemmas.{excluded}
+use Rattle.wb_recheck.proofs.DeterminismRefusalLemmas.{excluded}
 use Rattle.wb_flow.proofs.CheckLemmas.{flows_one_answer}
 use Rattle.wb_flow.specs.Refusals.{FlowsOk, IsTrueFlowRefusal}
 use Rattle.wb_flow.specs.declared.refusal.AttributeRefusal.{AttributeRefusal}
 use Rattle.wb_flow.specs.declared.refusal.AttributeRefusal.TheVariants as a
-use Rattle.wb_names.specs.Resolving.{ResolvesHost, IsHostNameRefusal, host_file}
+use Rattle.wb_recheck.specs.Resolving.{ResolvesHost, IsHostNameRefusal, host_file}
 use Rattle.wb_names_theory.specs.declared.refusal.NameRefusal.{NameRefusal}
 use Rattle.wb_names_theory.specs.declared.refusal.NameRefusal.TheVariants as n
 use Rattle.wb_names_numbers_theory.proofs.OneValue.{only_value}
@@ -41,8 +41,7 @@ use Rattle.wb_types.specs.Refusals.{IsTrueRefusal}
 use Rattle.wb_types.specs.Rules.{KindsOk}
 use Rattle.wb_types.specs.declared.refusal.TypeRefusal.{TypeRefusal}
 use Rattle.wb_types.specs.declared.refusal.TypeRefusal.TheVariants as k
-use Rattle.wb_certify_host.specs.Refusals.{IsTypeMemory, IsAttributeMemory}
-use Rattle.wb_certify_host.specs.WellDefined.{HasWellDefinedAttributes, IsWellDefinedRefusal}
+use Rattle.wb_recheck.specs.WellDefinedHosts.{HasWellDefinedAttributes, IsWellDefinedRefusal}
 use Rattle.wb_certify_files.specs.HostContents.{StandsFor, IsHostText, IsBadText, HasBadNames, IsOfKinds, IsRefusedValue}
 use Rattle.wb_certify_files.specs.OneHostAnswer.{HaveOneHostAnswer, HaveOneWellDefined}
 use Rattle.wb_certify_files.specs.WellDefined.{IsWellDefinedText, IsIllDefined}

@@ -2,10 +2,10 @@
 use Rattle.std.proofs.Common.{◌≡◌, ◌≢◌, inl, inr, ℕ, List, Some, None, sym}
 use Rattle.std.specs.Prelude.{Option}
 use Rattle.wb_flow_theory.specs.Vertices as g
-use Rattle.wb_certify.specs.Refusals.{IsAttributeRefusal, IsBesideRefusal, IsMemory}
-use Rattle.wb_certify_host.specs.Refusals.{IsNameMemory, IsAttributeMemory}
-use Rattle.wb_certify_host.specs.declared.refusal.CertifyRefusal.{CertifyRefusal}
-use Rattle.wb_certify_host.specs.declared.refusal.CertifyRefusal.TheVariants as c
+use Rattle.wb_recheck.specs.BesideRefusals.{IsAttributeRefusal, IsBesideRefusal, IsMemory}
+use Rattle.wb_recheck.specs.CertifyRefusals.{IsNameMemory, IsAttributeMemory}
+use Rattle.wb_recheck.specs.certify_refusal.CertifyRefusal.{CertifyRefusal}
+use Rattle.wb_recheck.specs.certify_refusal.CertifyRefusal.TheVariants as c
 use Rattle.wb_complete.specs.Refusals.{LacksInherited}
 use Rattle.wb_flow.specs.Vertices.{top_vertex, vertex_below, direction_of}
 use Rattle.wb_flow.specs.declared.refusal.AttributeRefusal.{AttributeRefusal}

@@ -3,19 +3,19 @@ use Rattle.std.proofs.Common.{◌≡◌, ◌≢◌, inl, inr, ℕ, List, Some, N
 use Rattle.std.specs.Prelude.{Option}
 use Rattle.wb_flow_theory.specs.Vertices as g
 use Rattle.wb_base.specs.Grammar.{GrammarView}
-use Rattle.wb_certify_host.specs.Refusals.{IsValueRefusal, IsAttributeRefusal, IsDeterminismOf, IsNameMemory, IsAttributeMemory, start_of}
-use Rattle.wb_certify_host.specs.declared.refusal.CertifyRefusal.{CertifyRefusal}
-use Rattle.wb_certify_host.specs.declared.refusal.CertifyRefusal.TheVariants as c
+use Rattle.wb_recheck.specs.CertifyRefusals.{IsValueRefusal, IsAttributeRefusal, IsDeterminismOf, IsNameMemory, IsAttributeMemory, start_of}
+use Rattle.wb_recheck.specs.certify_refusal.CertifyRefusal.{CertifyRefusal}
+use Rattle.wb_recheck.specs.certify_refusal.CertifyRefusal.TheVariants as c
 use Rattle.wb_complete.specs.Refusals.{LacksInherited}
-use Rattle.wb_determinism_host.specs.Refusals.{IsNoMemory}
-use Rattle.wb_determinism_host.specs.declared.refusal.DeterminismRefusal.{DeterminismRefusal}
-use Rattle.wb_determinism_host.specs.declared.refusal.DeterminismRefusal.TheVariants as d
+use Rattle.wb_recheck.specs.DeterminismRefusals.{IsNoMemory}
+use Rattle.wb_recheck.specs.determinism_refusal.DeterminismRefusal.{DeterminismRefusal}
+use Rattle.wb_recheck.specs.determinism_refusal.DeterminismRefusal.TheVariants as d
 use Rattle.wb_flow.specs.Vertices.{top_vertex, vertex_below, direction_of}
 use Rattle.wb_flow.specs.declared.refusal.AttributeRefusal.{AttributeRefusal}
 use Rattle.wb_flow.specs.declared.refusal.AttributeRefusal.TheVariants as a
 use Rattle.wb_flow.specs.declared.vertex.Vertex.{Vertex}
 use Rattle.wb_flow.specs.declared.vertex.Vertex.TheVariants as v
-use Rattle.wb_names.specs.Resolving.{IsHostNameRefusal}
+use Rattle.wb_recheck.specs.Resolving.{IsHostNameRefusal}
 use Rattle.wb_names_theory.specs.declared.refusal.NameRefusal.{NameRefusal}
 use Rattle.wb_names_theory.specs.declared.refusal.NameRefusal.TheVariants as n
 use Rattle.wb_operations.specs.Operations.{OperationSignature}
@@ -29,7 +29,7 @@ use Rattle.wb_certify_shown.specs.Shows.{written_reason, name_reason, of_spec, o
 use Rattle.wb_certify_shown.specs.Shows.{refusal_shown}
 use Rattle.wb_syntax.specs.SpecText.{SpecView}
 use Rattle.wb_types.specs.declared.refusal.TypeRefusal.TheVariants as k
-use Rattle.wb_certify_host.specs.WellDefined.{IsWellDefinedRefusal}
+use Rattle.wb_recheck.specs.WellDefinedHosts.{IsWellDefinedRefusal}
 use Rattle.wb_certify_files.specs.Inner.RefusedHosts.{IsCertifyMemory}
 
 -- something is not nothing

@@ -1,10 +1,10 @@
 -- When the contents of a file are a certified host, and what a report shows where they aren't.
 use Rattle.std.specs.Prelude.{◌≡◌, ◌⊎◌, List, ℕ, Some}
-use Rattle.wb_certify_host.specs.Hosts.{IsCertifiedValue}
-use Rattle.wb_certify_host.specs.Refusals.{IsValueRefusal}
-use Rattle.wb_certify_host.specs.declared.refusal.CertifyRefusal.{CertifyRefusal}
-use Rattle.wb_certify_host.specs.declared.refusal.CertifyRefusal.TheVariants as c
-use Rattle.wb_names.specs.Resolving.{ResolvesHost, IsHostNameRefusal}
+use Rattle.wb_recheck.specs.Hosts.{IsCertifiedValue}
+use Rattle.wb_recheck.specs.CertifyRefusals.{IsValueRefusal}
+use Rattle.wb_recheck.specs.certify_refusal.CertifyRefusal.{CertifyRefusal}
+use Rattle.wb_recheck.specs.certify_refusal.CertifyRefusal.TheVariants as c
+use Rattle.wb_recheck.specs.Resolving.{ResolvesHost, IsHostNameRefusal}
 use Rattle.wb_names_theory.specs.declared.refusal.NameRefusal.{NameRefusal}
 use Rattle.wb_operations.specs.Operations.{OperationSignature}
 use Rattle.wb_reader.specs.Refusals.{HasCause, IsAcceptedText}

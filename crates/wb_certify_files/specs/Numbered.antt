@@ -1,5 +1,5 @@
 -- What a specification stands for with a host.
-use Rattle.wb_names.specs.Resolving.{ResolvesExtension}
+use Rattle.wb_recheck.specs.Resolving.{ResolvesExtension}
 use Rattle.wb_syntax_resolved.specs.declared.resolved.ResolvedParts.{ResolvedParts}
 use Rattle.wb_syntax_resolved.specs.Resolved.{IsResolved}
 use Rattle.wb_syntax.specs.SpecText.{SpecView}

@@ -1,7 +1,7 @@
 -- When the contents of a file are a host whose attributes are well defined, and what a report shows where they aren't.
 use Rattle.std.specs.Prelude.{◌≡◌, ◌⊎◌, List, ℕ, Some}
-use Rattle.wb_certify_host.specs.WellDefined.{HasWellDefinedAttributes, IsWellDefinedRefusal}
-use Rattle.wb_certify_host.specs.declared.refusal.CertifyRefusal.{CertifyRefusal}
+use Rattle.wb_recheck.specs.WellDefinedHosts.{HasWellDefinedAttributes, IsWellDefinedRefusal}
+use Rattle.wb_recheck.specs.certify_refusal.CertifyRefusal.{CertifyRefusal}
 use Rattle.wb_operations.specs.Operations.{OperationSignature}
 use Rattle.wb_report.specs.declared.refusal.Refusal.{Refusal}
 use Rattle.wb_syntax_resolved.specs.declared.resolved.ResolvedParts.{ResolvedParts}

@@ -4,10 +4,10 @@
 //! on as a report shows it.
 
 ghost use Rattle.std.specs.Prelude.{◌≡◌, ◌≢◌, IfErr, IfOk, List, [], None};
-ghost use Rattle.wb_certify.specs.Kept.{Extends};
-ghost use Rattle.wb_certify.specs.Refusals.{IsBesideRefusal};
-ghost use Rattle.wb_certify_host.specs.Refusals.{IsNameMemory};
-ghost use Rattle.wb_names.specs.Resolving.{IsExtensionNameRefusal};
+ghost use Rattle.wb_recheck.specs.Kept.{Extends};
+ghost use Rattle.wb_recheck.specs.BesideRefusals.{IsBesideRefusal};
+ghost use Rattle.wb_recheck.specs.CertifyRefusals.{IsNameMemory};
+ghost use Rattle.wb_recheck.specs.Resolving.{IsExtensionNameRefusal};
 ghost use Rattle.wb_operations.specs.Operations.{OperationSignature};
 ghost use Rattle.wb_syntax_resolved.specs.declared.resolved.ResolvedParts.{ResolvedParts};
 ghost use Rattle.wb_certify_shown.specs.Extensions.{extension_refusal_shown};
@@ -20,12 +20,12 @@ ghost use Rattle.wb_certify_files.specs.Inner.RefusedExtensions.{IsOtherHost, Is
 use crate::FileRefusal;
 use crate::header::extension_spec;
 use std::alloc::{AllocError, Global};
-use wb_certify::{CertifiedExtension, certify_beside};
-use wb_certify_host::{CertifiedHost, CertifyRefusal};
 use wb_certify_shown::{name_rule, of_spec, shown_extension_refusal};
-use wb_names::resolve_extension;
 use wb_names_theory::NameRefusal;
 use wb_operations::{Meaning, OperationTable};
+use wb_recheck::{
+    CertifiedExtension, CertifiedHost, CertifyRefusal, certify_beside, resolve_extension,
+};
 use wb_report::Refusal;
 use wb_syntax::Spec;
 use wb_syntax_resolved::Resolved;

@@ -13,9 +13,9 @@ ghost use Rattle.wb_certify_files.specs.Specifications.{IsHeaderRefusal, IsSpecF
 use crate::FileRefusal;
 use std::alloc::Global;
 use wb_base::Bytes;
-use wb_certify_host::CertifiedHost;
 use wb_certify_shown::{of_spec, written_rule};
 use wb_reader::{SpecRefusal, read_spec};
+use wb_recheck::CertifiedHost;
 use wb_report::{Refusal, SpecReason};
 use wb_syntax::{Header, Spec};
 use wb_syntax_resolved::Resolved;

@@ -3,9 +3,9 @@
 //! They are read, names get their numbers, and the value that they stand for is certified; each refusal is handed on as a report shows it.
 
 ghost use Rattle.std.specs.Prelude.{◌≡◌, ◌≢◌, IfErr, IfOk, List, None, ℕ};
-ghost use Rattle.wb_certify_host.specs.Hosts.{IsOfText};
-ghost use Rattle.wb_certify_host.specs.Refusals.{IsNameMemory};
-ghost use Rattle.wb_names.specs.Resolving.{IsHostNameRefusal};
+ghost use Rattle.wb_recheck.specs.Hosts.{IsOfText};
+ghost use Rattle.wb_recheck.specs.CertifyRefusals.{IsNameMemory};
+ghost use Rattle.wb_recheck.specs.Resolving.{IsHostNameRefusal};
 ghost use Rattle.wb_reader.specs.OneAnswer.{IsNoMemory};
 ghost use Rattle.wb_reader.specs.Refusals.{HasCause, IsAcceptedText};
 ghost use Rattle.wb_certify_shown.specs.Shows.{refusal_shown};
@@ -15,12 +15,11 @@ ghost use Rattle.wb_certify_files.specs.Unresolved.{IsUnresolved};
 
 use crate::HostRefusal;
 use std::alloc::{AllocError, Global};
-use wb_certify_host::{CertifiedHost, CertifyRefusal, certify_resolved};
 use wb_certify_shown::{name_rule, of_spec, shown_refusal, written_rule};
-use wb_names::resolve_host;
 use wb_names_theory::NameRefusal;
 use wb_operations::{Meaning, OperationTable};
 use wb_reader::{SpecRefusal, read_spec};
+use wb_recheck::{CertifiedHost, CertifyRefusal, certify_resolved, resolve_host};
 use wb_report::Refusal;
 use wb_syntax::Spec;
 use wb_syntax_resolved::Resolved;

@@ -21,8 +21,8 @@ pub fn one_well_defined_law()
 pub fn one_extension_answer_law()
     ensures { (host : ResolvedParts) (operations : List OperationSignature) (contents : List ℕ) → HaveOneExtensionAnswer host operations contents }
 {
-    wb_certify::one_answer_law();
-    wb_certify::names_law();
+    wb_recheck::one_answer_law();
+    wb_recheck::names_law();
 }
 
 /// Contents are one specification of an extension of a host at most, and a refusal of their first line is true of none, and of the

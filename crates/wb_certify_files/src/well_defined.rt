@@ -1,15 +1,15 @@
 //! Reads the contents of a file as a host whose attributes are well defined. Nothing is asked of its grammar.
 
 ghost use Rattle.std.specs.Prelude.{◌≡◌, [], IfErr, IfOk, List, ℕ};
-ghost use Rattle.wb_certify_host.specs.WellDefined.{HasWellDefinedAttributes};
+ghost use Rattle.wb_recheck.specs.WellDefinedHosts.{HasWellDefinedAttributes};
 ghost use Rattle.wb_certify_files.specs.HostContents.{StandsFor};
 ghost use Rattle.wb_certify_files.specs.WellDefined.{IsWellDefinedText, IsWellDefinedTextRefusal};
 
 use crate::HostRefusal;
 use crate::host_contents::{bad_value, resolved_host_of};
 use std::alloc::{AllocError, Global};
-use wb_certify_host::{CertifyRefusal, check_well_defined};
 use wb_operations::{Meaning, OperationTable};
+use wb_recheck::{CertifyRefusal, check_well_defined};
 use wb_syntax_resolved::Resolved;
 
 /// The contents of a file as a host with well-defined attributes over a table of operations, or why they aren't one.

@@ -1,7 +1,6 @@
 -- What is cut out of a host with a certified extension is what the extension adds.
 use Rattle.std.proofs.Common.{◌≡◌, ◌∙◌, ◌<◌, ◌≤◌, ◌+◌, ◌-◌, ◌++◌, ◌∷◌, ◌⊎◌, inl, inr, [], ℕ, List, Option, Some, None, drop, length}
-use Rattle.std.proofs.Common.{slice_get, take}
-use Rattle.std.proofs.Common.{refl, sym, ap, subst, arith}
+use Rattle.std.proofs.Common.{slice_get, take, refl, sym, ap, subst, arith}
 use Rattle.std.specs.Prelude.{slice_index_or}
 use Rattle.std.proofs.lemmas.Bool.{cases_lt}
 use Rattle.std.proofs.lemmas.List.{take-append-drop}
@@ -16,12 +15,12 @@ use Rattle.wb_compose_theory_lists.specs.Extended.{IsExtendedBy}
 use Rattle.wb_compose_theory_lists.specs.Hosts.{rows_of}
 use Rattle.wb_base.specs.Grammar.{GrammarView}
 use Rattle.wb_compose.proofs.CutLemmas.{follow_cut, lead_cut, lead_long, length-drop_within, part_cut}
-use Rattle.wb_determinism_beside.proofs.RowLemmas.{length-take_within}
+use Rattle.wb_certify.proofs.RowLemmas.{length-take_within}
 use Rattle.wb_compose.proofs.KeepLemmas.{extended_by, names, spec}
 use Rattle.wb_compose.specs.Attributes as cut
 use Rattle.wb_compose.specs.Attributes.{added_rows, addition_of, equations_after, locals_after, written_with}
-use Rattle.wb_determinism_beside.proofs.InRange.{grammar_of}
-use Rattle.wb_determinism_beside.proofs.KeptLemmas.{grammar_row, productions_len}
+use Rattle.wb_certify.proofs.InRange.{grammar_of}
+use Rattle.wb_certify.proofs.KeptLemmas.{grammar_row, productions_len}
 use Rattle.wb_certify.specs.Kept.{AreCertifiedBoth}
 use Rattle.wb_compose.specs.Joined.{Extended}
 use Rattle.wb_compose.specs.Written.{name_in}

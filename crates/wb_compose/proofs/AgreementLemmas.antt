@@ -1,6 +1,5 @@
 -- Grammars of a certified host and of certified extensions are those of their rows, so the united signatures agree with the united grammar.
-use Rattle.std.proofs.Common.{◌≡◌, ◌∷◌, [], ℕ, zero, suc, List, Some, All, drop, take}
-use Rattle.std.proofs.Common.{length, map, slice_get, ap, refl, sym, arith}
+use Rattle.std.proofs.Common.{◌≡◌, ◌∷◌, [], ℕ, zero, suc, List, Some, All, drop, take, length, map, slice_get, ap, refl, sym, arith}
 use Rattle.std.specs.List.{AllZip}
 use Rattle.std.proofs.lemmas.List.{length-drop, length-take-le}
 use Rattle.std.proofs.lemmas.List.Elements.{All-head, All-tail}
@@ -11,7 +10,7 @@ use Rattle.wb_base.specs.Grammar.{GrammarView}
 use Rattle.wb_certify.specs.Kept.{AreCertifiedBoth}
 use Rattle.wb_compose.specs.Joined.{AreCertifiedApart, Extended}
 use Rattle.wb_compose.specs.Written.{written_in}
-use Rattle.wb_determinism_beside.proofs.InRange.{child_terminal, child_tree, grammar_of, in_range}
+use Rattle.wb_certify.proofs.InRange.{child_terminal, child_tree, grammar_of, in_range}
 use Rattle.wb_compose.proofs.JoinedLemmas.{is_piece}
 use Rattle.wb_scan_theory.specs.Shown.{AgreesWith, kind_of}
 use Rattle.wb_lemmas.proofs.Places.{append_keeps, at_take}

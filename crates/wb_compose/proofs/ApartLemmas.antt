@@ -1,25 +1,25 @@
 -- How a certified extension is written beside its host: no clash at its prefixes and envelopes, and markers that are ordered.
-use Rattle.std.proofs.Common.{◌≡◌, inl, inr, [], ℕ, zero, suc, Bool, true, false, List, Option, Some, None}
-use Rattle.std.proofs.Common.{length, slice_get, ap, refl, sym, subst, ◌∙◌, arith}
+use Rattle.std.proofs.Common.{◌≡◌, inl, inr, [], ℕ, zero, suc, Bool, true, false, List, Option, Some, None, length, slice_get, ap, refl}
+use Rattle.std.proofs.Common.{sym, subst, ◌∙◌, arith}
 use Rattle.std.specs.Prelude.{slice_index_or}
 use Rattle.std.proofs.lemmas.Option.{same_Some}
 use Rattle.wb_base.specs.declared.symbol.Symbol.{Symbol}
 use Rattle.wb_base.specs.Grammar.{GrammarView}
 use Rattle.wb_base.specs.Identifiers.{IsName}
 use Rattle.wb_determinism_contexts.specs.Considered.{HasNoClashAt, LexiconView}
-use Rattle.wb_determinism_host.specs.Hosts.{AreAcyclic}
-use Rattle.wb_determinism_host.specs.Lexicons.{lexicon_of}
-use Rattle.wb_determinism.specs.EnvelopeClash.{HasNoEnvelopeClash, IsEnvelopeClash}
-use Rattle.wb_determinism.specs.declared.numbers.Numbers.{Numbers}
-use Rattle.wb_determinism.specs.Images.{is_marker_row, is_marking}
-use Rattle.wb_determinism.specs.Numbers.{production_up, up_by}
+use Rattle.wb_certify.specs.DeterministicHosts.{AreAcyclic}
+use Rattle.wb_certify.specs.Lexicons.{lexicon_of}
+use Rattle.wb_certify.specs.EnvelopeClash.{HasNoEnvelopeClash, IsEnvelopeClash}
+use Rattle.wb_certify.specs.determinism_numbers.Numbers.{Numbers}
+use Rattle.wb_certify.specs.DeterminismImages.{is_marker_row, is_marking}
+use Rattle.wb_certify.specs.DeterminismNumbers.{production_up, up_by}
 use Rattle.wb_grammar_theory.specs.declared.item.Item.{Item}
 use Rattle.wb_grammar_theory.specs.Items.{IsKernelItem}
 use Rattle.wb_lemmas.proofs.Elements.{all_at}
 use Rattle.wb_lemmas.proofs.Places.{default_at}
 use Rattle.wb_marking_holes.specs.Holes.{with_holes_of}
 use Rattle.wb_marking.specs.Clashes.{HasNoMarkerClash, IsRival}
-use Rattle.wb_names.specs.Resolving.{ResolvesExtension}
+use Rattle.wb_certify.specs.Resolving.{ResolvesExtension}
 use Rattle.wb_regex.specs.Matches.{Matches}
 use Rattle.wb_syntax_resolved.specs.declared.resolved.ResolvedParts.{ResolvedParts}
 use Rattle.wb_syntax_resolved.specs.declared.terminal.Terminal.{Terminal}
@@ -36,8 +36,8 @@ use Rattle.wb_compose_theory_language.specs.Envelopes as forms
 use Rattle.wb_compose_theory_language.specs.Apart.{AreMarkersOrdered, HasNoNewClash, IsMarkerRow, IsPieceApart, IsRivalRow}
 use Rattle.wb_compose.specs.Written.{written_with}
 use Rattle.wb_compose.proofs.WrittenLemmas.{has_rows, no_colon, pattern_of, written_beside}
-use Rattle.wb_determinism_beside.proofs.LayoutRows.{from_map}
-use Rattle.wb_determinism_beside.proofs.WrittenRows.{host_owner}
+use Rattle.wb_certify.proofs.LayoutRows.{from_map}
+use Rattle.wb_certify.proofs.WrittenRows.{host_owner}
 
 -- a clash in an envelope in the words of unions is one in those of the test
 clash_there : (g : GrammarView) (Kernel : Item → Type 0) (lexicon : LexiconView) (left right : ℕ) (text : List ℕ) →

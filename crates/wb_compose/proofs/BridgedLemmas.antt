@@ -4,9 +4,9 @@ use Rattle.std.proofs.lemmas.Option.{same_Some}
 use Rattle.wb_base.specs.Grammar.{GrammarView}
 use Rattle.wb_certify.specs.Kept.{AreCertifiedBoth}
 use Rattle.wb_certify.specs.Refusals.{IsNotDeterministic, IsReason}
-use Rattle.wb_determinism_host.specs.Hosts.{IsDeterministicHost}
-use Rattle.wb_determinism_host.specs.declared.refusal.DeterminismRefusal.{DeterminismRefusal}
-use Rattle.wb_determinism_host.specs.declared.refusal.DeterminismRefusal.TheVariants as d
+use Rattle.wb_certify.specs.DeterministicHosts.{IsDeterministicHost}
+use Rattle.wb_certify.specs.determinism_refusal.DeterminismRefusal.{DeterminismRefusal}
+use Rattle.wb_certify.specs.determinism_refusal.DeterminismRefusal.TheVariants as d
 use Rattle.wb_grammar_theory.specs.Shape.{IsReduced}
 use Rattle.wb_marking.specs.Bridges.{AreBridges}
 use Rattle.wb_marking_holes.specs.Holes.{with_holes_of}
@@ -17,10 +17,10 @@ use Rattle.wb_compose_theory_grammar.specs.Laws.{HasSameKernels}
 use Rattle.wb_compose_theory_grammar.specs.Pieces.{ArePieces, IsPiece}
 use Rattle.wb_compose_theory_grammar.proofs.UnitedLemmas.{same_kernels}
 use Rattle.wb_compose.specs.Bridged.{AreBridged, AreResolvedBoth, IsRuleRefusal}
-use Rattle.wb_determinism_beside.specs.Pieces.{IsExtendedBy, is_marker_in, piece_in}
-use Rattle.wb_determinism_beside.proofs.PieceLemmas as piece
-use Rattle.wb_determinism_beside.specs.KeptNumbers.{KeepsNumbers}
-use Rattle.wb_determinism_beside.proofs.OwnLemmas.{keeps_numbers}
+use Rattle.wb_certify.specs.Pieces.{IsExtendedBy, is_marker_in, piece_in}
+use Rattle.wb_certify.proofs.PieceLemmas as piece
+use Rattle.wb_certify.specs.KeptNumbers.{KeepsNumbers}
+use Rattle.wb_certify.proofs.OwnLemmas.{keeps_numbers}
 
 module _ (host r : ResolvedParts) (h g : GrammarView) (operations : List OperationSignature) where
   -- a certified extension keeps them

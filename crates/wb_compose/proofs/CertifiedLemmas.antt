@@ -1,15 +1,14 @@
 -- A certified extension is certified as a piece of a union, and all together are what unions ask for.
-use Rattle.std.proofs.Common.{◌≡◌, ◌<◌, ◌∷◌, inl, inr, [], List}
-use Rattle.std.proofs.Common.{sym, subst, ◌∙◌}
+use Rattle.std.proofs.Common.{◌≡◌, ◌<◌, ◌∷◌, inl, inr, [], List, sym, subst, ◌∙◌}
 use Rattle.std.specs.Prelude.{All}
 use Rattle.std.proofs.lemmas.List.Elements.{All-nil, All-cons, All-head, All-tail}
 use Rattle.std.proofs.lemmas.Option.{same_Some}
 use Rattle.wb_lemmas.proofs.Elements.{all_from_contained}
 use Rattle.wb_base.specs.Grammar.{GrammarView}
-use Rattle.wb_determinism_host.specs.Hosts.{IsDeterministicHost}
-use Rattle.wb_determinism.specs.Extensions.{IsDeterministicExtension, both_numbers}
-use Rattle.wb_determinism.specs.Images.{stands_for}
-use Rattle.wb_determinism.specs.Numbers.{up_by}
+use Rattle.wb_certify.specs.DeterministicHosts.{IsDeterministicHost}
+use Rattle.wb_certify.specs.DeterministicExtensions.{IsDeterministicExtension, both_numbers}
+use Rattle.wb_certify.specs.DeterminismImages.{stands_for}
+use Rattle.wb_certify.specs.DeterminismNumbers.{up_by}
 use Rattle.wb_grammar_theory.specs.Lookaheads.{HasNoConflict}
 use Rattle.wb_marking_holes.specs.Holes.{with_holes_of}
 use Rattle.wb_operations.specs.Operations.{OperationSignature}
@@ -23,13 +22,13 @@ use Rattle.wb_compose_theory_grammar.proofs.TogetherLemmas.{has_together}
 use Rattle.wb_compose_theory_grammar.proofs.CertificateLemmas.{certified_by}
 use Rattle.wb_compose_theory_grammar.proofs.UnitedLemmas.{is_united, keeps_host}
 use Rattle.wb_certify.specs.Kept.{AreCertifiedBoth}
-use Rattle.wb_determinism_beside.specs.Pieces.{piece_in}
+use Rattle.wb_certify.specs.Pieces.{piece_in}
 use Rattle.wb_compose.specs.Joined.{AreCertifiedApart, Extended, pieces_in}
 use Rattle.wb_compose.proofs.BridgedLemmas.{certified_is_bridged}
 use Rattle.wb_compose.proofs.ImageLemmas.{bridge_listed}
-use Rattle.wb_determinism_beside.proofs.InRange.{grammar_of, in_range}
+use Rattle.wb_certify.proofs.InRange.{grammar_of, in_range}
 use Rattle.wb_compose.proofs.JoinedLemmas.{deterministic, extensible_is, host_deterministic, is_piece, pieces_are}
-use Rattle.wb_determinism_beside.proofs.NumberLemmas.{images_agree, productions_agree, terminals_agree}
+use Rattle.wb_certify.proofs.NumberLemmas.{images_agree, productions_agree, terminals_agree}
 
 module _ (host r : ResolvedParts) (h g : GrammarView) (operations : List OperationSignature)
     (both : AreCertifiedBoth host r h g operations) where

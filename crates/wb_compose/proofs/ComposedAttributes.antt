@@ -11,7 +11,7 @@ use Rattle.wb_compose.specs.Agreement.{united_grammar}
 use Rattle.wb_compose.specs.Attributes.{addition_of, attributes_of}
 use Rattle.wb_compose.specs.AttributeLaws.{AreUnitedAttributes}
 use Rattle.wb_compose.specs.United.{IsOfUnion}
-use Rattle.wb_certify_host.specs.Hosts.{CertifiedView, IsCertifiedValue}
+use Rattle.wb_certify.specs.Hosts.{CertifiedView, IsCertifiedValue}
 use Rattle.wb_compose.specs.Composed.{IsWith, name_of}
 use Rattle.wb_compose.specs.Joined.{AreCertifiedApart, Extended}
 use Rattle.wb_compose.specs.Written.{name_in}

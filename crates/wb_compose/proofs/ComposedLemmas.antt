@@ -5,9 +5,9 @@ use Rattle.std.proofs.lemmas.List.Elements.{All-cons, All-head, All-nil, All-tai
 use Rattle.wb_base.specs.Different.{Differ}
 use Rattle.wb_base.specs.Grammar.{GrammarView}
 use Rattle.wb_certify.specs.Kept.{AreCertifiedBoth, ExtensionView}
-use Rattle.wb_certify_host.specs.Hosts.{CertifiedView, IsCertifiedValue}
+use Rattle.wb_certify.specs.Hosts.{CertifiedView, IsCertifiedValue}
 use Rattle.wb_determinism_contexts.specs.Considered.{LexiconView}
-use Rattle.wb_determinism_host.specs.Lexicons.{lexicon_of}
+use Rattle.wb_certify.specs.Lexicons.{lexicon_of}
 use Rattle.wb_compose.specs.Joined.{AreCertifiedApart, Extended}
 use Rattle.wb_compose.specs.Written.{name_in, written_in}
 use Rattle.wb_compose.proofs.JoinedLemmas.{markers_are}

@@ -4,7 +4,7 @@ use Rattle.std.proofs.lemmas.List.{length-append, take-append-drop}
 use Rattle.std.proofs.lemmas.Slice.Zip.{AllZip-long}
 use Rattle.wb_compose_theory_lists.proofs.SplitLemmas.{Groups, Parts}
 use Rattle.wb_lemmas.proofs.Parts.{drop_append, take_append}
-use Rattle.wb_determinism_beside.proofs.RowLemmas.{length-take_within}
+use Rattle.wb_certify.proofs.RowLemmas.{length-take_within}
 
 -- so many are dropped where there are so many
 pub length-drop_within : {X : Type 0} (n : ℕ) (xs : List X) → n ≤ length xs → length (drop n xs) ≡ length xs - n

@@ -4,7 +4,7 @@ use Rattle.wb_base.specs.Different.{Differ}
 use Rattle.wb_base.specs.Grammar.{GrammarView}
 use Rattle.wb_compose_theory_language.proofs.LanguageExists.{law}
 use Rattle.wb_compose_theory_language.proofs.TextsExist.{text_answer}
-use Rattle.wb_determinism_host.specs.Lexicons.{lexicon_of}
+use Rattle.wb_certify.specs.Lexicons.{lexicon_of}
 use Rattle.wb_operations.specs.Operations.{OperationSignature}
 use Rattle.wb_scan_theory.specs.Languages.{LanguageView}
 use Rattle.wb_syntax_resolved.specs.declared.resolved.ResolvedParts.{ResolvedParts}

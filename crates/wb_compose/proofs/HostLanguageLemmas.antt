@@ -13,10 +13,10 @@ use Rattle.wb_lemmas.proofs.Places.{at_append, default_at, nothing_at}
 use Rattle.wb_automata.specs.Automata.{IsMatch}
 use Rattle.wb_base.specs.Grammar.{GrammarView}
 use Rattle.wb_certify.specs.Kept.{AreCertifiedBoth}
-use Rattle.wb_certify_host.specs.Hosts.{CertifiedView, IsCertified}
+use Rattle.wb_certify.specs.Hosts.{CertifiedView, IsCertified}
 use Rattle.wb_determinism_contexts.specs.Considered.{LexiconView}
-use Rattle.wb_determinism_host.specs.Lexicons.{lexicon_of, preference_pairs}
-use Rattle.wb_determinism_host.proofs.HostLemmas.{edges_below}
+use Rattle.wb_certify.specs.Lexicons.{lexicon_of, preference_pairs}
+use Rattle.wb_certify.proofs.DeterministicHostLemmas.{edges_below}
 use Rattle.wb_graph.specs.Graphs.{IsEdgeBelow}
 use Rattle.wb_scan.specs.Bare.{AreWrittenFor, bare_forms}
 use Rattle.wb_scan.proofs.FormLemmas.{bare_at, bare_below, bare_is, bare_len, form_is}
@@ -36,7 +36,7 @@ use Rattle.wb_compose.specs.Composed.{IsComposed, IsExtended}
 use Rattle.wb_compose.specs.HostLanguage.{host_language, layout_numbers}
 use Rattle.wb_compose.specs.Joined.{AreCertifiedApart, Extended}
 use Rattle.wb_compose.specs.Written.{written_in}
-use Rattle.wb_determinism_beside.proofs.InRange.{grammar_of}
+use Rattle.wb_certify.proofs.InRange.{grammar_of}
 
 -- without extensions nothing is added to a grammar
 pub alone : (g : GrammarView) (extensible : List ℕ) → g ≡ united g extensible []

@@ -1,6 +1,6 @@
 -- What a terminal stands for is found by a search for the first production that it begins.
-use Rattle.std.proofs.Common.{◌≡◌, ◌+◌, ◌∷◌, inl, inr, [], ℕ, zero, suc, Bool, true, false, cond, eqb, List, Option, Some, None}
-use Rattle.std.proofs.Common.{Contains, slice_get, ap, refl, sym, subst, ◌∙◌, arith}
+use Rattle.std.proofs.Common.{◌≡◌, ◌+◌, ◌∷◌, inl, inr, [], ℕ, zero, suc, Bool, true, false, cond, eqb, List, Option, Some, None, Contains}
+use Rattle.std.proofs.Common.{slice_get, ap, refl, sym, subst, ◌∙◌, arith}
 use Rattle.std.specs.Prelude.{◌↔◌, IsTrue, option_and_then, unwrap_or}
 use Rattle.std.proofs.lemmas.Bool.{eq-eqb, eqb-true}
 use Rattle.std.proofs.lemmas.Option.{same_Some}
@@ -10,7 +10,7 @@ use Rattle.wb_base.specs.Different.{Differ}
 use Rattle.wb_base.specs.declared.symbol.Symbol.{Symbol}
 use Rattle.wb_base.specs.declared.symbol.Symbol.TheVariants.{Terminal}
 use Rattle.wb_base.specs.Grammar.{GrammarView, Production}
-use Rattle.wb_determinism.specs.Images.{bridged, hole_among, hole_for, stands_for}
+use Rattle.wb_certify.specs.DeterminismImages.{bridged, hole_among, hole_for, stands_for}
 use Rattle.wb_grammar_theory.proofs.ProductionLemmas.{production_once}
 use Rattle.wb_grammar_theory.specs.Productions.{IsProduction}
 use Rattle.wb_marking.specs.Markers.{IsMarker}
@@ -20,11 +20,11 @@ use Rattle.wb_compose_theory_grammar.specs.Bridges.{begins, bridge_in_list, mark
 use Rattle.wb_compose_theory_grammar.specs.Pieces as pieces
 use Rattle.wb_compose.specs.Bridged.{AreBridged}
 use Rattle.wb_compose.specs.Images.{IsImage}
-use Rattle.wb_determinism_beside.specs.Pieces.{is_marker_in, piece_in}
+use Rattle.wb_certify.specs.Pieces.{is_marker_in, piece_in}
 use Rattle.wb_compose.proofs.BridgedLemmas.{bridged_markers, extended}
-use Rattle.wb_determinism_beside.proofs.PieceLemmas as piece
-use Rattle.wb_determinism_beside.proofs.MarkerLemmas.{marker_row, row_marker}
-use Rattle.wb_determinism_beside.proofs.NumberLemmas.{bridged_same, left_of}
+use Rattle.wb_certify.proofs.PieceLemmas as piece
+use Rattle.wb_certify.proofs.MarkerLemmas.{marker_row, row_marker}
+use Rattle.wb_certify.proofs.NumberLemmas.{bridged_same, left_of}
 
 -- the hole of a nonterminal has its place
 hole_at : (first a : ℕ) (xs : List ℕ) (j : ℕ) → Differ xs → slice_get xs j ≡ Some a → hole_among first a xs ≡ Some (first + j)

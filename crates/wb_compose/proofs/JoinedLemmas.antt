@@ -4,14 +4,14 @@ use Rattle.std.proofs.lemmas.Option.{same_Some}
 use Rattle.wb_base.specs.Grammar.{GrammarView}
 use Rattle.wb_certify.specs.Extensions.{IsDeterministicBeside}
 use Rattle.wb_certify.specs.Kept.{AreCertifiedBoth}
-use Rattle.wb_determinism_host.specs.Hosts.{IsDeterministicHost}
+use Rattle.wb_certify.specs.DeterministicHosts.{IsDeterministicHost}
 use Rattle.wb_operations.specs.Operations.{OperationSignature}
 use Rattle.wb_syntax_resolved.specs.declared.resolved.ResolvedParts.{ResolvedParts}
 use Rattle.wb_compose_theory_grammar.specs.Bridges.{AreMarkers}
 use Rattle.wb_compose_theory_grammar.specs.Pieces.{ArePieces, IsPiece}
 use Rattle.wb_compose.specs.Bridged.{AreBridged}
-use Rattle.wb_determinism_beside.specs.Pieces.{is_marker_in, piece_in}
-use Rattle.wb_determinism_beside.specs.KeptNumbers.{KeepsNumbers}
+use Rattle.wb_certify.specs.Pieces.{is_marker_in, piece_in}
+use Rattle.wb_certify.specs.KeptNumbers.{KeepsNumbers}
 use Rattle.wb_compose.proofs.BridgedLemmas.{bridged_markers, bridged_numbers, bridged_piece, bridged_pieces, certified_is_bridged}
 use Rattle.wb_compose.proofs.BridgedLemmas.{host_is_deterministic, same_extensible}
 

@@ -1,18 +1,18 @@
 -- With a certified extension no abstract nonterminal of the host becomes one of the grammar: so the host is extended by rows.
-use Rattle.std.proofs.Common.{◌≡◌, ◌<◌, ◌≤◌, ◌++◌, ◌⊎◌, ◌∙◌, inl, inr, ℕ, zero, suc, List, Some, length, map, slice_get, refl}
-use Rattle.std.proofs.Common.{sym, ap, subst, arith}
+use Rattle.std.proofs.Common.{◌≡◌, ◌<◌, ◌≤◌, ◌++◌, ◌⊎◌, ◌∙◌, inl, inr, ℕ, zero, suc, List, Some, length, map, slice_get, refl, sym, ap}
+use Rattle.std.proofs.Common.{subst, arith}
 use Rattle.std.proofs.lemmas.Bool.{cases_lt}
 use Rattle.std.proofs.lemmas.Option.{same_Some, slice_get_within}
 use Rattle.wb_compose_theory_lists.specs.Extended.{IsExtendedBy, file_on}
 use Rattle.wb_base.specs.Grammar.{GrammarView}
 use Rattle.wb_compose.proofs.JoinedLemmas.{numbers_kept}
-use Rattle.wb_determinism_beside.proofs.KeptLemmas.{grammar_row}
-use Rattle.wb_determinism_beside.proofs.RowLemmas.{map_at}
+use Rattle.wb_certify.proofs.KeptLemmas.{grammar_row}
+use Rattle.wb_certify.proofs.RowLemmas.{map_at}
 use Rattle.wb_certify.specs.Kept.{AreCertifiedBoth}
-use Rattle.wb_determinism_beside.specs.KeptNumbers.{KeepsNumbers}
+use Rattle.wb_certify.specs.KeptNumbers.{KeepsNumbers}
 use Rattle.wb_lemmas.proofs.Places.{append_keeps, nothing_at}
 use Rattle.wb_lemmas.proofs.Zips.{zip_at}
-use Rattle.wb_names.specs.Resolving.{ResolvesExtension}
+use Rattle.wb_certify.specs.Resolving.{ResolvesExtension}
 use Rattle.wb_names_theory.specs.Declarations.{nonterminals}
 use Rattle.wb_names_numbers_theory.proofs.Carrying.{name_at}
 use Rattle.wb_names_numbers_theory.proofs.NumberLemmas.{differ_left, differ_right}

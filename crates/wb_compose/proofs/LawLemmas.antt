@@ -14,7 +14,7 @@ use Rattle.wb_compose.specs.AttributeLaws.{AreComposable, AreUnitedAttributes, N
 use Rattle.wb_certify.specs.Kept.{AreCertifiedBoth}
 use Rattle.wb_compose.specs.Joined.{AreCertifiedApart, Extended}
 use Rattle.wb_compose.specs.Written.{name_in}
-use Rattle.wb_determinism_beside.proofs.InRange.{with_some}
+use Rattle.wb_certify.proofs.InRange.{with_some}
 use Rattle.wb_lemmas.proofs.Elements.{all_contained, all_weaker}
 use Rattle.wb_operations.specs.Operations.{OperationSignature, IsPlainSignature}
 use Rattle.wb_syntax_resolved.specs.Attribution.{IsAttribution}

@@ -2,9 +2,9 @@
 use Rattle.std.proofs.Common.{◌≡◌, ◌∙◌, ◌∷◌, [], ℕ, List, Option, None, Some, map, slice_get, refl, ap}
 use Rattle.wb_base.specs.Grammar.{GrammarView}
 use Rattle.wb_certify.specs.Kept.{ExtensionView}
-use Rattle.wb_determinism_host.specs.Lexicons as certified
-use Rattle.wb_determinism.specs.Images as image
-use Rattle.wb_determinism_beside.specs.Pieces as piece
+use Rattle.wb_certify.specs.Lexicons as certified
+use Rattle.wb_certify.specs.DeterminismImages as image
+use Rattle.wb_certify.specs.Pieces as piece
 use Rattle.wb_compose.specs.Written.{written_with}
 use Rattle.wb_syntax_resolved.specs.declared.resolved.ResolvedParts.{ResolvedParts}
 use Rattle.wb_syntax_resolved.specs.declared.terminal.Preference.{Preference}

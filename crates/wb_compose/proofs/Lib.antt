@@ -19,3 +19,6 @@ mod LendingLemmas
 mod ComposedLemmas
 mod CutRows
 mod ComposedAttributes
+-- lemmas of `wb_compose_theory_lists` that callers cite
+pub use Rattle.wb_compose_theory_lists.proofs.LawLemmas as ListLawLemmas
+pub use Rattle.wb_compose_theory_lists.proofs.PlacedLemmas

@@ -7,9 +7,9 @@ use Rattle.wb_compose_theory.specs.Numbered.{IsHostKernel, KeepsKernelLookaheads
 use Rattle.wb_compose_theory.specs.Renamings.{Renaming, renamed}
 use Rattle.wb_compose_theory_grammar.proofs.CertificateLemmas.{keeps_other}
 use Rattle.wb_compose_theory_grammar.specs.Numberings.{up_of}
-use Rattle.wb_determinism.specs.Extensions.{both_numbers, extended_grammar}
-use Rattle.wb_determinism.specs.Images.{stands_for}
-use Rattle.wb_determinism.specs.Numbers.{up_by}
+use Rattle.wb_certify.specs.DeterministicExtensions.{both_numbers, extended_grammar}
+use Rattle.wb_certify.specs.DeterminismImages.{stands_for}
+use Rattle.wb_certify.specs.DeterminismNumbers.{up_by}
 use Rattle.wb_grammar_theory.proofs.FlowLemmas.{same_back, same_then}
 use Rattle.wb_grammar_theory.specs.declared.item.Item.{Item}
 use Rattle.wb_grammar_theory.specs.Items.{IsKernelItem, IsViablePrefix, SameKernel}
@@ -20,7 +20,7 @@ use Rattle.wb_syntax_resolved.specs.declared.resolved.ResolvedParts.{ResolvedPar
 use Rattle.wb_compose.specs.Bridged.{AreBridged}
 use Rattle.wb_compose.specs.Rules.{AddsLookahead, HasRuleAtPrefixes, KeepsAtKernels, KeepsAtPrefixes, host_holes}
 use Rattle.wb_compose.proofs.BridgedLemmas.{bridged_kernels, same_extensible}
-use Rattle.wb_determinism_beside.proofs.NumberLemmas.{productions_agree, terminals_agree}
+use Rattle.wb_certify.proofs.NumberLemmas.{productions_agree, terminals_agree}
 
 module _ (g k : GrammarView) where
   -- of terminals and nonterminals no kernel of host items speaks

@@ -7,12 +7,12 @@ use Rattle.std.proofs.lemmas.Option.{same_Some}
 use Rattle.wb_base.specs.Grammar.{GrammarView}
 use Rattle.wb_base.specs.Identifiers.{IsName}
 use Rattle.wb_certify.specs.Kept.{AreCertifiedBoth}
-use Rattle.wb_certify_host.specs.Hosts.{IsOfText, IsWritten}
-use Rattle.wb_determinism_host.specs.Lexicons.{lexicon_of}
+use Rattle.wb_certify.specs.Hosts.{IsOfText, IsWritten}
+use Rattle.wb_certify.specs.Lexicons.{lexicon_of}
 use Rattle.wb_lemmas.proofs.Elements.{all_at, all_contained, all_from_contained, all_from_places}
 use Rattle.wb_lemmas.proofs.Places.{default_at}
 use Rattle.wb_lemmas.proofs.Zips.{beside}
-use Rattle.wb_names.specs.Resolving.{extension_file, host_file}
+use Rattle.wb_certify.specs.Resolving.{extension_file, host_file}
 use Rattle.wb_names_theory.specs.Declarations.{LexicalDeclaration, lexical_of, lexicals}
 use Rattle.wb_names_numbers_theory.proofs.Selected.{kept_from}
 use Rattle.wb_names_numbers_theory.specs.Files.{File}

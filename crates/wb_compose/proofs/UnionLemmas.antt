@@ -8,11 +8,11 @@ use Rattle.wb_compose_theory_lists.specs.Hosts.{IsOfRows, rows_of}
 use Rattle.wb_base.specs.Different.{Differ}
 use Rattle.wb_base.specs.Grammar.{GrammarView}
 use Rattle.wb_compose.proofs.AdditionLemmas.{attributes_are, is_addition_of}
-use Rattle.wb_determinism_beside.proofs.RowLemmas.{length-take_within}
+use Rattle.wb_certify.proofs.RowLemmas.{length-take_within}
 use Rattle.wb_compose.specs.Attributes.{addition_of, additions_of}
 use Rattle.wb_compose.specs.AttributeLaws.{all_rooted, host_rooted, with_host}
-use Rattle.wb_determinism_beside.proofs.InRange.{grammar_of, in_range}
-use Rattle.wb_determinism_beside.proofs.KeptLemmas.{start_same}
+use Rattle.wb_certify.proofs.InRange.{grammar_of, in_range}
+use Rattle.wb_certify.proofs.KeptLemmas.{start_same}
 use Rattle.wb_certify.specs.Kept.{AreCertifiedBoth}
 use Rattle.wb_compose.specs.Joined.{AreCertifiedApart, Extended}
 use Rattle.wb_compose.specs.Written.{name_in}

@@ -4,10 +4,10 @@ use Rattle.std.specs.Prelude.{All}
 use Rattle.std.proofs.lemmas.List.Elements.{All-cons, All-head, All-nil, All-tail}
 use Rattle.wb_base.specs.Different.{Differ}
 use Rattle.wb_base.specs.Grammar.{GrammarView}
-use Rattle.wb_determinism_host.specs.Hosts.{IsDeterministicHost}
-use Rattle.wb_determinism_host.specs.Lexicons.{lexicon_of}
-use Rattle.wb_determinism.specs.EnvelopeClash.{HasNoEnvelopeClash}
-use Rattle.wb_determinism.specs.Extensions.{both_numbers}
+use Rattle.wb_certify.specs.DeterministicHosts.{IsDeterministicHost}
+use Rattle.wb_certify.specs.Lexicons.{lexicon_of}
+use Rattle.wb_certify.specs.EnvelopeClash.{HasNoEnvelopeClash}
+use Rattle.wb_certify.specs.DeterministicExtensions.{both_numbers}
 use Rattle.wb_marking_holes.specs.Holes.{with_holes_of}
 use Rattle.wb_operations.specs.Operations.{OperationSignature}
 use Rattle.wb_syntax_resolved.specs.declared.resolved.ResolvedParts.{ResolvedParts}
@@ -20,7 +20,7 @@ use Rattle.wb_compose.specs.Written.{name_in, written_in, written_with}
 use Rattle.wb_compose.proofs.ApartLemmas.{piece_apart}
 use Rattle.wb_compose.proofs.CertifiedLemmas.{certified_apart, host_is}
 use Rattle.wb_compose.proofs.JoinedLemmas.{deterministic, extensible_is}
-use Rattle.wb_determinism_beside.proofs.NumberLemmas.{productions_agree}
+use Rattle.wb_certify.proofs.NumberLemmas.{productions_agree}
 use Rattle.wb_compose.proofs.WrittenLemmas.{has_rows}
 
 -- one extension

@@ -1,6 +1,6 @@
 -- What is scanned of a host, and of a host with an extension: rows, markers and names.
-use Rattle.std.proofs.Common.{◌≡◌, ◌≢◌, ◌≤◌, ◌<◌, ◌∷◌, inl, inr, [], ℕ, zero, suc, Bool, true, false, List, Some}
-use Rattle.std.proofs.Common.{length, map, slice_get, ap, refl, sym, subst, ◌∙◌, arith}
+use Rattle.std.proofs.Common.{◌≡◌, ◌≢◌, ◌≤◌, ◌<◌, ◌∷◌, inl, inr, [], ℕ, zero, suc, Bool, true, false, List, Some, length, map, slice_get}
+use Rattle.std.proofs.Common.{ap, refl, sym, subst, ◌∙◌, arith}
 use Rattle.std.specs.Prelude.{All, Contains}
 use Rattle.std.specs.List.{list_all}
 use Rattle.std.proofs.lemmas.List.Elements.{All-cons, All-nil}
@@ -10,13 +10,13 @@ use Rattle.std.proofs.lemmas.Option.{same_Some, slice_get_within}
 use Rattle.wb_automata.specs.Automata.{IsMatch}
 use Rattle.wb_base.specs.Grammar.{GrammarView}
 use Rattle.wb_base.specs.Identifiers.{IsIdentifier, IsName, is_letter, is_name_byte}
-use Rattle.wb_determinism_host.specs.Lexicons.{is_layout, lexicon_of}
+use Rattle.wb_certify.specs.Lexicons.{is_layout, lexicon_of}
 use Rattle.wb_graph.specs.Graphs.{IsEdgeBelow}
 use Rattle.wb_lemmas.proofs.Elements.{all_at, all_from_contained}
 use Rattle.wb_lemmas.proofs.Booleans.{and_parts}
 use Rattle.wb_lemmas.proofs.Members.{place_of}
 use Rattle.wb_lemmas.proofs.Places.{at_once, at_within, default_at}
-use Rattle.wb_names.specs.Resolving.{ResolvesExtension}
+use Rattle.wb_certify.specs.Resolving.{ResolvesExtension}
 use Rattle.wb_names_numbers_theory.proofs.RowLemmas.{contains_map}
 use Rattle.wb_regex.specs.Tree.{Tree}
 use Rattle.wb_syntax_resolved.specs.declared.resolved.ResolvedParts.{ResolvedParts}
@@ -31,11 +31,11 @@ use Rattle.wb_termset.proofs.CallerLemmas.{has_below}
 use Rattle.wb_compose_theory.specs.Worlds.{Mark}
 use Rattle.wb_compose_theory_language.specs.Apart.{colon}
 use Rattle.wb_compose_theory_language.specs.Written.{HasRows, IsLayoutRow, IsWrittenBeside}
-use Rattle.wb_determinism_beside.proofs.InRange.{grammar_of}
-use Rattle.wb_determinism_beside.proofs.RowLemmas.{map_at}
-use Rattle.wb_determinism_beside.proofs.LayoutRows.{from_map, layout_past, past_layout}
-use Rattle.wb_determinism_beside.proofs.WrittenPreferences.{pair_of, preferences_are, preferred}
-use Rattle.wb_determinism_beside.proofs.WrittenRows.{row_up, rows_len, up, up_past}
+use Rattle.wb_certify.proofs.InRange.{grammar_of}
+use Rattle.wb_certify.proofs.RowLemmas.{map_at}
+use Rattle.wb_certify.proofs.LayoutRows.{from_map, layout_past, past_layout}
+use Rattle.wb_certify.proofs.WrittenPreferences.{pair_of, preferences_are, preferred}
+use Rattle.wb_certify.proofs.WrittenRows.{row_up, rows_len, up, up_past}
 
 -- the expression of a row
 abbrev pub pattern_of : Terminal → Tree

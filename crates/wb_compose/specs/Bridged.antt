@@ -3,9 +3,9 @@
 use Rattle.std.specs.Prelude.{◌≡◌, List, Some}
 use Rattle.wb_base.specs.Grammar.{GrammarView}
 use Rattle.wb_certify.specs.Kept.{Extends}
-use Rattle.wb_certify_host.specs.Hosts.{IsCertifiedValue}
-use Rattle.wb_determinism_host.specs.declared.refusal.DeterminismRefusal.{DeterminismRefusal}
-use Rattle.wb_determinism_host.specs.declared.refusal.DeterminismRefusal.TheVariants as d
+use Rattle.wb_certify.specs.Hosts.{IsCertifiedValue}
+use Rattle.wb_certify.specs.determinism_refusal.DeterminismRefusal.{DeterminismRefusal}
+use Rattle.wb_certify.specs.determinism_refusal.DeterminismRefusal.TheVariants as d
 use Rattle.wb_grammar_theory.specs.Shape.{IsReduced}
 use Rattle.wb_marking.specs.Bridges.{AreBridges}
 use Rattle.wb_operations.specs.Operations.{OperationSignature}

@@ -1,7 +1,7 @@
 -- What a certified host with certified extensions has: a language on which texts are parsed, and in it an answer to each text.
 use Rattle.std.specs.Prelude.{ℕ, List}
 use Rattle.wb_base.specs.Grammar.{GrammarView}
-use Rattle.wb_determinism_host.specs.Lexicons.{lexicon_of}
+use Rattle.wb_certify.specs.Lexicons.{lexicon_of}
 use Rattle.wb_scan_theory.specs.Facts.{IsLanguage}
 use Rattle.wb_scan_theory.specs.Languages.{LanguageView}
 use Rattle.wb_scan_theory.specs.Texts.{HasAnswer}

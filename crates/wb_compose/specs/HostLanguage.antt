@@ -3,7 +3,7 @@ use Rattle.std.specs.Prelude.{◌-◌, ℕ, List, length, map}
 use Rattle.std.specs.List.{range_with_len}
 use Rattle.wb_scan.specs.Bare.{language_with}
 use Rattle.wb_base.specs.Grammar.{GrammarView}
-use Rattle.wb_determinism_host.specs.Lexicons.{preference_pairs}
+use Rattle.wb_certify.specs.Lexicons.{preference_pairs}
 use Rattle.wb_scan_theory.specs.Languages.{LanguageView}
 use Rattle.wb_syntax_resolved.specs.declared.resolved.ResolvedParts.{ResolvedParts}
 use Rattle.wb_syntax_resolved.specs.declared.terminal.Terminal.{Terminal}

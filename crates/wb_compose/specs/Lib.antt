@@ -22,5 +22,27 @@ pub mod Composed
 pub mod HostLanguage
 -- that there is a language, and in it an answer to each text
 pub mod Existence
+-- words of `wb_certify` that callers speak of
+pub use Rattle.wb_certify.specs.DeterminismImages
+pub use Rattle.wb_certify.specs.Hosts
+pub use Rattle.wb_certify.specs.Kept
+pub use Rattle.wb_certify.specs.Lexicons
+-- words of `wb_compose_theory_attributes` that callers speak of
+pub use Rattle.wb_compose_theory_attributes.specs.Numbers as AttributeNumbers
+-- words of `wb_compose_theory_language` that callers speak of
+pub use Rattle.wb_compose_theory_language.specs.Apart
+pub use Rattle.wb_compose_theory_language.specs.Languages
+pub use Rattle.wb_compose_theory_language.specs.Written as WrittenLanguages
+-- words of `wb_determinism_contexts` that callers speak of
+pub use Rattle.wb_determinism_contexts.specs.Considered
+-- words of `wb_compose_theory_lists` that callers speak of
+pub use Rattle.wb_compose_theory_lists.specs.Additions
+pub use Rattle.wb_compose_theory_lists.specs.Hosts as ListedHosts
+pub use Rattle.wb_compose_theory_lists.specs.Joined as JoinedLists
+pub use Rattle.wb_compose_theory_lists.specs.Laws as ListLaws
+pub use Rattle.wb_compose_theory_lists.specs.Numbers as ListNumbers
+pub use Rattle.wb_compose_theory_lists.specs.United as UnitedLists
+-- words of `wb_scan` that callers speak of
+pub use Rattle.wb_scan.specs.Views as LanguageViews
 -- words of the private functions
 pub mod Inner

@@ -5,10 +5,10 @@ use Rattle.wb_base.specs.Grammar.{GrammarView}
 use Rattle.wb_compose_theory.specs.Numbered.{KeepsKernelLookaheads, KeepsLookaheads}
 use Rattle.wb_compose_theory.specs.Renamings.{renamed}
 use Rattle.wb_compose_theory_grammar.specs.Numberings.{up_of}
-use Rattle.wb_determinism.specs.Extensions.{both_numbers, extended_grammar}
-use Rattle.wb_determinism.specs.Images.{StandsFor, stands_for}
-use Rattle.wb_determinism.specs.LookaheadRule.{IsLookaheadFault}
-use Rattle.wb_determinism.specs.Numbers.{up_by}
+use Rattle.wb_certify.specs.DeterministicExtensions.{both_numbers, extended_grammar}
+use Rattle.wb_certify.specs.DeterminismImages.{StandsFor, stands_for}
+use Rattle.wb_certify.specs.LookaheadRule.{IsLookaheadFault}
+use Rattle.wb_certify.specs.DeterminismNumbers.{up_by}
 use Rattle.wb_grammar_theory.specs.declared.item.Item.{Item}
 use Rattle.wb_marking_holes.specs.Holes.{with_holes_of}
 use Rattle.wb_syntax_resolved.specs.declared.resolved.ResolvedParts.{ResolvedParts}

@@ -1,10 +1,10 @@
 -- A certified host and certified extensions, as they are written.
 use Rattle.std.specs.Prelude.{ℕ, List, [], map, slice_index_or}
 use Rattle.wb_base.specs.Grammar.{GrammarView}
-use Rattle.wb_determinism_host.specs.Lexicons.{lexicon_of}
+use Rattle.wb_certify.specs.Lexicons.{lexicon_of}
 use Rattle.wb_syntax_resolved.specs.declared.resolved.ResolvedParts.{ResolvedParts}
 use Rattle.wb_compose_theory_language.specs.Written.{WrittenPiece}
-use Rattle.wb_determinism_beside.specs.Pieces.{piece_in}
+use Rattle.wb_certify.specs.Pieces.{piece_in}
 use Rattle.wb_compose.specs.Joined.{Extended}
 
 -- the name of the one extension of a host with one

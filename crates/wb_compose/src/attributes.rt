@@ -9,8 +9,7 @@ ghost use Rattle.wb_compose.specs.Composed.{IsWith, name_of};
 use crate::cuts::cuts_of;
 use crate::rows::{host_rows, lent_of};
 use std::alloc::{AllocError, Global};
-use wb_certify::CertifiedExtension;
-use wb_certify_host::CertifiedHost;
+use wb_certify::{CertifiedExtension, CertifiedHost};
 use wb_compose_attributes::united_attribution;
 use wb_syntax_resolved::Attribution;
 

@@ -8,8 +8,7 @@ ghost use Rattle.wb_compose.specs.Inner.Lending.{IsLentHost};
 
 use crate::additions::additions_of;
 use std::alloc::{AllocError, Global};
-use wb_certify::CertifiedExtension;
-use wb_certify_host::CertifiedHost;
+use wb_certify::{CertifiedExtension, CertifiedHost};
 use wb_compose_language::{Addition, Lent, united_language};
 use wb_scan::Language;
 use wb_syntax_resolved::Resolved;

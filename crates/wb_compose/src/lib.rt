@@ -15,3 +15,4 @@ mod rows;
 
 pub use attributes::composed_attributes;
 pub use composition::{Composed, compose, compose_host};
+pub use wb_certify::{CertifiedExtension, CertifiedHost};

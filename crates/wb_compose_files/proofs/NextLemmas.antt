@@ -1,16 +1,15 @@
 -- Contents that are an extension after others are apart from them, and make one more of them.
-use Rattle.std.proofs.Common.{◌≡◌, ◌<◌, ◌+◌, ◌++◌, inl, inr, ℕ, List, [], ◌∷◌, Some, Contains, length, map, Result, Ok, Err, IfOk}
-use Rattle.std.proofs.Common.{subst, sym, ap, refl, ◌∙◌, ◌⊎◌, ◌≢◌, zero, suc, arith, Bool, true, false, IsTrue, ◌↔◌, slice_get}
-use Rattle.std.proofs.Common.{slice_index_or}
+use Rattle.std.proofs.Common.{◌≡◌, ◌<◌, ◌+◌, ◌++◌, inl, inr, ℕ, List, [], ◌∷◌, Some, Contains, length, map, Result, Ok, Err, IfOk, subst}
+use Rattle.std.proofs.Common.{sym, ap, refl, ◌∙◌, ◌⊎◌, ◌≢◌, zero, suc, arith, Bool, true, false, IsTrue, ◌↔◌, slice_get, slice_index_or}
 use Rattle.std.proofs.lemmas.List.Elements.{All-push}
 use Rattle.std.proofs.lemmas.Option.{slice_get_within, same_Some}
-use Rattle.wb_certify.specs.Extensions.{IsOneExtension}
+use Rattle.wb_certify_files.specs.Extensions.{IsOneExtension}
 use Rattle.std.proofs.lemmas.Bool.Decides.{eqb_tells}
 use Rattle.wb_lemmas.proofs.Members.{contains_at, contains_first, contains_later, contains_cases}
 use Rattle.wb_lemmas.proofs.Places.{at_push}
 use Rattle.wb_base.specs.Different.{Differ}
-use Rattle.wb_certify.specs.Kept.{ExtensionView}
-use Rattle.wb_certify_host.specs.Hosts.{CertifiedView}
+use Rattle.wb_certify_files.specs.Kept.{ExtensionView}
+use Rattle.wb_certify_files.specs.Hosts.{CertifiedView}
 use Rattle.wb_compose_texts.specs.Composed.{IsWith, name_of, name_in}
 use Rattle.wb_certify_files.specs.ExtensionContents.{IsExtensionText}
 use Rattle.wb_certify_files.specs.Specifications.{IsSpecFor}

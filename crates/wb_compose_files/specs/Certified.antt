@@ -1,8 +1,8 @@
 -- A certified host with certified extensions, and what one more extension makes of them.
 use Rattle.std.specs.Prelude.{◌≡◌, ◌++◌, ◌∷◌, [], ℕ, List, All, map}
 use Rattle.wb_base.specs.Different.{Differ}
-use Rattle.wb_certify.specs.Kept.{ExtensionView}
-use Rattle.wb_certify_host.specs.Hosts.{CertifiedView}
+use Rattle.wb_certify_files.specs.Kept.{ExtensionView}
+use Rattle.wb_certify_files.specs.Hosts.{CertifiedView}
 use Rattle.wb_compose_texts.specs.Composed.{IsWith, name_of}
 use Rattle.wb_compose_texts.specs.Unions.{all_resolved}
 use Rattle.wb_operations.specs.Operations.{OperationSignature}

@@ -10,9 +10,9 @@ use crate::NextRefusal;
 use crate::extend::next_of;
 use std::alloc::Global;
 use std::marker::Model;
-use wb_certify::{CertifiedExtension, release_extensions};
-use wb_certify_files::{FileRefusal, HostRefusal, host_of};
-use wb_certify_host::CertifiedHost;
+use wb_certify_files::{
+    CertifiedExtension, CertifiedHost, FileRefusal, HostRefusal, host_of, release_extensions,
+};
 use wb_operations::{Meaning, OperationTable};
 
 /// A certified host, and extensions that are certified with it alone, in the order in which they came. No two have one name.

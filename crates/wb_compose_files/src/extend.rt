@@ -11,9 +11,9 @@ ghost use Rattle.wb_compose_files.specs.Inner.Next.{IsApartFrom, IsDuplicateOf, 
 use crate::NextRefusal;
 use std::alloc::Global;
 use wb_base::Bytes;
-use wb_certify::CertifiedExtension;
-use wb_certify_files::{FileRefusal, extension_of_spec, extension_spec};
-use wb_certify_host::CertifiedHost;
+use wb_certify_files::{
+    CertifiedExtension, CertifiedHost, FileRefusal, extension_of_spec, extension_spec,
+};
 use wb_operations::{Meaning, OperationTable};
 use wb_syntax::Spec;
 

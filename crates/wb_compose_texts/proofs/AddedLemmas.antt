@@ -1,14 +1,14 @@
 -- Expressions of rows, one more and all.
-use Rattle.std.proofs.Common.{◌≡◌, ◌<◌, ◌≤◌, ◌+◌, ◌-◌, ◌++◌, ◌∷◌, ◌∙◌, [], ℕ, List, Option, None, Some, drop, get_or, length}
-use Rattle.std.proofs.Common.{map, slice_get, slice_index_or, take, ap, refl, subst, sym, arith}
+use Rattle.std.proofs.Common.{◌≡◌, ◌<◌, ◌≤◌, ◌+◌, ◌-◌, ◌++◌, ◌∷◌, ◌∙◌, [], ℕ, List, Option, None, Some, drop, get_or, length, map}
+use Rattle.std.proofs.Common.{slice_get, slice_index_or, take, ap, refl, subst, sym, arith}
 use Rattle.std.specs.List.{AllZip}
 use Rattle.std.proofs.lemmas.List.{append-nil, length-take-le, map-append}
 use Rattle.std.proofs.lemmas.Option.{slice_get_read}
-use Rattle.wb_certify.specs.Kept.{ExtensionView}
+use Rattle.wb_compose.specs.Kept.{ExtensionView}
 use Rattle.wb_lemmas.proofs.Parts.{append_assoc}
 use Rattle.wb_lemmas.proofs.Places.{at_take, at_within}
 use Rattle.wb_regex.specs.Tree.{Tree}
-use Rattle.wb_compose_theory_order.specs.Names.{all_of}
+use Rattle.wb_reading.specs.OrderedNames.{all_of}
 use Rattle.wb_syntax_resolved.specs.declared.resolved.ResolvedParts.{ResolvedParts}
 use Rattle.wb_syntax_resolved.specs.declared.terminal.Terminal.{Terminal}
 use Rattle.wb_certify_shown.specs.Names.{terminals_in}

@@ -1,6 +1,6 @@
 -- The signatures of a union agree with its productions.
-use Rattle.std.proofs.Common.{◌≡◌, ◌+◌, ◌-◌, ◌++◌, ◌∷◌, ◌∙◌, inl, inr, [], ℕ, List, Some, All, drop}
-use Rattle.std.proofs.Common.{length, map, slice_get, ap, refl, sym, subst, arith}
+use Rattle.std.proofs.Common.{◌≡◌, ◌+◌, ◌-◌, ◌++◌, ◌∷◌, ◌∙◌, inl, inr, [], ℕ, List, Some, All, drop, length, map, slice_get, ap, refl, sym}
+use Rattle.std.proofs.Common.{subst, arith}
 use Rattle.std.proofs.lemmas.List.{length-drop, length-map, length-append}
 use Rattle.std.proofs.lemmas.List.Elements.{All-head, All-tail}
 use Rattle.std.proofs.lemmas.Option.{same_Some, slice_get_within}
@@ -9,7 +9,7 @@ use Rattle.wb_base.specs.declared.symbol.Kind.TheVariants as kind
 use Rattle.wb_base.specs.declared.symbol.Symbol.{Symbol}
 use Rattle.wb_base.specs.declared.symbol.Symbol.TheVariants as symbol
 use Rattle.wb_base.specs.Grammar.{GrammarView, Production}
-use Rattle.wb_certify.specs.Kept.{AreCertifiedBoth}
+use Rattle.wb_compose.specs.Kept.{AreCertifiedBoth}
 use Rattle.wb_compose.specs.Joined.{Extended}
 use Rattle.wb_compose.specs.Written.{written_in}
 use Rattle.wb_scan_theory.specs.Shown.{AgreesWith, kind_of}
@@ -30,7 +30,7 @@ use Rattle.wb_compose_theory_grammar.specs.Unions.{renamed_production}
 use Rattle.wb_compose_theory_grammar.specs.UnitedWorlds.{grammars_of}
 use Rattle.wb_compose_theory_grammar.proofs.FactLemmas.{at_map, map_at}
 use Rattle.wb_compose_theory_grammar.proofs.ProductionLemmas.{drop_at}
-use Rattle.wb_compose_theory_language.specs.Written.{pieces_of}
+use Rattle.wb_compose.specs.WrittenLanguages.{pieces_of}
 use Rattle.wb_values.specs.Signature.{Signature}
 use Rattle.wb_compose_texts.specs.Signatures.{added_count, added_signatures, grammar_signatures, kind_by, nonterminals_in, signature_by}
 use Rattle.wb_compose_texts.specs.Signatures.{signatures_after, signatures_of}

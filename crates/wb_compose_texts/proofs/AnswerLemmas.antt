@@ -2,8 +2,8 @@
 use Rattle.std.proofs.Common.{◌≡◌, ◌≤◌, ◌∙◌, ℕ, List, Some, All, length, map, slice_get, ap, refl, sym, subst, arith}
 use Rattle.std.proofs.lemmas.Option.{same_Some}
 use Rattle.wb_base.specs.Grammar.{GrammarView}
-use Rattle.wb_determinism_host.specs.Lexicons.{lexicon_of}
-use Rattle.wb_certify.specs.Kept.{AreCertifiedBoth}
+use Rattle.wb_compose.specs.Lexicons.{lexicon_of}
+use Rattle.wb_compose.specs.Kept.{AreCertifiedBoth}
 use Rattle.wb_compose.specs.Joined.{AreCertifiedApart, Extended}
 use Rattle.wb_compose.specs.Written.{written_in, written_with}
 use Rattle.wb_compose.proofs.WrittenApart.{all_certified}
@@ -15,14 +15,14 @@ use Rattle.wb_scan_theory.specs.declared.stop_kind.StopKind.TheVariants as kind
 use Rattle.wb_scan_theory.proofs.TextLemmas.{not_both, one_stop, one_tree}
 use Rattle.wb_lemmas.proofs.Elements.{all_at}
 use Rattle.wb_operations.specs.Operations.{OperationSignature}
-use Rattle.wb_compose_theory_order.specs.Answers.{renamed_forest, renamed_kind}
-use Rattle.wb_compose_theory_order.specs.Laws.{HasSameAnswers}
-use Rattle.wb_compose_theory_order.proofs.PrintedLemmas.{printed_alike}
-use Rattle.wb_compose_theory_order.specs.Orders.{IsReordering, number_to}
-use Rattle.wb_compose_theory_order.specs.Unions.{names_to}
-use Rattle.wb_compose_theory_order.proofs.LanguageLemmas.{same_union_answers}
-use Rattle.wb_compose_theory_order.proofs.NameLemmas.{in_turn_there, names_there}
-use Rattle.wb_compose_theory_order.proofs.NumberLemmas.{reordering_map}
+use Rattle.wb_reading.specs.OrderedAnswers.{renamed_forest, renamed_kind}
+use Rattle.wb_reading.specs.OrderLaws.{HasSameAnswers}
+use Rattle.wb_reading.proofs.OrderedPrintedLemmas.{printed_alike}
+use Rattle.wb_reading.specs.Orders.{IsReordering, number_to}
+use Rattle.wb_reading.specs.OrderedUnions.{names_to}
+use Rattle.wb_reading.proofs.OrderedLanguageLemmas.{same_union_answers}
+use Rattle.wb_reading.proofs.OrderedNameLemmas.{in_turn_there, names_there}
+use Rattle.wb_reading.proofs.OrderedNumberLemmas.{reordering_map}
 use Rattle.wb_report.specs.declared.shown.ShownStop.{ShownStop}
 use Rattle.wb_report.specs.declared.shown.ShownStop.TheVariants as stop
 use Rattle.wb_syntax_resolved.specs.declared.resolved.ResolvedParts.{ResolvedParts}
@@ -30,7 +30,7 @@ use Rattle.wb_certify_shown.specs.Names.{grammar_terminals, or_end}
 use Rattle.wb_compose_texts.specs.declared.text_answer.TextAnswer.{TextAnswer}
 use Rattle.wb_compose_texts.specs.declared.text_answer.TextAnswer.TheVariants as a
 use Rattle.wb_compose_theory_grammar.proofs.FactLemmas.{at_map, map_at}
-use Rattle.wb_compose_theory_language.specs.Languages.{IsUnitedLanguage}
+use Rattle.wb_compose.specs.Languages.{IsUnitedLanguage}
 use Rattle.wb_compose_theory.specs.Renamings.{Renaming}
 use Rattle.wb_values.specs.Signature.{Signature}
 use Rattle.wb_compose_texts.specs.Answers.{HasPrintedTree, HasSameAnswer, IsAnswerIn, StopsShown}

@@ -12,7 +12,7 @@ use Rattle.wb_syntax_resolved.specs.declared.attributes.Direction.TheVariants.{S
 use Rattle.wb_syntax_resolved.specs.declared.attribution.AttributionParts.{AttributionParts}
 use Rattle.wb_syntax_resolved.specs.declared.resolved.ResolvedParts.{ResolvedParts}
 use Rattle.wb_syntax_resolved.specs.Owners.{printed_name}
-use Rattle.wb_compose_theory_attributes.specs.Numbers.{NumberMap}
+use Rattle.wb_compose.specs.AttributeNumbers.{NumberMap}
 use Rattle.wb_compose_theory_grammar.proofs.FactLemmas.{map_at}
 use Rattle.wb_compose.specs.Written.{name_in}
 use Rattle.wb_eval_root.specs.Asked.{IsAskedOn, IsPrintedAs}
@@ -20,12 +20,11 @@ use Rattle.wb_eval_root.proofs.PrintedNames.{one_attribute}
 use Rattle.wb_compose_texts.specs.Roots.{HasNoRootAttribute, IsAskedIn, attributes_in}
 use Rattle.wb_compose_texts.specs.Unions.{Union}
 use Rattle.wb_compose_texts.proofs.OneUnion.{asked_there}
-use Rattle.wb_reading_theory.specs.Attributions.{ExtendsAttribution}
-use Rattle.wb_reading_theory.proofs.PrintedLemmas.{asked_alike, flow_back}
+use Rattle.wb_reading.specs.Attributions.{ExtendsAttribution}
+use Rattle.wb_reading.proofs.PrintedLemmas.{asked_alike, flow_back}
 use Rattle.wb_compose_texts.specs.SameRoots.{HasSameRoots, IsHostAttribute}
 use Rattle.wb_compose_texts.proofs.ExtendsLemmas.{alone_with}
-use Rattle.wb_compose_texts.proofs.UnionLemmas.{are_attribution, attributes_extend, host_attribution, host_is, numbers}
-use Rattle.wb_compose_texts.proofs.UnionLemmas.{start_stays}
+use Rattle.wb_compose_texts.proofs.UnionLemmas.{are_attribution, attributes_extend, host_attribution, host_is, numbers, start_stays}
 
 -- what something is of an element that may be there
 some_is : {X Y : Type 0} (f : X → Y) (o : Option X) (y : Y) → IsSomeAnd o (λ x. f x ≡ y) → option_map f o ≡ Some y

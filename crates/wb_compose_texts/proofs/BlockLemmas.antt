@@ -1,14 +1,13 @@
 -- What lists have that come one after another, and what sets by flags have.
 use Rattle.std.proofs.Common.{◌≡◌, ◌<◌, ◌+◌, ◌∙◌, ◌∷◌, ◌++◌, [], ℕ, zero, suc, Bool, true, false, List, Some, inl, inr, length, map}
-use Rattle.std.proofs.Common.{slice_get}
-use Rattle.std.proofs.Common.{ap, refl, take, arith}
+use Rattle.std.proofs.Common.{slice_get, ap, refl, take, arith}
 use Rattle.std.proofs.lemmas.Grind.{common_steps}
 use Rattle.std.proofs.lemmas.Option.{gets}
 use Rattle.wb_termset.specs.Sets.{IsMember}
 use Rattle.wb_termset.proofs.CallerLemmas.{has_below}
 use Rattle.wb_lemmas.proofs.Places.{append_after, append_keeps, at_append, at_default, default_at, nothing_at}
 use Rattle.wb_compose_theory_grammar.specs.Places.{count_before}
-use Rattle.wb_compose_theory_order.specs.Names.{all_of}
+use Rattle.wb_reading.specs.OrderedNames.{all_of}
 
 -- an element before a cut
 pub take_keeps : {X : Type 0} (xs : List X) (n i : ℕ) (x : X) → i < n → slice_get xs i ≡ Some x → slice_get (take n xs) i ≡ Some x

@@ -1,8 +1,8 @@
 -- What is composed of a host and extensions is a language of their union.
 use Rattle.std.proofs.Common.{◌≡◌, ◌∷◌, [], ℕ, List, map, refl}
 use Rattle.std.specs.List.{AllZip}
-use Rattle.wb_certify.specs.Kept.{ExtensionView}
-use Rattle.wb_certify_host.specs.Hosts.{CertifiedView}
+use Rattle.wb_compose.specs.Kept.{ExtensionView}
+use Rattle.wb_compose.specs.Hosts.{CertifiedView}
 use Rattle.wb_compose.specs.Composed.{IsComposed, IsExtended}
 use Rattle.wb_compose.specs.Joined.{Extended}
 use Rattle.wb_scan_theory.specs.Facts.{IsLanguage}

@@ -1,14 +1,14 @@
 -- What comes of a text in the language that is composed of a host and extensions.
 use Rattle.std.proofs.Common.{◌≡◌, ℕ, List, Result, IfOk, subst}
-use Rattle.wb_certify.specs.Kept.{ExtensionView}
+use Rattle.wb_compose.specs.Kept.{ExtensionView}
 use Rattle.wb_compose.specs.United.{IsOfUnion}
-use Rattle.wb_certify_host.specs.Hosts.{CertifiedView}
+use Rattle.wb_compose.specs.Hosts.{CertifiedView}
 use Rattle.wb_compose.specs.Composed.{IsComposed}
 use Rattle.wb_scan_theory.specs.Facts.{IsLanguage}
 use Rattle.wb_scan_theory.specs.Languages.{LanguageView}
 use Rattle.wb_operations.specs.Operations.{OperationSignature, Operations}
-use Rattle.wb_parser.specs.Parses.{FitsSignatures, IsParsed}
-use Rattle.wb_parser.specs.declared.parsed.Parsed.{Parsed}
+use Rattle.wb_session.specs.Parses.{FitsSignatures, IsParsed}
+use Rattle.wb_session.specs.parsed.Parsed.{Parsed}
 use Rattle.wb_syntax_resolved.specs.declared.attribution.AttributionParts.{AttributionParts}
 use Rattle.wb_syntax_resolved.specs.declared.resolved.ResolvedParts.{ResolvedParts}
 use Rattle.wb_compose_texts.specs.Names.{terminals_of}

@@ -7,11 +7,11 @@ use Rattle.wb_operations.specs.Operations.{OperationSignature}
 use Rattle.wb_scan_theory.specs.Languages.{LanguageView}
 use Rattle.wb_syntax_resolved.specs.declared.attribution.AttributionParts.{AttributionParts}
 use Rattle.wb_syntax_resolved.specs.declared.resolved.ResolvedParts.{ResolvedParts}
-use Rattle.wb_compose_theory_attributes.specs.Numbers.{NumberMap}
-use Rattle.wb_compose_theory_language.specs.Languages.{IsUnitedLanguage}
-use Rattle.wb_determinism_host.specs.Lexicons.{lexicon_of}
-use Rattle.wb_certify.specs.Kept.{AreCertifiedBoth, ExtensionView}
-use Rattle.wb_certify_host.specs.Hosts.{CertifiedView}
+use Rattle.wb_compose.specs.AttributeNumbers.{NumberMap}
+use Rattle.wb_compose.specs.Languages.{IsUnitedLanguage}
+use Rattle.wb_compose.specs.Lexicons.{lexicon_of}
+use Rattle.wb_compose.specs.Kept.{AreCertifiedBoth, ExtensionView}
+use Rattle.wb_compose.specs.Hosts.{CertifiedView}
 use Rattle.wb_compose.specs.Composed.{IsComposed}
 use Rattle.wb_compose.specs.Joined.{Extended}
 use Rattle.wb_compose.specs.United.{IsOfUnion}
@@ -20,8 +20,8 @@ use Rattle.wb_compose_texts.specs.Roots.{attributes_in}
 use Rattle.wb_compose_texts.specs.Unions.{Union, all_resolved}
 use Rattle.wb_compose_texts.proofs.ComposedLemmas.{union_is}
 use Rattle.wb_compose_texts.proofs.OneUnion.{one_attribution, one_extended, one_grammar}
-use Rattle.wb_reading_theory.specs.Extends.{Extends}
-use Rattle.wb_reading_theory.specs.MarkingTerminals.{AreMarking}
+use Rattle.wb_reading.specs.Extends.{Extends}
+use Rattle.wb_reading.specs.MarkingTerminals.{AreMarking}
 use Rattle.wb_compose_texts.specs.Composed.{AreComposed}
 use Rattle.wb_compose_texts.specs.UnionMarkers.{AreUnionMarkers}
 use Rattle.wb_compose_texts.proofs.MarkingLemmas.{are_marking}

@@ -1,7 +1,6 @@
 -- Flags of the terminals of a union as they are listed, and the set of them.
-use Rattle.std.proofs.Common.{◌≡◌, ◌<◌, ◌≤◌, ◌+◌, ◌-◌, ◌↔◌, ◌++◌, ◌∷◌, ◌∙◌, [], ℕ, Bool}
-use Rattle.std.proofs.Common.{false, List, Some, drop, get_or, length}
-use Rattle.std.proofs.Common.{map, replicate, slice_get, take, ap, subst, sym, arith}
+use Rattle.std.proofs.Common.{◌≡◌, ◌<◌, ◌≤◌, ◌+◌, ◌-◌, ◌↔◌, ◌++◌, ◌∷◌, ◌∙◌, [], ℕ, Bool, false, List, Some, drop, get_or, length, map}
+use Rattle.std.proofs.Common.{replicate, slice_get, take, ap, subst, sym, arith}
 use Rattle.std.specs.Prelude.{option_map}
 use Rattle.std.proofs.lemmas.List.{length-map, length-replicate, length-take-le, map-append}
 use Rattle.std.proofs.lemmas.Option.{slice_get-map}
@@ -9,13 +8,13 @@ use Rattle.wb_termset.specs.Sets.{IsMember}
 use Rattle.wb_termset.proofs.CallerLemmas.{IsEmpty-replicate, has_below}
 use Rattle.wb_lemmas.proofs.Parts.{append_assoc}
 use Rattle.wb_lemmas.proofs.Places.{at_take, at_within}
-use Rattle.wb_certify.specs.Kept.{ExtensionView}
+use Rattle.wb_compose.specs.Kept.{ExtensionView}
 use Rattle.wb_certify_shown.specs.Names.{terminals_in}
 use Rattle.wb_certify_shown.proofs.HoleLemmas.{few_terminals}
 use Rattle.wb_compose_texts.specs.Unions.{all_resolved}
 use Rattle.wb_compose_texts.proofs.TableLemmas.{all_next, part_next, resolved_next}
-use Rattle.wb_compose_theory_order.specs.Names.{all_of}
-use Rattle.wb_determinism.specs.Images.{is_marker_row, is_marking}
+use Rattle.wb_reading.specs.OrderedNames.{all_of}
+use Rattle.wb_compose.specs.DeterminismImages.{is_marker_row, is_marking}
 use Rattle.wb_compose_texts.specs.UnionMarkers.{added_markers, grammar_markers}
 use Rattle.wb_compose_texts.specs.Inner.Sets.{IsFilled}
 use Rattle.wb_syntax_resolved.specs.Resolved.{IsResolved}

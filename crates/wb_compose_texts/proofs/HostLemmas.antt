@@ -4,9 +4,9 @@ use Rattle.std.specs.Prelude.{◌↔◌}
 use Rattle.std.proofs.lemmas.List.{append-nil}
 use Rattle.std.proofs.lemmas.Option.{same_Some, slice_get_within}
 use Rattle.wb_base.specs.Grammar.{GrammarView}
-use Rattle.wb_certify_host.specs.Hosts.{CertifiedView, IsCertified}
-use Rattle.wb_determinism_contexts.specs.Considered.{LexiconView}
-use Rattle.wb_determinism_host.specs.Lexicons.{lexicon_of}
+use Rattle.wb_compose.specs.Hosts.{CertifiedView, IsCertified}
+use Rattle.wb_compose.specs.Considered.{LexiconView}
+use Rattle.wb_compose.specs.Lexicons.{lexicon_of}
 use Rattle.wb_grammar_theory.specs.Trees.{Forest}
 use Rattle.wb_scan_theory.specs.declared.stop_kind.StopKind.{StopKind}
 use Rattle.wb_scan_theory.specs.Facts.{IsLanguage}
@@ -21,11 +21,11 @@ use Rattle.wb_values.specs.Tree.{Tree}
 use Rattle.wb_certify_shown.specs.Names.{grammar_terminals, productions_in}
 use Rattle.wb_compose_theory.specs.Renamings.{Renaming}
 use Rattle.wb_compose_theory_grammar.specs.Pieces.{ArePieces}
-use Rattle.wb_compose_theory_language.specs.Languages.{IsUnitedLanguage}
-use Rattle.wb_compose_theory_order.specs.Answers.{renamed_forest}
-use Rattle.wb_compose_theory_order.specs.Laws.{HasSameNames}
-use Rattle.wb_compose_theory_order.proofs.LanguageLemmas.{same_language}
-use Rattle.wb_compose_theory_order.proofs.PrintedLemmas.{printed_alike}
+use Rattle.wb_compose.specs.Languages.{IsUnitedLanguage}
+use Rattle.wb_reading.specs.OrderedAnswers.{renamed_forest}
+use Rattle.wb_reading.specs.OrderLaws.{HasSameNames}
+use Rattle.wb_reading.proofs.OrderedLanguageLemmas.{same_language}
+use Rattle.wb_reading.proofs.OrderedPrintedLemmas.{printed_alike}
 use Rattle.wb_compose.specs.Composed.{IsComposed}
 use Rattle.wb_compose.specs.HostLanguage.{host_language}
 use Rattle.wb_compose.specs.Joined.{AreCertifiedApart, Extended}

@@ -7,8 +7,8 @@ use Rattle.std.proofs.lemmas.List.{length-drop, length-map, length-take-le}
 use Rattle.std.proofs.lemmas.List.Elements.{All-head, All-tail}
 use Rattle.std.proofs.lemmas.Option.{slice_get_within}
 use Rattle.wb_base.specs.Grammar.{GrammarView}
-use Rattle.wb_certify.specs.Kept.{AreCertifiedBoth, ExtensionView}
-use Rattle.wb_certify_host.specs.Hosts.{CertifiedView}
+use Rattle.wb_compose.specs.Kept.{AreCertifiedBoth, ExtensionView}
+use Rattle.wb_compose.specs.Hosts.{CertifiedView}
 use Rattle.wb_compose.specs.Composed.{IsComposed}
 use Rattle.wb_compose.specs.Joined.{AreCertifiedApart, Extended}
 use Rattle.wb_compose.specs.Written.{written_in}
@@ -17,13 +17,13 @@ use Rattle.wb_operations.specs.Operations.{OperationSignature}
 use Rattle.wb_regex.specs.Tree.{Tree}
 use Rattle.wb_syntax_resolved.specs.declared.resolved.ResolvedParts.{ResolvedParts}
 use Rattle.wb_syntax_resolved.specs.declared.terminal.Terminal.{Terminal}
-use Rattle.wb_compose_theory_order.specs.Names.{all_of}
+use Rattle.wb_reading.specs.OrderedNames.{all_of}
 use Rattle.wb_certify_shown.specs.Names.{terminals_in}
 use Rattle.wb_certify_shown.proofs.HoleLemmas.{few_terminals}
 use Rattle.wb_compose_theory_grammar.specs.Places.{total_of}
 use Rattle.wb_compose_theory_grammar.specs.UnitedWorlds.{terminal_sizes}
 use Rattle.wb_compose_texts.specs.Expressions.{AreUnitedExpressions, IsExpressionOf, Row, added_rows, name_of, rows_of, united_rows}
-use Rattle.wb_compose_theory_language.specs.Written.{pieces_of}
+use Rattle.wb_compose.specs.WrittenLanguages.{pieces_of}
 use Rattle.wb_compose_texts.specs.Unions.{Union, all_resolved, united_of}
 use Rattle.wb_compose_texts.specs.Generated.{first_layout, place_behind}
 use Rattle.wb_compose_texts.proofs.ComposedLemmas.{union_is}

@@ -38,3 +38,24 @@ mod ReadingLemmas
 pub mod AloneLemmas
 -- what comes of a text with extensions comes of it without
 pub mod ValueAlone
+-- lines that are gathered
+mod GatheredLemmas
+-- the line of what a text is
+mod LineLemmas
+-- the first edit that isn't done
+mod RefusedLemmas
+-- how edits go on, and what has come at their end
+pub mod WalkLemmas
+-- a text with edits has one answer
+mod OneEdits
+-- lemmas of `wb_eval_root` that callers cite
+pub use Rattle.wb_eval_root.proofs.OneAnswer as OneRootAnswer
+-- lemmas of `wb_compose` that callers cite
+pub use Rattle.wb_compose.proofs.AdditionLemmas
+pub use Rattle.wb_compose.proofs.AgreementLemmas
+pub use Rattle.wb_compose.proofs.ExistenceLemmas
+pub use Rattle.wb_compose.proofs.LawLemmas as ComposeLaws
+pub use Rattle.wb_compose.proofs.SpelledLemmas
+pub use Rattle.wb_compose.proofs.WrittenApart
+-- lemmas of `wb_generate` that callers cite
+pub use Rattle.wb_generate.proofs.ExistLemmas

@@ -2,11 +2,11 @@
 use Rattle.std.proofs.Common.{◌↔◌, ◌∷◌, ◌∙◌, [], ℕ, Bool, List, map, ap}
 use Rattle.std.proofs.lemmas.List.{map-append}
 use Rattle.wb_compose_theory.specs.Renamings.{renamed}
-use Rattle.wb_compose_theory_order.specs.Answers.{renamed_forest}
-use Rattle.wb_compose_theory_order.specs.Languages.{IsSameLanguage, Renumbering}
-use Rattle.wb_compose_theory_order.proofs.TextLemmas.{derivation_there, leaves_there, next_there, on_text_there, renamed_leaf}
+use Rattle.wb_reading.specs.OrderedAnswers.{renamed_forest}
+use Rattle.wb_reading.specs.OrderedLanguages.{IsSameLanguage, Renumbering}
+use Rattle.wb_reading.proofs.OrderedTextLemmas.{derivation_there, leaves_there, next_there, on_text_there, renamed_leaf}
 use Rattle.wb_grammar_theory.specs.Trees.{Leaf}
-use Rattle.wb_reading_theory.specs.Markers.{HasNoMarker, IsMarkerAt, IsPlain}
+use Rattle.wb_reading.specs.Markers.{HasNoMarker, IsMarkerAt, IsPlain}
 use Rattle.wb_scan_theory.specs.Languages.{LanguageView}
 use Rattle.wb_scan_theory.specs.Tokens.{NextToken}
 use Rattle.wb_termset.specs.Sets.{IsMember}

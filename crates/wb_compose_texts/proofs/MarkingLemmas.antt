@@ -1,6 +1,5 @@
 -- The markers of a union by number are its marking terminals.
-use Rattle.std.proofs.Common.{◌≡◌, ◌<◌, ◌+◌, ◌-◌, ◌∙◌, ◌∷◌, [], ℕ, Bool, true, false, List, Option, Some, All, inl, inr, length}
-use Rattle.std.proofs.Common.{None, map}
+use Rattle.std.proofs.Common.{◌≡◌, ◌<◌, ◌+◌, ◌-◌, ◌∙◌, ◌∷◌, [], ℕ, Bool, true, false, List, Option, Some, All, inl, inr, length, None, map}
 use Rattle.std.proofs.Common.{replicate, slice_get, take, ap, refl, sym, subst, arith}
 use Rattle.std.specs.Prelude.{IsTrue}
 use Rattle.std.proofs.lemmas.List.{length-drop, length-map, length-replicate, length-take-le}
@@ -22,12 +21,12 @@ use Rattle.wb_compose_theory_grammar.specs.UnitedWorlds.{terminal_sizes}
 use Rattle.wb_compose_theory_grammar.proofs.FactLemmas.{at_map, map_at}
 use Rattle.wb_compose_theory_grammar.proofs.PlaceLemmas.{lift_past}
 use Rattle.wb_compose_theory_grammar.proofs.ProductionLemmas.{drop_at}
-use Rattle.wb_compose_theory_language.specs.Apart.{IsMarkerRow}
-use Rattle.wb_compose_theory_language.specs.Written.{pieces_of}
-use Rattle.wb_compose_theory_order.specs.Names.{all_of}
-use Rattle.wb_determinism.specs.Images.{is_marker_row, is_marking}
-use Rattle.wb_determinism_host.specs.Lexicons.{lexicon_of}
-use Rattle.wb_certify.specs.Kept.{AreCertifiedBoth}
+use Rattle.wb_compose.specs.Apart.{IsMarkerRow}
+use Rattle.wb_compose.specs.WrittenLanguages.{pieces_of}
+use Rattle.wb_reading.specs.OrderedNames.{all_of}
+use Rattle.wb_compose.specs.DeterminismImages.{is_marker_row, is_marking}
+use Rattle.wb_compose.specs.Lexicons.{lexicon_of}
+use Rattle.wb_compose.specs.Kept.{AreCertifiedBoth}
 use Rattle.wb_compose.specs.Joined.{Extended}
 use Rattle.wb_compose.specs.Written.{written_in, written_with}
 use Rattle.wb_compose.proofs.BridgedLemmas.{certified_is_bridged}
@@ -36,7 +35,7 @@ use Rattle.wb_compose.proofs.JoinedLemmas.{markers_are}
 use Rattle.wb_certify_shown.specs.Names.{terminals_in}
 use Rattle.wb_certify_shown.proofs.HoleLemmas.{few_terminals}
 use Rattle.wb_compose_texts.proofs.NameLemmas.{resolved_in}
-use Rattle.wb_reading_theory.specs.MarkingTerminals.{AreMarking, IsMarking}
+use Rattle.wb_reading.specs.MarkingTerminals.{AreMarking, IsMarking}
 use Rattle.wb_compose_texts.specs.UnionMarkers.{AreUnionMarkers, added_markers, grammar_markers, union_markers}
 use Rattle.wb_compose_texts.proofs.BlockLemmas.{at_flag, block_at, flag_at, in_block, take_keeps}
 

@@ -1,19 +1,18 @@
 -- Names of a union come in turn: the host's, and then those of each extension.
-use Rattle.std.proofs.Common.{◌≡◌, ◌+◌, ◌-◌, ◌++◌, ◌∷◌, ◌∙◌, [], ℕ, List, Some, All, length}
-use Rattle.std.proofs.Common.{map, ap, refl}
+use Rattle.std.proofs.Common.{◌≡◌, ◌+◌, ◌-◌, ◌++◌, ◌∷◌, ◌∙◌, [], ℕ, List, Some, All, length, map, ap, refl}
 use Rattle.std.proofs.lemmas.List.{length-drop, length-map, map-append}
 use Rattle.std.proofs.lemmas.List.Elements.{All-head, All-tail}
 use Rattle.wb_base.specs.Grammar.{GrammarView}
-use Rattle.wb_certify.specs.Kept.{AreCertifiedBoth}
+use Rattle.wb_compose.specs.Kept.{AreCertifiedBoth}
 use Rattle.wb_compose.specs.Joined.{AreCertifiedApart, Extended}
 use Rattle.wb_compose.specs.Written.{written_in}
 use Rattle.wb_operations.specs.Operations.{OperationSignature}
 use Rattle.wb_syntax_resolved.specs.declared.resolved.ResolvedParts.{ResolvedParts}
-use Rattle.wb_compose_theory_order.specs.Names.{HasNamesInTurn, all_of}
+use Rattle.wb_reading.specs.OrderedNames.{HasNamesInTurn, all_of}
 use Rattle.wb_certify_shown.specs.Names.{grammar_terminals, productions_in, terminals_in}
 use Rattle.wb_compose_theory.specs.Blocks.{lift}
 use Rattle.wb_compose_theory_grammar.specs.UnitedWorlds.{production_sizes, terminal_sizes}
-use Rattle.wb_compose_theory_language.specs.Written.{pieces_of}
+use Rattle.wb_compose.specs.WrittenLanguages.{pieces_of}
 use Rattle.wb_values.specs.Signature.{Signature}
 use Rattle.wb_compose_texts.specs.Names.{added_names}
 use Rattle.wb_compose_texts.specs.Signatures.{added_count, added_signatures, grammar_signatures, nonterminals_in, signature_by}

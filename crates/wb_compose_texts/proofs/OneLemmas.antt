@@ -14,7 +14,7 @@ use Rattle.wb_syntax_resolved.specs.declared.terminal.TerminalKind.{TerminalKind
 use Rattle.wb_syntax_resolved.specs.declared.terminal.TerminalKind.TheVariants as kind
 use Rattle.wb_compose_theory_grammar.specs.UnitedWorlds.{united}
 use Rattle.wb_compose_texts.specs.Expressions.{IsExpressionOf, IsWrittenAs, Row, united_rows}
-use Rattle.wb_compose_theory_language.specs.Written.{pieces_of}
+use Rattle.wb_compose.specs.WrittenLanguages.{pieces_of}
 use Rattle.wb_compose_texts.specs.Unions.{Union, united_of}
 use Rattle.wb_generate.specs.Outcomes.{IsOutcome}
 use Rattle.wb_generate.specs.declared.generated.Generated.{Generated}

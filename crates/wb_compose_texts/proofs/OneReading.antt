@@ -8,17 +8,17 @@ use Rattle.wb_compose.proofs.WrittenApart.{all_certified}
 use Rattle.wb_compose.specs.Joined.{AreCertifiedApart, Extended}
 use Rattle.wb_compose.specs.Written.{written_in}
 use Rattle.wb_compose_theory.specs.Renamings.{Renaming}
-use Rattle.wb_compose_theory_language.specs.Languages.{IsUnitedLanguage}
-use Rattle.wb_compose_theory_order.specs.Languages.{IsSameBy}
-use Rattle.wb_compose_theory_order.specs.Orders.{IsReordering, number_to}
-use Rattle.wb_compose_theory_order.specs.Unions.{names_to}
-use Rattle.wb_compose_theory_order.proofs.LanguageLemmas.{same_union}
-use Rattle.wb_compose_theory_order.proofs.NameLemmas.{in_turn_there}
-use Rattle.wb_compose_theory_order.proofs.NumberLemmas.{reordering_back, reordering_map}
-use Rattle.wb_determinism_host.specs.Lexicons.{lexicon_of}
+use Rattle.wb_compose.specs.Languages.{IsUnitedLanguage}
+use Rattle.wb_reading.specs.OrderedLanguages.{IsSameBy}
+use Rattle.wb_reading.specs.Orders.{IsReordering, number_to}
+use Rattle.wb_reading.specs.OrderedUnions.{names_to}
+use Rattle.wb_reading.proofs.OrderedLanguageLemmas.{same_union}
+use Rattle.wb_reading.proofs.OrderedNameLemmas.{in_turn_there}
+use Rattle.wb_reading.proofs.OrderedNumberLemmas.{reordering_back, reordering_map}
+use Rattle.wb_compose.specs.Lexicons.{lexicon_of}
 use Rattle.wb_operations.specs.Operations.{OperationSignature}
-use Rattle.wb_reading_theory.specs.Markers.{IsMarkerAt, IsPlain}
-use Rattle.wb_reading_theory.proofs.MarkerLemmas.{one_marker}
+use Rattle.wb_reading.specs.Markers.{IsMarkerAt, IsPlain}
+use Rattle.wb_reading.proofs.MarkerLemmas.{one_marker}
 use Rattle.wb_scan_theory.specs.Languages.{LanguageView}
 use Rattle.wb_syntax_resolved.specs.declared.resolved.ResolvedParts.{ResolvedParts}
 use Rattle.wb_termset.specs.Sets.{IsMember}

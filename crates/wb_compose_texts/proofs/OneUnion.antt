@@ -7,7 +7,7 @@ use Rattle.wb_base.specs.Different.{Differ}
 use Rattle.wb_base.specs.Grammar.{GrammarView}
 use Rattle.wb_compose.specs.Attributes.{attributes_of}
 use Rattle.wb_compose.proofs.LawLemmas.{is_attribution}
-use Rattle.wb_determinism_host.specs.Lexicons.{lexicon_of}
+use Rattle.wb_compose.specs.Lexicons.{lexicon_of}
 use Rattle.wb_compose.specs.Joined.{Extended}
 use Rattle.wb_compose.specs.Written.{name_in, written_in}
 use Rattle.wb_scan_theory.specs.Languages.{LanguageView}
@@ -16,7 +16,7 @@ use Rattle.wb_syntax_resolved.specs.Attribution.{IsAttribution}
 use Rattle.wb_syntax_resolved.specs.declared.resolved.ResolvedParts.{ResolvedParts}
 use Rattle.wb_eval_root.specs.Asked.{IsAskedOn}
 use Rattle.wb_eval_root.proofs.PrintedNames.{one_attribute}
-use Rattle.wb_compose_theory_language.specs.Languages.{IsUnitedLanguage}
+use Rattle.wb_compose.specs.Languages.{IsUnitedLanguage}
 use Rattle.wb_compose_texts.specs.Unions.{IsLanguageOf, Union}
 use Rattle.wb_compose_texts.proofs.AnswerLemmas.{Both, extended_is}
 use Rattle.wb_compose_texts.specs.Roots.{HasOneRootAttribute, IsAskedIn, attributes_in}

@@ -10,16 +10,16 @@ use Rattle.wb_scan_theory.specs.Languages.{LanguageView}
 use Rattle.wb_scan_theory.specs.Shown.{AgreesWith}
 use Rattle.wb_scan_theory.specs.Texts.{StopsAt}
 use Rattle.wb_operations.specs.Operations.{OperationSignature, Operations}
-use Rattle.wb_parser.specs.Parses.{FitsSignatures, IsParsed}
-use Rattle.wb_parser.specs.declared.parsed.Parsed.{Parsed}
-use Rattle.wb_parser.specs.declared.parsed.Parsed.TheVariants as parsed
+use Rattle.wb_session.specs.Parses.{FitsSignatures, IsParsed}
+use Rattle.wb_session.specs.parsed.Parsed.{Parsed}
+use Rattle.wb_session.specs.parsed.Parsed.TheVariants as parsed
 use Rattle.wb_syntax_resolved.specs.declared.attribution.AttributionParts.{AttributionParts}
 use Rattle.wb_syntax_resolved.specs.declared.resolved.ResolvedParts.{ResolvedParts}
 use Rattle.wb_eval_root.specs.Asked.{IsAskedOn}
 use Rattle.wb_eval_root.specs.Values.{IsTreeValue}
 use Rattle.wb_types.specs.Rules.{KindsOk}
 use Rattle.wb_compose_theory_grammar.specs.UnitedWorlds.{united}
-use Rattle.wb_compose_theory_language.specs.Written.{pieces_of}
+use Rattle.wb_compose.specs.WrittenLanguages.{pieces_of}
 use Rattle.wb_compose_texts.specs.Names.{terminals_of}
 use Rattle.wb_compose_texts.specs.Unions.{IsLanguageOf, Union, united_of}
 use Rattle.wb_values.specs.Fits.{FitsTree}

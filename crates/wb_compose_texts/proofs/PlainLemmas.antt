@@ -5,10 +5,10 @@ use Rattle.wb_operations.specs.Operations.{OperationSignature}
 use Rattle.wb_report.specs.declared.shown.ShownStop.{ShownStop}
 use Rattle.wb_scan_theory.specs.Languages.{LanguageView}
 use Rattle.wb_syntax_resolved.specs.declared.resolved.ResolvedParts.{ResolvedParts}
-use Rattle.wb_compose_theory_language.specs.Languages.{IsUnitedLanguage}
-use Rattle.wb_compose_theory_lists.specs.Hosts.{rows_of}
-use Rattle.wb_compose_theory_lists.specs.United.{united_attribution}
-use Rattle.wb_determinism_host.specs.Lexicons.{lexicon_of}
+use Rattle.wb_compose.specs.Languages.{IsUnitedLanguage}
+use Rattle.wb_compose.specs.ListedHosts.{rows_of}
+use Rattle.wb_compose.specs.UnitedLists.{united_attribution}
+use Rattle.wb_compose.specs.Lexicons.{lexicon_of}
 use Rattle.wb_compose.specs.Written.{name_in}
 use Rattle.wb_compose_texts.specs.Answers.{HasPrintedTree, IsAnswerIn, IsUnitedTextAnswer, StopsShown}
 use Rattle.wb_compose_texts.specs.declared.text_answer.TextAnswer.{TextAnswer}
@@ -17,10 +17,10 @@ use Rattle.wb_compose_texts.specs.Names.{stop_shown, terminals_of}
 use Rattle.wb_compose_texts.specs.Roots.{attributes_in}
 use Rattle.wb_compose_texts.specs.Signatures.{signatures_of}
 use Rattle.wb_compose_texts.specs.Unions.{IsLanguageOf, Union}
-use Rattle.wb_reading_theory.specs.Extends.{Extends}
-use Rattle.wb_reading_theory.specs.Laws.{ReadsAlike, further_kind}
-use Rattle.wb_reading_theory.specs.Markers.{IsPlain}
-use Rattle.wb_reading_theory.proofs.StopLemmas.{reads_alike}
+use Rattle.wb_reading.specs.Extends.{Extends}
+use Rattle.wb_reading.specs.Laws.{ReadsAlike, further_kind}
+use Rattle.wb_reading.specs.Markers.{IsPlain}
+use Rattle.wb_reading.proofs.StopLemmas.{reads_alike}
 use Rattle.wb_compose_texts.specs.HostReadings.{HasHostReading, HasLanguage}
 use Rattle.wb_compose_texts.specs.UnionMarkers.{AreUnionMarkers, union_markers}
 use Rattle.wb_compose_texts.proofs.ExtendsLemmas.{alone_with, language_in}

@@ -1,8 +1,8 @@
 -- What is read of a text by number is its reading, with the name of its marker.
 use Rattle.std.proofs.Common.{◌≡◌, ℕ, Bool, List, Result, Ok, Err, subst}
 use Rattle.std.specs.Prelude.{IfOk}
-use Rattle.wb_certify.specs.Kept.{ExtensionView}
-use Rattle.wb_certify_host.specs.Hosts.{CertifiedView}
+use Rattle.wb_compose.specs.Kept.{ExtensionView}
+use Rattle.wb_compose.specs.Hosts.{CertifiedView}
 use Rattle.wb_compose.specs.Composed.{IsComposed}
 use Rattle.wb_compose_texts.specs.Names.{terminals_of}
 use Rattle.wb_compose_texts.specs.Unions.{all_resolved}

@@ -1,22 +1,22 @@
 -- Two languages of one union have the same trees and the same stops.
 use Rattle.std.proofs.Common.{◌≡◌, ◌∙◌, ℕ, List, refl, sym, ap, subst}
 use Rattle.wb_base.specs.Grammar.{GrammarView}
-use Rattle.wb_determinism_contexts.specs.Considered.{LexiconView}
+use Rattle.wb_compose.specs.Considered.{LexiconView}
 use Rattle.wb_grammar_theory.specs.Trees.{Forest, nothing, leaf, node}
 use Rattle.wb_scan_theory.specs.Languages.{LanguageView}
 use Rattle.wb_scan_theory.specs.Texts.{ParsesTo, StopsAt}
 use Rattle.wb_scan_theory.specs.declared.stop_kind.StopKind.{StopKind}
 use Rattle.wb_scan_theory.specs.declared.stop_kind.StopKind.TheVariants as kind
-use Rattle.wb_compose_theory_order.specs.Answers.{renamed_forest, renamed_kind}
-use Rattle.wb_compose_theory_order.specs.Laws.{HasSameAnswers}
-use Rattle.wb_compose_theory_order.specs.Orders.{IsReordering, number_to}
-use Rattle.wb_compose_theory_order.specs.Unions.{names_to}
-use Rattle.wb_compose_theory_order.proofs.LanguageLemmas.{same_union_answers}
-use Rattle.wb_compose_theory_order.proofs.NumberLemmas.{to_extension, to_host, to_past}
+use Rattle.wb_reading.specs.OrderedAnswers.{renamed_forest, renamed_kind}
+use Rattle.wb_reading.specs.OrderLaws.{HasSameAnswers}
+use Rattle.wb_reading.specs.Orders.{IsReordering, number_to}
+use Rattle.wb_reading.specs.OrderedUnions.{names_to}
+use Rattle.wb_reading.proofs.OrderedLanguageLemmas.{same_union_answers}
+use Rattle.wb_reading.proofs.OrderedNumberLemmas.{to_extension, to_host, to_past}
 use Rattle.wb_compose_theory_grammar.specs.Pieces.{ArePieces}
 use Rattle.wb_compose_theory_grammar.proofs.PlaceLemmas.{Located, in_host, in_extension, after_all, located}
-use Rattle.wb_compose_theory_language.specs.Languages.{IsUnitedLanguage}
-use Rattle.wb_compose_theory_language.specs.Written.{WrittenPiece, pieces_of}
+use Rattle.wb_compose.specs.Languages.{IsUnitedLanguage}
+use Rattle.wb_compose.specs.WrittenLanguages.{WrittenPiece, pieces_of}
 use Rattle.wb_compose_theory.specs.Renamings.{Renaming}
 
 -- a list in its own order

@@ -1,6 +1,6 @@
 -- What is the host's is shown by the same names with extensions: terminals, the end of a text, and productions.
-use Rattle.std.proofs.Common.{◌≡◌, ◌<◌, ◌+◌, ◌-◌, ◌∙◌, ◌++◌, ◌∷◌, [], ℕ, zero, suc, List, None, inl, inr, length, map, slice_get}
-use Rattle.std.proofs.Common.{ap, refl, sym, subst, arith}
+use Rattle.std.proofs.Common.{◌≡◌, ◌<◌, ◌+◌, ◌-◌, ◌∙◌, ◌++◌, ◌∷◌, [], ℕ, zero, suc, List, None, inl, inr, length, map, slice_get, ap, refl}
+use Rattle.std.proofs.Common.{sym, subst, arith}
 use Rattle.std.proofs.lemmas.Bool.{cases_lt}
 use Rattle.std.proofs.lemmas.List.{length-append}
 use Rattle.std.proofs.lemmas.Option.{slice_get_past, slice_get_within}
@@ -21,11 +21,11 @@ use Rattle.wb_compose_theory.specs.Renamings.{Renaming}
 use Rattle.wb_compose_theory_grammar.specs.Places.{total_of}
 use Rattle.wb_compose_theory_grammar.specs.UnitedWorlds.{terminal_sizes, united}
 use Rattle.wb_compose_theory_grammar.proofs.PlaceLemmas.{lift_below, lift_past}
-use Rattle.wb_compose_theory_language.specs.Written.{pieces_of}
-use Rattle.wb_compose_theory_order.specs.Answers.{renamed_forest}
-use Rattle.wb_compose_theory_order.specs.Laws.{HasSameNames}
-use Rattle.wb_compose_theory_order.specs.Names.{all_of, in_turn}
-use Rattle.wb_compose_theory_order.proofs.PrintedLemmas.{printed_alike}
+use Rattle.wb_compose.specs.WrittenLanguages.{pieces_of}
+use Rattle.wb_reading.specs.OrderedAnswers.{renamed_forest}
+use Rattle.wb_reading.specs.OrderLaws.{HasSameNames}
+use Rattle.wb_reading.specs.OrderedNames.{all_of, in_turn}
+use Rattle.wb_reading.proofs.OrderedPrintedLemmas.{printed_alike}
 use Rattle.wb_compose.specs.Written.{written_in}
 use Rattle.wb_certify_shown.specs.Names.{grammar_terminals, or_end, productions_in}
 use Rattle.wb_compose_texts.specs.Names.{added_names, name_at, stop_shown, terminals_of}
@@ -33,7 +33,7 @@ use Rattle.wb_compose_texts.specs.Signatures.{grammar_signatures, signatures_aft
 use Rattle.wb_compose_texts.specs.Unions.{Union}
 use Rattle.wb_compose_texts.proofs.NameLemmas.{own_terminals, resolved_in, terminal_lens}
 use Rattle.wb_compose_texts.proofs.TableLemmas.{signatures_len}
-use Rattle.wb_reading_theory.specs.Laws.{further_kind}
+use Rattle.wb_reading.specs.Laws.{further_kind}
 
 -- how many all blocks have
 all_len : {X : Type 0} (blocks : List (List X)) → length (all_of blocks) ≡ total_of (map length blocks)

@@ -1,11 +1,10 @@
 -- Tables of names and of signatures as they are filled.
-use Rattle.std.proofs.Common.{◌≡◌, ◌<◌, ◌≤◌, ◌+◌, ◌-◌, ◌++◌, ◌∷◌, ◌∙◌, [], ℕ, List, Some, drop, get_or, length}
-use Rattle.std.proofs.Common.{map, slice_get, take, ap, refl, subst, sym, arith}
+use Rattle.std.proofs.Common.{◌≡◌, ◌<◌, ◌≤◌, ◌+◌, ◌-◌, ◌++◌, ◌∷◌, ◌∙◌, [], ℕ, List, Some, drop, get_or, length, map, slice_get, take, ap}
+use Rattle.std.proofs.Common.{refl, subst, sym, arith}
 use Rattle.std.specs.Prelude.{IfSome, option_map}
 use Rattle.std.proofs.lemmas.List.{append-nil, length-drop, length-map, length-take-le, map-append, take_all, take_more}
-use Rattle.std.proofs.lemmas.Option.{get_or_from_slice_get, same_Some, slice_get-get_or, slice_get-map, slice_get_read}
-use Rattle.std.proofs.lemmas.Option.{slice_get_within}
-use Rattle.wb_certify.specs.Kept.{ExtensionView}
+use Rattle.std.proofs.lemmas.Option.{get_or_from_slice_get, same_Some, slice_get-get_or, slice_get-map, slice_get_read, slice_get_within}
+use Rattle.wb_compose.specs.Kept.{ExtensionView}
 use Rattle.wb_lemmas.proofs.Parts.{append_assoc}
 use Rattle.wb_lemmas.proofs.Places.{at_take, at_within}
 use Rattle.wb_names_theory.specs.Declares.{name_in}
@@ -17,7 +16,7 @@ use Rattle.wb_certify_shown.proofs.HoleLemmas.{few_productions, few_terminals}
 use Rattle.wb_compose_theory_grammar.proofs.ProductionLemmas.{drop_at}
 use Rattle.wb_compose_theory_grammar.specs.Places.{total_of}
 use Rattle.wb_compose_theory.specs.Blocks.{lift}
-use Rattle.wb_compose_theory_order.specs.Names.{all_of}
+use Rattle.wb_reading.specs.OrderedNames.{all_of}
 use Rattle.wb_values.specs.Signature.{Signature}
 use Rattle.wb_compose_texts.specs.Inner.Tables.{AreAdded, names_from, signatures_from}
 use Rattle.wb_compose_texts.specs.Names.{added_names}

@@ -2,8 +2,8 @@
 use Rattle.std.proofs.Common.{◌≡◌, ◌<◌, ◌≤◌, ◌∙◌, ℕ, List, Option, length, ap, sym, subst}
 use Rattle.std.specs.Prelude.{IfSome}
 use Rattle.wb_base.specs.Grammar.{GrammarView}
-use Rattle.wb_certify.specs.Kept.{ExtensionView}
-use Rattle.wb_certify_host.specs.Hosts.{CertifiedView}
+use Rattle.wb_compose.specs.Kept.{ExtensionView}
+use Rattle.wb_compose.specs.Hosts.{CertifiedView}
 use Rattle.wb_compose.specs.Composed.{IsComposed}
 use Rattle.wb_generate.specs.Outcomes.{IsOutcome}
 use Rattle.wb_generate.specs.declared.generated.Generated.{Generated}

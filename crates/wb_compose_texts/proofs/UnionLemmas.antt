@@ -12,18 +12,18 @@ use Rattle.wb_scan_theory.specs.Languages.{LanguageView}
 use Rattle.wb_syntax_resolved.specs.Attribution.{IsAttribution}
 use Rattle.wb_syntax_resolved.specs.declared.resolved.ResolvedParts.{ResolvedParts}
 use Rattle.wb_syntax_resolved.specs.Grammar.{IsGrammarOf}
-use Rattle.wb_compose_theory_attributes.specs.Numbers.{NumberMap}
-use Rattle.wb_compose_theory_language.specs.Languages.{IsUnitedLanguage}
-use Rattle.wb_compose_theory_lists.specs.Additions.{Addition, IsAddition, Rows, nothing}
-use Rattle.wb_compose_theory_lists.specs.Hosts.{IsOfRows, rows_of}
-use Rattle.wb_compose_theory_lists.specs.Joined.{Block, place_after}
-use Rattle.wb_compose_theory_lists.specs.Laws.{AreAdded}
-use Rattle.wb_compose_theory_lists.specs.Numbers.{block_of}
-use Rattle.wb_compose_theory_lists.specs.United.{host_numbers, united_attribution}
-use Rattle.wb_compose_theory_lists.proofs.LawLemmas.{is_of_rows}
-use Rattle.wb_compose_theory_lists.proofs.PlacedLemmas.{after_below}
-use Rattle.wb_determinism_host.specs.Lexicons.{lexicon_of}
-use Rattle.wb_certify.specs.Kept.{AreCertifiedBoth}
+use Rattle.wb_compose.specs.AttributeNumbers.{NumberMap}
+use Rattle.wb_compose.specs.Languages.{IsUnitedLanguage}
+use Rattle.wb_compose.specs.Additions.{Addition, IsAddition, Rows, nothing}
+use Rattle.wb_compose.specs.ListedHosts.{IsOfRows, rows_of}
+use Rattle.wb_compose.specs.JoinedLists.{Block, place_after}
+use Rattle.wb_compose.specs.ListLaws.{AreAdded}
+use Rattle.wb_compose.specs.ListNumbers.{block_of}
+use Rattle.wb_compose.specs.UnitedLists.{host_numbers, united_attribution}
+use Rattle.wb_compose.proofs.ListLawLemmas.{is_of_rows}
+use Rattle.wb_compose.proofs.PlacedLemmas.{after_below}
+use Rattle.wb_compose.specs.Lexicons.{lexicon_of}
+use Rattle.wb_compose.specs.Kept.{AreCertifiedBoth}
 use Rattle.wb_compose.specs.Attributes.{addition_of, additions_of}
 use Rattle.wb_compose.specs.Joined.{Extended}
 use Rattle.wb_compose.specs.Written.{name_in, written_in}
@@ -32,11 +32,11 @@ use Rattle.wb_compose.proofs.LawLemmas.{is_attribution}
 use Rattle.wb_compose.proofs.WrittenApart.{all_apart, all_certified}
 use Rattle.wb_compose_texts.specs.Roots.{attributes_in}
 use Rattle.wb_compose_texts.specs.Unions.{Union}
-use Rattle.wb_reading_theory.specs.Attributions.{ExtendsAttribution}
-use Rattle.wb_reading_theory.specs.Extends.{Extends}
-use Rattle.wb_reading_theory.specs.Languages.{ExtendsLanguage}
-use Rattle.wb_reading_theory.proofs.UnionAttributeLemmas.{concrete, extends}
-use Rattle.wb_reading_theory.proofs.UnionLanguageLemmas.{extends_language, host_alone}
+use Rattle.wb_reading.specs.Attributions.{ExtendsAttribution}
+use Rattle.wb_reading.specs.Extends.{Extends}
+use Rattle.wb_reading.specs.Languages.{ExtendsLanguage}
+use Rattle.wb_reading.proofs.UnionAttributeLemmas.{concrete, extends}
+use Rattle.wb_reading.proofs.UnionLanguageLemmas.{extends_language, host_alone}
 use Rattle.wb_compose_texts.specs.UnionMarkers.{AreUnionMarkers}
 use Rattle.wb_compose_texts.proofs.MarkingLemmas.{are_marking}
 

@@ -12,8 +12,8 @@ use Rattle.wb_syntax_resolved.specs.declared.attribution.AttributionParts.{Attri
 use Rattle.wb_syntax_resolved.specs.declared.resolved.ResolvedParts.{ResolvedParts}
 use Rattle.wb_terms.specs.Printed.{printed_value}
 use Rattle.wb_values.specs.Tree.{Tree, Value}
-use Rattle.wb_compose_theory_attributes.specs.Numbers.{NumberMap}
-use Rattle.wb_compose_theory_attribute_order.specs.Values.{renamed_outcome, renamed_value}
+use Rattle.wb_compose.specs.AttributeNumbers.{NumberMap}
+use Rattle.wb_reading.specs.OrderedValues.{renamed_outcome, renamed_value}
 use Rattle.wb_compose.specs.Written.{name_in}
 use Rattle.wb_eval_root.specs.Values.{HasPrintedValue, IsTreeValue}
 use Rattle.wb_eval_root.specs.declared.value.TreeValue.{TreeValue}
@@ -31,11 +31,11 @@ use Rattle.wb_compose_texts.proofs.ExtendsLemmas.{alone_with}
 use Rattle.wb_compose_texts.proofs.OneUnion.{one_attribution}
 use Rattle.wb_compose_texts.proofs.PlainLemmas.{both_extend, plain_in, reads, stop_back}
 use Rattle.wb_compose_texts.proofs.UnionLemmas.{are_attribution, host_attribution, numbers}
-use Rattle.wb_reading_theory.specs.Attributes.{HasSameAttributes}
-use Rattle.wb_reading_theory.specs.Attributions.{ExtendsAttribution}
-use Rattle.wb_reading_theory.specs.Markers.{IsPlain}
-use Rattle.wb_reading_theory.proofs.PrintedLemmas.{value_alike}
-use Rattle.wb_reading_theory.proofs.ReadingLemmas.{same_attributes}
+use Rattle.wb_reading.specs.Attributes.{HasSameAttributes}
+use Rattle.wb_reading.specs.Attributions.{ExtendsAttribution}
+use Rattle.wb_reading.specs.Markers.{IsPlain}
+use Rattle.wb_reading.proofs.PrintedLemmas.{value_alike}
+use Rattle.wb_reading.proofs.ReadingLemmas.{same_attributes}
 
 -- what is a value in new numbers was one
 value_before : (t : NumberMap) (given : Value) (o : Outcome) → value given ≡ renamed_outcome t o →

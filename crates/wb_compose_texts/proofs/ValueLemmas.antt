@@ -12,7 +12,7 @@ use Rattle.wb_syntax_resolved.specs.declared.attribution.AttributionParts.{Attri
 use Rattle.wb_syntax_resolved.specs.declared.resolved.ResolvedParts.{ResolvedParts}
 use Rattle.wb_terms.specs.Printed.{printed_value}
 use Rattle.wb_values.specs.Tree.{Tree, Value}
-use Rattle.wb_compose_theory_attributes.specs.Numbers.{NumberMap}
+use Rattle.wb_compose.specs.AttributeNumbers.{NumberMap}
 use Rattle.wb_compose.specs.Written.{name_in}
 use Rattle.wb_eval_root.specs.Values.{ComesTo, HasPrintedValue, IsTreeValue}
 use Rattle.wb_eval_root.specs.declared.value.TreeValue.{TreeValue}
@@ -23,11 +23,11 @@ use Rattle.wb_compose_texts.specs.Values.{HasRootValue, IsTextValue, IsValueIn}
 use Rattle.wb_compose_texts.specs.declared.value.TextValue.{TextValue}
 use Rattle.wb_compose_texts.specs.declared.value.TextValue.TheVariants as answer
 use Rattle.wb_compose_texts.proofs.OneUnion.{one_attribution}
-use Rattle.wb_reading_theory.specs.Attributes.{HasSameAttributes}
-use Rattle.wb_reading_theory.specs.Attributions.{ExtendsAttribution}
-use Rattle.wb_reading_theory.specs.Markers.{IsPlain}
-use Rattle.wb_reading_theory.proofs.PrintedLemmas.{value_alike}
-use Rattle.wb_reading_theory.proofs.ReadingLemmas.{same_attributes}
+use Rattle.wb_reading.specs.Attributes.{HasSameAttributes}
+use Rattle.wb_reading.specs.Attributions.{ExtendsAttribution}
+use Rattle.wb_reading.specs.Markers.{IsPlain}
+use Rattle.wb_reading.proofs.PrintedLemmas.{value_alike}
+use Rattle.wb_reading.proofs.ReadingLemmas.{same_attributes}
 use Rattle.wb_compose_texts.specs.HostReadings.{HasHostReading}
 use Rattle.wb_compose_texts.specs.UnionMarkers.{AreUnionMarkers, union_markers}
 use Rattle.wb_compose_texts.proofs.PlainLemmas.{both_extend, reads, stop_there}

@@ -1,16 +1,16 @@
 -- The markers without a bare form are listed in one way.
-use Rattle.std.proofs.Common.{◌≡◌, ◌<◌, ◌∙◌, ◌∷◌, [], ℕ, zero, suc, List, Some, All, Contains, map}
-use Rattle.std.proofs.Common.{slice_get, ap, refl, sym, subst, inl, inr, arith}
+use Rattle.std.proofs.Common.{◌≡◌, ◌<◌, ◌∙◌, ◌∷◌, [], ℕ, zero, suc, List, Some, All, Contains, map, slice_get, ap, refl, sym, subst, inl}
+use Rattle.std.proofs.Common.{inr, arith}
 use Rattle.std.proofs.lemmas.List.Elements.{All-head, All-tail}
 use Rattle.std.proofs.lemmas.Option.{same_Some}
 use Rattle.wb_base.specs.Grammar.{GrammarView}
-use Rattle.wb_determinism_host.specs.Lexicons.{lexicon_of}
+use Rattle.wb_compose.specs.Lexicons.{lexicon_of}
 use Rattle.wb_compose.specs.Joined.{AreCertifiedApart, Extended}
 use Rattle.wb_compose.specs.Written.{written_in}
 use Rattle.wb_lemmas.proofs.Members.{contains_cases, contains_first, contains_later, nothing_in, place_of}
 use Rattle.wb_operations.specs.Operations.{OperationSignature}
 use Rattle.wb_syntax_resolved.specs.declared.resolved.ResolvedParts.{ResolvedParts}
-use Rattle.wb_compose_theory_language.specs.Languages.{AreWithdrawn}
+use Rattle.wb_compose.specs.Languages.{AreWithdrawn}
 use Rattle.wb_compose_texts.specs.Names.{name_at, terminals_of}
 use Rattle.wb_compose_texts.specs.Unions.{Union}
 use Rattle.wb_compose_texts.specs.Withdrawn.{HasOneWithdrawn}

@@ -3,8 +3,8 @@ use Rattle.std.specs.Prelude.{ℕ, Bool, List, [], map}
 use Rattle.wb_base.specs.Different.{Differ}
 use Rattle.wb_scan_theory.specs.Languages.{LanguageView}
 use Rattle.wb_syntax_resolved.specs.declared.attribution.AttributionParts.{AttributionParts}
-use Rattle.wb_certify.specs.Kept.{ExtensionView}
-use Rattle.wb_certify_host.specs.Hosts.{CertifiedView}
+use Rattle.wb_compose.specs.Kept.{ExtensionView}
+use Rattle.wb_compose.specs.Hosts.{CertifiedView}
 pub use Rattle.wb_compose.specs.Composed.{IsComposed, IsWith, name_of}
 pub use Rattle.wb_compose.specs.United.{IsOfUnion}
 pub use Rattle.wb_compose.specs.Written.{name_in}

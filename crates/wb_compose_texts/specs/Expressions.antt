@@ -4,13 +4,13 @@ use Rattle.std.specs.Prelude.{◌≡◌, ◌++◌, ◌∷◌, [], ℕ, List, Opt
 use Rattle.std.specs.List.{AllZip}
 use Rattle.wb_regex.specs.Prefixed.{IsPrefixed}
 use Rattle.wb_regex.specs.Tree.{Tree}
-use Rattle.wb_compose_theory_order.specs.Names.{all_of}
+use Rattle.wb_reading.specs.OrderedNames.{all_of}
 use Rattle.wb_syntax_resolved.specs.declared.resolved.ResolvedParts.{ResolvedParts}
 use Rattle.wb_syntax_resolved.specs.declared.terminal.Terminal.{Terminal}
 use Rattle.wb_syntax_resolved.specs.declared.terminal.TerminalKind.{TerminalKind}
 use Rattle.wb_syntax_resolved.specs.declared.terminal.TerminalKind.TheVariants as kind
 use Rattle.wb_certify_shown.specs.Names.{terminals_in}
-use Rattle.wb_compose_theory_language.specs.Apart.{colon}
+use Rattle.wb_compose.specs.Apart.{colon}
 
 -- the name of an extension and two colons
 abbrev pub marker_prefix : List ℕ → List ℕ

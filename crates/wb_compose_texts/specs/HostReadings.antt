@@ -4,7 +4,7 @@ use Rattle.wb_scan_theory.specs.Languages.{LanguageView}
 use Rattle.wb_operations.specs.Operations.{OperationSignature}
 use Rattle.wb_syntax_resolved.specs.declared.resolved.ResolvedParts.{ResolvedParts}
 use Rattle.wb_compose_texts.specs.Unions.{IsLanguageOf, Union}
-use Rattle.wb_reading_theory.specs.Markers.{IsPlain}
+use Rattle.wb_reading.specs.Markers.{IsPlain}
 use Rattle.wb_compose_texts.specs.UnionMarkers.{union_markers}
 
 -- the host has with the extensions a language

@@ -8,3 +8,7 @@ pub mod Parsed
 pub mod FirstMarkers
 -- sets that are filled
 pub mod Sets
+-- lines that are gathered
+pub mod Gathered
+-- how far edits have come, and where they halt
+pub mod Walks

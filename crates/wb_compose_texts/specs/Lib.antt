@@ -30,5 +30,28 @@ pub mod HostReadings
 pub mod SameRoots
 -- what a text is to a host with extensions, beside what it is to the host
 pub mod Readings
+-- what becomes of a text by edits, and the first edit that isn't done
+pub mod Edited
+-- the lines of a text and of the texts after each edit
+pub mod EditAnswers
+-- words of `wb_eval_root` that callers speak of
+pub use Rattle.wb_eval_root.specs.Answers as RootAnswers
+pub use Rattle.wb_eval_root.specs.Asked
+pub use Rattle.wb_eval_root.specs.Values as TreeValues
+pub use Rattle.wb_eval_root.specs.declared.answer as root_answer
+pub use Rattle.wb_eval_root.specs.declared.value as tree_value
+-- words of `wb_generate` that callers speak of
+pub use Rattle.wb_generate.specs.Laws as GenerateLaws
+pub use Rattle.wb_generate.specs.declared.generated as generated_text
+-- words of `wb_compose` that callers speak of
+pub use Rattle.wb_compose.specs.Attributes
+pub use Rattle.wb_compose.specs.Joined
+pub use Rattle.wb_compose.specs.Written
+-- words of `wb_session` that callers speak of
+pub use Rattle.wb_session.specs.Sessions
+-- words of `wb_session_theory` that callers speak of
+pub use Rattle.wb_session.specs.Edits
+-- words of `wb_reading_theory` that callers speak of
+pub use Rattle.wb_reading.specs.Markers
 -- words of the private functions
 pub mod Inner

@@ -3,7 +3,7 @@
 use Rattle.std.specs.Prelude.{ℕ, List, drop, map, slice_get}
 use Rattle.wb_scan_theory.specs.declared.stop_kind.StopKind.{StopKind}
 use Rattle.wb_scan_theory.specs.declared.stop_kind.StopKind.TheVariants as kind
-use Rattle.wb_compose_theory_order.specs.Names.{in_turn}
+use Rattle.wb_reading.specs.OrderedNames.{in_turn}
 use Rattle.wb_report.specs.declared.shown.ShownStop.{ShownStop}
 use Rattle.wb_report.specs.declared.shown.ShownStop.TheVariants as stop
 use Rattle.wb_syntax_resolved.specs.declared.resolved.ResolvedParts.{ResolvedParts}

@@ -5,7 +5,7 @@ use Rattle.wb_operations.specs.Operations.{OperationSignature}
 use Rattle.wb_syntax_resolved.specs.declared.resolved.ResolvedParts.{ResolvedParts}
 use Rattle.wb_compose_texts.specs.Names.{name_at, terminals_of}
 use Rattle.wb_compose_texts.specs.Unions.{IsLanguageOf, Union}
-use Rattle.wb_reading_theory.specs.Markers.{IsMarkerAt, IsPlain}
+use Rattle.wb_reading.specs.Markers.{IsMarkerAt, IsPlain}
 use Rattle.wb_compose_texts.specs.UnionMarkers.{union_markers}
 use Rattle.wb_compose_texts.specs.declared.text_reading.TextReading.{TextReading}
 use Rattle.wb_compose_texts.specs.declared.text_reading.TextReading.TheVariants.{Host, MarkerAt}

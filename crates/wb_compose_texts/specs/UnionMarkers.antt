@@ -2,11 +2,11 @@
 -- extension is given by the host with it alone.
 use Rattle.std.specs.Prelude.{◌↔◌, ℕ, Bool, false, List, drop, map, replicate, take}
 use Rattle.wb_termset.specs.Sets.{IsMember}
-use Rattle.wb_determinism.specs.Images.{is_marking}
+use Rattle.wb_compose.specs.DeterminismImages.{is_marking}
 use Rattle.wb_syntax_resolved.specs.declared.resolved.ResolvedParts.{ResolvedParts}
 use Rattle.wb_syntax_resolved.specs.declared.terminal.Terminal.{Terminal}
 use Rattle.wb_certify_shown.specs.Names.{terminals_in}
-use Rattle.wb_compose_theory_order.specs.Names.{in_turn}
+use Rattle.wb_reading.specs.OrderedNames.{in_turn}
 
 -- of each terminal of a grammar, whether it is a marker
 abbrev pub grammar_markers : ResolvedParts → List Bool

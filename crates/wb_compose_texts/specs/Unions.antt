@@ -1,8 +1,8 @@
 -- The union of a certified host and extensions, each certified with the host alone.
 use Rattle.std.specs.Prelude.{◌≡◌, List, map}
 use Rattle.wb_base.specs.Grammar.{GrammarView}
-use Rattle.wb_certify.specs.Kept.{ExtensionView}
-use Rattle.wb_determinism_host.specs.Lexicons.{lexicon_of}
+use Rattle.wb_compose.specs.Kept.{ExtensionView}
+use Rattle.wb_compose.specs.Lexicons.{lexicon_of}
 use Rattle.wb_compose.specs.Joined.{AreCertifiedApart, Extended}
 use Rattle.wb_compose.specs.Written.{written_in}
 use Rattle.wb_scan_theory.specs.Facts.{IsLanguage}
@@ -10,8 +10,8 @@ use Rattle.wb_scan_theory.specs.Languages.{LanguageView}
 use Rattle.wb_operations.specs.Operations.{OperationSignature}
 use Rattle.wb_syntax_resolved.specs.declared.resolved.ResolvedParts.{ResolvedParts}
 use Rattle.wb_compose_theory_grammar.specs.UnitedWorlds.{united}
-use Rattle.wb_compose_theory_language.specs.Languages.{IsUnitedLanguage}
-use Rattle.wb_compose_theory_language.specs.Written.{WrittenPiece, pieces_of}
+use Rattle.wb_compose.specs.Languages.{IsUnitedLanguage}
+use Rattle.wb_compose.specs.WrittenLanguages.{WrittenPiece, pieces_of}
 
 -- certified extensions, each by the host with it alone
 abbrev pub all_resolved : List ExtensionView → List ResolvedParts

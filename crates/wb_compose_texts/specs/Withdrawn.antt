@@ -1,9 +1,9 @@
 -- The printed names of a union's markers without a bare form.
 use Rattle.std.specs.Prelude.{◌≡◌, ℕ, List, map}
-use Rattle.wb_determinism_host.specs.Lexicons.{lexicon_of}
+use Rattle.wb_compose.specs.Lexicons.{lexicon_of}
 use Rattle.wb_operations.specs.Operations.{OperationSignature}
 use Rattle.wb_syntax_resolved.specs.declared.resolved.ResolvedParts.{ResolvedParts}
-use Rattle.wb_compose_theory_language.specs.Languages.{AreWithdrawn}
+use Rattle.wb_compose.specs.Languages.{AreWithdrawn}
 use Rattle.wb_compose_texts.specs.Names.{name_at, terminals_of}
 use Rattle.wb_compose_texts.specs.Unions.{Union, written_of}
 

@@ -1,7 +1,7 @@
 //! Lists the expressions by which all terminals and layouts of a union are written.
 
 ghost use Rattle.std.specs.Prelude.{None, IfOk, OnOk, length, map};
-ghost use Rattle.wb_compose_theory_order.specs.Names.{all_of};
+ghost use Rattle.wb_reading.specs.OrderedNames.{all_of};
 ghost use Rattle.wb_certify_shown.specs.Names as shown;
 ghost use Rattle.wb_compose_texts.specs.Expressions.{AreUnitedExpressions, added_rows, rows_of};
 ghost use Rattle.wb_compose_texts.specs.Inner.Added.{AreAdded};
@@ -9,9 +9,8 @@ ghost use Rattle.wb_compose_texts.specs.Unions.{all_resolved};
 
 use crate::expression_rows::{add_named, add_own};
 use std::alloc::{AllocError, Global};
-use wb_certify::CertifiedExtension;
-use wb_certify_host::CertifiedHost;
 use wb_certify_shown::terminals_in;
+use wb_compose::{CertifiedExtension, CertifiedHost};
 use wb_regex::Regex;
 use wb_syntax_resolved::Resolved;
 

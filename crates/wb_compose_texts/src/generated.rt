@@ -7,10 +7,8 @@ ghost use Rattle.wb_compose_texts.specs.Unions.{all_resolved};
 
 use crate::united_expressions;
 use std::alloc::{AllocError, Global};
-use wb_certify::CertifiedExtension;
-use wb_certify_host::CertifiedHost;
 use wb_certify_shown::terminals_in;
-use wb_compose::Composed;
+use wb_compose::{CertifiedExtension, CertifiedHost, Composed};
 use wb_generate::{Generated, generate};
 use wb_syntax_resolved::Resolved;
 

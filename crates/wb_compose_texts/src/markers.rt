@@ -4,18 +4,17 @@
 
 ghost use Rattle.std.specs.Prelude.{◌≡◌, ◌++◌, ◌↔◌, ℕ, false, IfOk, OnOk, drop, map, replicate, slice_get};
 ghost use Rattle.wb_termset.specs.Sets.{IsMember};
-ghost use Rattle.wb_determinism.specs.Images.{is_marker_row};
-ghost use Rattle.wb_determinism.specs.Images as image;
-ghost use Rattle.wb_compose_theory_order.specs.Names.{all_of};
+ghost use Rattle.wb_compose.specs.DeterminismImages.{is_marker_row};
+ghost use Rattle.wb_compose.specs.DeterminismImages as image;
+ghost use Rattle.wb_reading.specs.OrderedNames.{all_of};
 ghost use Rattle.wb_compose_texts.specs.Unions.{all_resolved};
 ghost use Rattle.wb_compose_texts.specs.UnionMarkers.{AreUnionMarkers, added_markers, grammar_markers};
 ghost use Rattle.wb_compose_texts.specs.UnionMarkers as union;
 
 use std::alloc::{AllocError, Global};
 use wb_base::push;
-use wb_certify::CertifiedExtension;
-use wb_certify_host::CertifiedHost;
 use wb_certify_shown::terminals_in;
+use wb_compose::{CertifiedExtension, CertifiedHost};
 use wb_syntax_resolved::{Resolved, Terminal, TerminalKind};
 use wb_termset::TermSet;
 

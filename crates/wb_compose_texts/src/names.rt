@@ -1,16 +1,15 @@
 //! Which names do reports show for the terminals of a union?
 
 ghost use Rattle.std.specs.Prelude.{◌≡◌, ◌++◌, IfOk, OnOk, map};
-ghost use Rattle.wb_compose_theory_order.specs.Names.{all_of};
+ghost use Rattle.wb_reading.specs.OrderedNames.{all_of};
 ghost use Rattle.wb_compose_texts.specs.Names.{added_names, name_at, terminals_of};
 ghost use Rattle.wb_compose_texts.specs.Unions.{all_resolved};
 ghost use Rattle.wb_compose_texts.specs.Inner.Tables.{names_from};
 
 use std::alloc::{AllocError, Global};
 use wb_base::{Bytes, Sequence, push};
-use wb_certify::CertifiedExtension;
-use wb_certify_host::CertifiedHost;
 use wb_certify_shown::{terminal_name, terminals_in};
+use wb_compose::{CertifiedExtension, CertifiedHost};
 use wb_syntax_resolved::Resolved;
 
 /// The printed names of all terminals of the union, by number: the host's, and then those that each extension adds.

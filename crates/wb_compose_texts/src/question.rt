@@ -1,8 +1,6 @@
 //! What is asked of a text?
 
-use wb_certify::CertifiedExtension;
-use wb_certify_host::CertifiedHost;
-use wb_compose::Composed;
+use wb_compose::{CertifiedExtension, CertifiedHost, Composed};
 use wb_syntax_resolved::Attribution;
 
 /// An attribute of a host with extensions that is asked at the root of a text's tree.

@@ -13,9 +13,7 @@ use crate::markers::union_markers;
 use crate::text_reading::TextReading;
 use crate::trees::united_name;
 use std::alloc::{AllocError, Global};
-use wb_certify::CertifiedExtension;
-use wb_certify_host::CertifiedHost;
-use wb_compose::{Composed, compose};
+use wb_compose::{CertifiedExtension, CertifiedHost, Composed, compose};
 use wb_reading::{HostReading, first_marker};
 
 /// Whether a text means to a host with extensions what it means to the host, or the first marker that may change it.

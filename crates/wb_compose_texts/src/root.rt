@@ -7,7 +7,7 @@ ghost use Rattle.wb_syntax_resolved.specs.declared.resolved.ResolvedParts.{Resol
 ghost use Rattle.wb_compose_texts.specs.Roots.{HasNoRootAttribute, IsRootAttribute};
 
 use std::alloc::{AllocError, Global};
-use wb_certify_host::CertifiedHost;
+use wb_compose::CertifiedHost;
 use wb_eval_root::asked_on;
 use wb_syntax_resolved::Attribution;
 

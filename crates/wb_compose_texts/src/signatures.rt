@@ -9,8 +9,7 @@ ghost use Rattle.wb_compose_texts.specs.Inner.Tables.{signatures_from};
 
 use std::alloc::{AllocError, Global};
 use wb_base::{Grammar, Kind, push};
-use wb_certify::CertifiedExtension;
-use wb_certify_host::CertifiedHost;
+use wb_compose::{CertifiedExtension, CertifiedHost};
 use wb_syntax_resolved::Resolved;
 use wb_values::Signatures;
 

@@ -16,7 +16,7 @@ use crate::{Question, TextValue, united_stop};
 use std::alloc::{AllocError, Global};
 use wb_eval_root::tree_value;
 use wb_operations::{Meaning, OperationRefusal, OperationTable};
-use wb_parser::{Parsed, parse};
+use wb_session::{Parsed, parse};
 use wb_values::{TreeStore, Value};
 
 /// What comes of a text and an attribute that may be asked at the start, within so many steps, in the language that is composed of a host

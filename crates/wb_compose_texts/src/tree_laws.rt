@@ -2,14 +2,14 @@
 
 ghost use Rattle.std.specs.Prelude.{◌≡◌, ◌↔◌, ℕ, List, [], Some};
 ghost use Rattle.wb_base.specs.Grammar.{GrammarView};
-ghost use Rattle.wb_certify_host.specs.Hosts.{CertifiedView, IsCertified};
+ghost use Rattle.wb_compose.specs.Hosts.{CertifiedView, IsCertified};
 ghost use Rattle.wb_certify_shown.specs.Names.{grammar_terminals};
 ghost use Rattle.wb_compose.specs.Composed.{IsComposed};
 ghost use Rattle.wb_compose.specs.HostLanguage.{host_language};
 ghost use Rattle.wb_scan_theory.specs.Languages.{LanguageView};
 ghost use Rattle.wb_scan_theory.specs.Shown.{AgreesWith};
 ghost use Rattle.wb_operations.specs.Operations.{OperationSignature};
-ghost use Rattle.wb_compose_theory_order.specs.Orders.{IsReordering};
+ghost use Rattle.wb_reading.specs.Orders.{IsReordering};
 ghost use Rattle.wb_syntax_resolved.specs.declared.resolved.ResolvedParts.{ResolvedParts};
 ghost use Rattle.wb_compose_texts.specs.Answers.{HasSameAnswer, IsUnitedTextAnswer};
 ghost use Rattle.wb_compose_texts.specs.HostTexts.{HaveSameTexts, IsHostTextAnswer};

@@ -3,7 +3,7 @@
 ghost use Rattle.std.specs.Prelude.{◌≡◌, ◌<◌, ℕ, List, IfOk, length};
 ghost use Rattle.wb_compose.specs.Composed.{IsComposed};
 ghost use Rattle.wb_scan_theory.specs.Languages.{LanguageView};
-ghost use Rattle.wb_parser.specs.Parses.{IsParsed, IsTreeOf};
+ghost use Rattle.wb_session.specs.Parses.{IsParsed, IsTreeOf};
 ghost use Rattle.wb_compose_texts.specs.Answers.{IsAnswerIn, IsUnitedTextAnswer};
 ghost use Rattle.wb_compose_texts.specs.Names.{name_at, stop_shown, terminals_of};
 ghost use Rattle.wb_compose_texts.specs.Signatures.{signatures_of};
@@ -14,12 +14,10 @@ use crate::names::{name_of, united_terminals};
 use crate::signatures::united_signatures;
 use std::alloc::{AllocError, Global};
 use wb_base::{Bytes, Sequence};
-use wb_certify::CertifiedExtension;
-use wb_certify_host::CertifiedHost;
-use wb_compose::Composed;
-use wb_parser::{Parsed, parse};
+use wb_compose::{CertifiedExtension, CertifiedHost, Composed};
 use wb_report::ShownStop;
 use wb_scan_theory::StopKind;
+use wb_session::{Parsed, parse};
 use wb_terms::{PrintRefusal, print_value};
 use wb_values::{Signatures, TreeId, TreeStore, Value};
 

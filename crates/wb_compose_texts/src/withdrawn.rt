@@ -9,9 +9,7 @@ ghost use Rattle.wb_compose_texts.specs.Withdrawn.{AreWithdrawnNames};
 use crate::names::{name_of, united_terminals};
 use std::alloc::{AllocError, Global};
 use wb_base::{Bytes, Sequence, push};
-use wb_certify::CertifiedExtension;
-use wb_certify_host::CertifiedHost;
-use wb_compose::Composed;
+use wb_compose::{CertifiedExtension, CertifiedHost, Composed};
 
 /// The printed names of the markers without a bare form in what is composed of a host and extensions, by extension and then by number.
 pub fn withdrawn_names(

@@ -4,8 +4,8 @@ use Rattle.wb_base.specs.Different.{Differ}
 use Rattle.wb_compose_texts.specs.Roots.{HasOneRootAttribute, IsRootAttribute}
 use Rattle.wb_compose_texts.specs.declared.value.TextValue.{TextValue}
 use Rattle.wb_compose_texts.specs.declared.value.TextValue.TheVariants as v
-use Rattle.wb_eval_root.specs.declared.value.TreeValue.{TreeValue}
-use Rattle.wb_eval_root.specs.declared.value.TreeValue.TheVariants as t
+use Rattle.wb_compose_texts.specs.tree_value.TreeValue.{TreeValue}
+use Rattle.wb_compose_texts.specs.tree_value.TreeValue.TheVariants as t
 use Rattle.wb_operations.specs.Operations.{Operations, OperationSignature}
 use Rattle.wb_report.specs.declared.done.Done.{Done}
 use Rattle.wb_syntax_resolved.specs.declared.resolved.ResolvedParts.{ResolvedParts}

@@ -1,6 +1,6 @@
 -- The report of what is composed comes after the checks of the host and the extensions, and a run that stops at one of them has its cause.
 use Rattle.std.proofs.Common.{◌≡◌, ◌≤◌, ◌++◌, inl, inr, ℕ, List, [], ◌∷◌, Option, length, subst, sym, ap, ◌∙◌}
-use Rattle.wb_certify_host.specs.Hosts.{CertifiedView}
+use Rattle.wb_certify_files.specs.Hosts.{CertifiedView}
 use Rattle.wb_certify_files.specs.HostContents.{IsHostText, IsHostRefusal}
 use Rattle.wb_operations.specs.Operations.{OperationSignature}
 use Rattle.wb_syntax_resolved.specs.declared.resolved.ResolvedParts.{ResolvedParts}

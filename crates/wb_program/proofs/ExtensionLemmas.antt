@@ -1,12 +1,12 @@
 -- What is made of the files of extensions, in their order, is their report; and a run that stops at one of them has its cause.
-use Rattle.std.proofs.Common.{String, Global, string_bytes}
-use Rattle.std.proofs.Common.{◌≡◌, ◌<◌, ◌≤◌, ◌+◌, ◌++◌, inl, inr, ℕ, List, [], ◌∷◌, Option, length, map, drop, subst, sym, refl}
+use Rattle.std.proofs.Common.{String, Global, string_bytes, ◌≡◌, ◌<◌, ◌≤◌, ◌+◌, ◌++◌, inl, inr, ℕ, List, [], ◌∷◌, Option, length, map, drop}
+use Rattle.std.proofs.Common.{subst, sym, refl}
 use Rattle.std.proofs.lemmas.List.{length-map}
 use Rattle.wb_certify_files.specs.ExtensionContents.{IsExtensionText, IsExtensionRefusal}
 use Rattle.wb_certify_files.specs.declared.extension_refusal.FileRefusal.{FileRefusal}
 use Rattle.wb_certify_files.specs.declared.extension_refusal.FileRefusal.TheVariants as f
 use Rattle.wb_certify_files.specs.HostContents.{IsHostText, IsHostRefusal}
-use Rattle.wb_certify.specs.Extensions.{IsOneExtension}
+use Rattle.wb_certify_files.specs.Extensions.{IsOneExtension}
 use Rattle.wb_operations.specs.Operations.{OperationSignature}
 use Rattle.wb_reader.specs.declared.refusal.SpecRefusal.TheVariants as s
 use Rattle.wb_report.specs.Lines.{report_of}

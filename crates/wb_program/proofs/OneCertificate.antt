@@ -1,11 +1,12 @@
 -- Two reports by the checks of a file with its certificate have one status, and one text where it isn't left open.
 use Rattle.std.proofs.Common.{◌≡◌, ◌≢◌, ◌<◌, ◌≤◌, ◌⊎◌, inl, inr, ℕ, List, Option, Some, None, length, arith, sym, ◌∙◌, subst}
 use Rattle.wb_certify_files.specs.declared.extension_refusal.FileRefusal.TheVariants as f
-use Rattle.wb_recheck_contents.specs.OneAnswer.{Sort, at_place, for_host, is_missing, of_certification, of_specification, on_line, sort_of}
-use Rattle.wb_recheck_contents.specs.OneAnswer.{out_of_memory, too_long}
-use Rattle.wb_recheck_contents.specs.Refusals.{IsMemory}
-use Rattle.wb_recheck_contents.specs.declared.refusal.ContentsRefusal.{ContentsRefusal}
-use Rattle.wb_recheck_contents.specs.declared.refusal.ContentsRefusal.TheVariants as k
+use Rattle.wb_certify_files.specs.OneRecheckAnswer.{Sort, at_place, for_host, is_missing, of_certification, of_specification, on_line}
+use Rattle.wb_certify_files.specs.OneRecheckAnswer.{sort_of}
+use Rattle.wb_certify_files.specs.OneRecheckAnswer.{out_of_memory, too_long}
+use Rattle.wb_certify_files.specs.RecheckRefusals.{IsMemory}
+use Rattle.wb_certify_files.specs.declared.contents_refusal.ContentsRefusal.{ContentsRefusal}
+use Rattle.wb_certify_files.specs.declared.contents_refusal.ContentsRefusal.TheVariants as k
 use Rattle.wb_report.specs.Lines.{report_of}
 use Rattle.wb_report.specs.declared.certificate_reason.CertificateReason.{CertificateReason}
 use Rattle.wb_report.specs.declared.certificate_reason.CertificateReason.TheVariants as q

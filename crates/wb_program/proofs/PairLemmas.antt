@@ -1,10 +1,10 @@
 -- What is made of what was read of a file and of its certificate is their report.
 use Rattle.std.proofs.Common.{◌≡◌, ◌≤◌, ◌⊎◌, inl, inr, ℕ, List, Option, Some, Result, Ok, Err, IfOk, IfErr, length, subst, sym, refl}
 use Rattle.std.specs.Result.{IsErrAnd}
-use Rattle.wb_certify_host.specs.Hosts.{CertifiedView}
+use Rattle.wb_certify_files.specs.Hosts.{CertifiedView}
 use Rattle.wb_operations.specs.Operations.{OperationSignature}
-use Rattle.wb_recheck_contents.specs.Hosts.{IsRefusedHost}
-use Rattle.wb_recheck_contents.specs.declared.refusal.ContentsRefusal.{ContentsRefusal}
+use Rattle.wb_certify_files.specs.RecheckedHosts.{IsRefusedHost}
+use Rattle.wb_certify_files.specs.declared.contents_refusal.ContentsRefusal.{ContentsRefusal}
 use Rattle.wb_world.specs.Shelf.{Files}
 use Rattle.wb_program.specs.CertificateChecks.{HasTooLongCertificate, IsPair, IsRefusedBy, RefusedPair, WithCertificate}
 use Rattle.wb_program.specs.Checks.{Report}

@@ -5,9 +5,9 @@ use Rattle.wb_certify_files.specs.declared.extension_refusal.FileRefusal.TheVari
 use Rattle.wb_operations.specs.Operations.{OperationSignature}
 use Rattle.wb_program_words.specs.Asked.{texts}
 use Rattle.wb_reader.specs.declared.refusal.SpecRefusal.TheVariants as s
-use Rattle.wb_recheck_contents.specs.Extensions.{IsRecheckedNamed, IsRefusedExtension}
-use Rattle.wb_recheck_contents.specs.Hosts.{IsRecheckedHost, IsRefusedHost}
-use Rattle.wb_recheck_contents.specs.declared.refusal.ContentsRefusal.TheVariants as k
+use Rattle.wb_certify_files.specs.RecheckedExtensions.{IsRecheckedNamed, IsRefusedExtension}
+use Rattle.wb_certify_files.specs.RecheckedHosts.{IsRecheckedHost, IsRefusedHost}
+use Rattle.wb_certify_files.specs.declared.contents_refusal.ContentsRefusal.TheVariants as k
 use Rattle.wb_report.specs.declared.refusal.Refusal.TheVariants as r
 use Rattle.wb_report.specs.declared.spec_reason.SpecReason.TheVariants as t
 use Rattle.wb_syntax_resolved.specs.declared.resolved.ResolvedParts.{ResolvedParts}

@@ -1,17 +1,16 @@
 -- What is made of the file of an extension after others, and of several in their order, is their report; and a run that stops at one of
 -- them has its cause.
-use Rattle.std.proofs.Common.{◌≡◌, ◌<◌, ◌+◌, ◌++◌, inl, inr, ℕ, List, [], ◌∷◌, Option, Some, None, Contains, length, map, drop}
-use Rattle.std.proofs.Common.{subst, sym, ap, refl, ◌∙◌, ◌⊎◌, ◌≢◌, zero, suc, arith, Bool, true, false, IsTrue, ◌↔◌, slice_get}
-use Rattle.std.proofs.Common.{slice_index_or}
+use Rattle.std.proofs.Common.{◌≡◌, ◌<◌, ◌+◌, ◌++◌, inl, inr, ℕ, List, [], ◌∷◌, Option, Some, None, Contains, length, map, drop, subst, sym}
+use Rattle.std.proofs.Common.{ap, refl, ◌∙◌, ◌⊎◌, ◌≢◌, zero, suc, arith, Bool, true, false, IsTrue, ◌↔◌, slice_get, slice_index_or}
 use Rattle.std.proofs.lemmas.List.Elements.{All-push}
 use Rattle.std.proofs.lemmas.Option.{slice_get_within, same_Some}
-use Rattle.wb_certify.specs.Extensions.{IsOneExtension}
+use Rattle.wb_certify_files.specs.Extensions.{IsOneExtension}
 use Rattle.std.proofs.lemmas.Bool.Decides.{eqb_tells}
 use Rattle.wb_lemmas.proofs.Members.{contains_at, contains_first, contains_later, contains_cases}
 use Rattle.wb_lemmas.proofs.Places.{at_push}
 use Rattle.wb_base.specs.Different.{Differ}
-use Rattle.wb_certify.specs.Kept.{ExtensionView}
-use Rattle.wb_certify_host.specs.Hosts.{CertifiedView}
+use Rattle.wb_certify_files.specs.Kept.{ExtensionView}
+use Rattle.wb_certify_files.specs.Hosts.{CertifiedView}
 use Rattle.wb_compose_texts.specs.Composed.{IsWith, name_of, name_in}
 use Rattle.wb_certify_files.specs.ExtensionContents.{IsExtensionText}
 use Rattle.wb_certify_files.specs.Specifications.{IsHeaderRefusal, IsSpecFor}
@@ -27,8 +26,7 @@ use Rattle.wb_compose_texts.specs.Unions.{all_resolved}
 use Rattle.wb_world.specs.Shelf.{Files}
 use Rattle.wb_program.specs.Files.{FileIs, KnownFile}
 use Rattle.wb_program.specs.Stops.{StopsEach}
-use Rattle.wb_program.specs.SeveralChecks.{AreEach, IsLaterRefusal, IsNext, IsNextText, RefusesEach, RefusesNext}
-use Rattle.wb_program.specs.SeveralChecks.{names_of}
+use Rattle.wb_program.specs.SeveralChecks.{AreEach, IsLaterRefusal, IsNext, IsNextText, RefusesEach, RefusesNext, names_of}
 use Rattle.wb_program.specs.ExtensionChecks.{AreApart}
 use Rattle.wb_program.specs.Inner.Several.{IsApartFrom, IsNextRefusal, IsReached, RefusedNext}
 use Rattle.wb_program.specs.Inner.Stopped.{Outside, Stopped}

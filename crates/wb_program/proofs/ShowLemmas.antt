@@ -8,7 +8,7 @@ use Rattle.wb_reader.specs.Refusals.{HasCause, IsAcceptedText}
 use Rattle.wb_reader.specs.declared.refusal.SpecRefusal.{SpecRefusal}
 use Rattle.wb_reader.specs.declared.refusal.SpecRefusal.TheVariants as s
 use Rattle.wb_report.specs.declared.refusal.Refusal.{Refusal}
-use Rattle.wb_certify_shown.specs.Shows.{written_reason, of_spec}
+use Rattle.wb_certify_files.specs.Shows.{written_reason, of_spec}
 use Rattle.wb_syntax.specs.SpecText.{SpecView}
 use Rattle.wb_world.specs.Shelf.{Files}
 use Rattle.wb_program.specs.Inner.Contents.{ContentsAre, ReadIs}

@@ -1,7 +1,7 @@
 -- The checks of a file with its certificate.
 use Rattle.std.specs.Prelude.{◌≡◌, ◌<◌, ◌≤◌, ◌⊎◌, ℕ, Option, List, length}
-use Rattle.wb_recheck_contents.specs.declared.refusal.ContentsRefusal.{ContentsRefusal}
-use Rattle.wb_recheck_contents.specs.declared.refusal.ContentsRefusal.TheVariants as k
+use Rattle.wb_certify_files.specs.declared.contents_refusal.ContentsRefusal.{ContentsRefusal}
+use Rattle.wb_certify_files.specs.declared.contents_refusal.ContentsRefusal.TheVariants as k
 use Rattle.wb_report.specs.Lines.{report_of}
 use Rattle.wb_report.specs.declared.certificate_reason.CertificateReason.{CertificateReason}
 use Rattle.wb_report.specs.declared.certificate_reason.CertificateReason.TheVariants as q

@@ -10,8 +10,8 @@ use Rattle.wb_report.specs.declared.refusal.Refusal.{Refusal}
 use Rattle.wb_syntax_resolved.specs.declared.resolved.ResolvedParts.{ResolvedParts}
 use Rattle.wb_world.specs.Shelf.{Files}
 use Rattle.wb_certify_files.specs.WellDefined.{IsWellDefinedText, IsWellDefinedTextRefusal}
-use Rattle.wb_certify_host.specs.Hosts.{IsCertifiedValue}
-use Rattle.wb_certify_host.specs.WellDefined.{HasWellDefinedAttributes}
+use Rattle.wb_certify_files.specs.Hosts.{IsCertifiedValue}
+use Rattle.wb_certify_files.specs.WellDefinedHosts.{HasWellDefinedAttributes}
 use Rattle.wb_program.specs.Checks.{Report, Ends}
 use Rattle.wb_program.specs.Files.{KnownFile}
 use Rattle.wb_program.specs.declared.status.Status.TheVariants.{SpecRefused, NotCertified}

@@ -7,7 +7,7 @@ use Rattle.wb_certify_files.specs.HostContents.{IsHostText}
 use Rattle.wb_certify_files.specs.WellDefined.{IsWellDefinedText}
 use Rattle.wb_operations.specs.Operations.{OperationSignature}
 use Rattle.wb_syntax_resolved.specs.declared.resolved.ResolvedParts.{ResolvedParts}
-use Rattle.wb_recheck_contents.specs.Hosts.{IsRecheckedHost}
+use Rattle.wb_certify_files.specs.RecheckedHosts.{IsRecheckedHost}
 use Rattle.wb_program.specs.CertificateChecks.{IsPair}
 use Rattle.wb_program.specs.SeveralChecks.{IsNext, AreEach}
 use Rattle.wb_program.specs.Files.{KnownFile, KnownAbsent}

@@ -5,8 +5,8 @@ use Rattle.wb_report.specs.Lines.{report_of}
 use Rattle.wb_report.specs.declared.done.Done.{Done}
 use Rattle.wb_report.specs.declared.outcome.Outcome.TheVariants as o
 use Rattle.wb_syntax_resolved.specs.declared.resolved.ResolvedParts.{ResolvedParts}
-use Rattle.wb_eval_root.specs.declared.value.TreeValue.{TreeValue}
-use Rattle.wb_eval_root.specs.declared.value.TreeValue.TheVariants as t
+use Rattle.wb_compose_texts.specs.tree_value.TreeValue.{TreeValue}
+use Rattle.wb_compose_texts.specs.tree_value.TreeValue.TheVariants as t
 use Rattle.wb_compose_texts.specs.Roots.{HasNoRootAttribute, IsRootAttribute}
 use Rattle.wb_compose_texts.specs.Values.{IsTextValue}
 use Rattle.wb_compose_texts.specs.declared.value.TextValue.{TextValue}

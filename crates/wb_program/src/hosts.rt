@@ -4,8 +4,8 @@
 
 ghost use Rattle.std.specs.Prelude.{◌≡◌, IfOk, IfErr, Ok};
 ghost use Rattle.std.specs.Result.{IsErrAnd};
-ghost use Rattle.wb_certify_host.specs.Hosts.{IsCertifiedValue};
-ghost use Rattle.wb_certify_host.specs.WellDefined.{HasWellDefinedAttributes};
+ghost use Rattle.wb_certify_files.specs.Hosts.{IsCertifiedValue};
+ghost use Rattle.wb_certify_files.specs.WellDefinedHosts.{HasWellDefinedAttributes};
 ghost use Rattle.wb_certify_files.specs.HostContents.{IsHostText, IsHostRefusal};
 ghost use Rattle.wb_certify_files.specs.WellDefined.{IsWellDefinedText, IsWellDefinedTextRefusal};
 ghost use Rattle.wb_program.specs.Inner.Contents.{ReadIs};
@@ -18,8 +18,7 @@ use crate::files::{Contents, ReadFailure, named_contents};
 use crate::status::Status;
 use std::alloc::{AllocError, Global};
 use wb_base::Bytes;
-use wb_certify_files::{HostRefusal, host_of, well_defined_host_of};
-use wb_certify_host::CertifiedHost;
+use wb_certify_files::{CertifiedHost, HostRefusal, host_of, well_defined_host_of};
 use wb_operations::{Meaning, OperationTable};
 use wb_report::{Outcome, Refusal, SpecReason};
 use wb_syntax_resolved::Resolved;

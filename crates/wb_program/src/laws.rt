@@ -6,7 +6,7 @@ ghost use Rattle.wb_program.specs.Inner.Below.{LawsBelow};
 ghost use Rattle.wb_program.specs.Laws.{EndAsReported, HaveOneStatus, HaveOneText};
 ghost use Rattle.wb_program.specs.ShownAgain.{IsStable};
 
-use wb_compose_edits::laws::one_edits_law;
+use wb_compose_texts::edit_laws::one_edits_law;
 use wb_compose_texts::reading_laws::one_reading_law;
 use wb_compose_texts::tree_laws::{one_answer_law, withdrawn_law};
 use wb_compose_texts::value_laws::{one_root_law, one_value_law};
@@ -54,7 +54,7 @@ fn laws_below()
     one_root_law();
     one_value_law();
     wb_compose_texts::generated_laws::one_text_law();
-    wb_recheck_files::laws::one_text_law();
-    wb_recheck_contents::laws::one_host_law();
-    wb_recheck_contents::laws::one_extension_law();
+    wb_certify_files::one_text_law();
+    wb_certify_files::one_rechecked_host_law();
+    wb_certify_files::one_rechecked_extension_law();
 }

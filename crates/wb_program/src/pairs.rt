@@ -1,6 +1,6 @@
 //! Reads a file and its certificate, and answers where one of them is refused.
 //!
-//! Both are read before either is tested. What is certified by the text of a certificate is found by `wb_recheck_contents`.
+//! Both are read before either is tested. What is certified by the text of a certificate is found by `wb_certify_files`.
 
 ghost use Rattle.std.specs.Prelude.{◌≡◌, ◌⊎◌, IfErr, IfOk, Ok};
 ghost use Rattle.std.specs.Result.{IsErrAnd};
@@ -16,8 +16,7 @@ use crate::several::refused_extension;
 use crate::status::Status;
 use std::alloc::{AllocError, Global};
 use wb_base::{Bytes, FILE_LIMIT};
-use wb_certify_files::FileRefusal;
-use wb_recheck_contents::ContentsRefusal;
+use wb_certify_files::{ContentsRefusal, FileRefusal};
 use wb_report::{CertificateReason, Outcome, Refusal};
 use wb_world::Shelf;
 

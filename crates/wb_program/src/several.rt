@@ -18,9 +18,9 @@ use crate::files::{Contents, ReadFailure, named_contents};
 use crate::status::Status;
 use std::alloc::{AllocError, Global};
 use wb_base::Bytes;
-use wb_certify::CertifiedExtension;
-use wb_certify_files::{FileRefusal, extension_of_spec, extension_spec};
-use wb_certify_host::CertifiedHost;
+use wb_certify_files::{
+    CertifiedExtension, CertifiedHost, FileRefusal, extension_of_spec, extension_spec,
+};
 use wb_operations::{Meaning, OperationTable};
 use wb_report::{Outcome, Refusal, SpecReason};
 use wb_syntax::Spec;

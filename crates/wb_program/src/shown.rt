@@ -10,8 +10,7 @@ use crate::answer::{Answer, reported};
 use crate::status::Status;
 use std::alloc::{AllocError, Global};
 use wb_base::{Bytes, Sequence};
-use wb_compose_texts::TextValue;
-use wb_eval_root::TreeValue;
+use wb_compose_texts::{TextValue, TreeValue};
 use wb_report::{Done, Outcome};
 
 // The answer for a text, which stops, or has a tree and a value at its root.

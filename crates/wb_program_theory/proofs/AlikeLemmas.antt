@@ -2,7 +2,7 @@
 use Rattle.std.proofs.Common.{◌≡◌, ◌⊎◌, ◌∙◌, ℕ, List, Some, inl, inr, ap, refl, sym}
 use Rattle.std.proofs.lemmas.Option.{same_Some}
 use lib.Chars.{codes}
-use Rattle.wb_certify_shown.specs.Shows.{name_reason, of_spec, written_reason}
+use Rattle.wb_certify_files.specs.Shows.{name_reason, of_spec, written_reason}
 use Rattle.wb_names_theory.specs.NamesOk.{AllDeclared, AllOfKind, AllOwned, NamesOk, NothingTwice, Scope}
 use Rattle.wb_names_theory.specs.Refusals.{IsTrueRefusal}
 use Rattle.wb_names_theory.specs.declared.refusal.NameRefusal.{NameRefusal}

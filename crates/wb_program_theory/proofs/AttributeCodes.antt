@@ -5,8 +5,8 @@ use Rattle.std.specs.Prelude.{slice_get}
 use lib.Chars.{codes}
 use Rattle.wb_syntax_expressions.specs.declared.node.Node.TheVariants as n
 use Rattle.wb_lemmas.proofs.Elements.{all_contained}
-use Rattle.wb_certify_host.specs.Refusals.{IsAttributeMemory, IsTypeMemory}
-use Rattle.wb_certify_shown.specs.Shows.{attribute_reason, inherited_reason, of_attributes, of_spec, type_reason}
+use Rattle.wb_certify_files.specs.CertifyRefusals.{IsAttributeMemory, IsTypeMemory}
+use Rattle.wb_certify_files.specs.Shows.{attribute_reason, inherited_reason, of_attributes, of_spec, type_reason}
 use Rattle.wb_complete.specs.ForwardRefusals.{HasForwardRead, IsTrueForwardRefusal}
 use Rattle.wb_complete.specs.Refusals.{CompleteOk, IsTrueCompletenessRefusal}
 use Rattle.wb_flow.proofs.CheckLemmas.{cycle_reaches}

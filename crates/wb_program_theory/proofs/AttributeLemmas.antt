@@ -14,10 +14,10 @@ use Rattle.wb_syntax_resolved.specs.declared.attributes.Attribute.{Attribute}
 use Rattle.wb_syntax_resolved.specs.declared.attributes.Direction.TheVariants.{Synthesized}
 use Rattle.wb_syntax_resolved.specs.declared.attribution.AttributionParts.{AttributionParts}
 use Rattle.wb_syntax_resolved.specs.Owners.{printed_name}
-use Rattle.wb_eval_root.specs.Asked.{IsAskedOn, IsPrintedAs}
-use Rattle.wb_eval_root.specs.Values.{ComesTo, HasPrintedValue, IsTreeValue}
-use Rattle.wb_eval_root.specs.declared.value.TreeValue.{TreeValue}
-use Rattle.wb_eval_root.specs.declared.value.TreeValue.TheVariants as v
+use Rattle.wb_compose_texts.specs.Asked.{IsAskedOn, IsPrintedAs}
+use Rattle.wb_compose_texts.specs.TreeValues.{ComesTo, HasPrintedValue, IsTreeValue}
+use Rattle.wb_compose_texts.specs.tree_value.TreeValue.{TreeValue}
+use Rattle.wb_compose_texts.specs.tree_value.TreeValue.TheVariants as v
 use Rattle.wb_values.specs.Tree.{Tree}
 
 -- what something is of an element that may be there

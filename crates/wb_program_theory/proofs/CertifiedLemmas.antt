@@ -7,10 +7,10 @@ use Rattle.wb_compose_texts.specs.declared.text_answer.TextAnswer.{TextAnswer}
 use Rattle.wb_compose_texts.specs.declared.text_answer.TextAnswer.TheVariants as a
 use Rattle.wb_compose_texts.specs.declared.value.TextValue.{TextValue}
 use Rattle.wb_compose_texts.specs.declared.value.TextValue.TheVariants as v
-use Rattle.wb_eval_root.specs.declared.value.TreeValue.{TreeValue}
-use Rattle.wb_eval_root.specs.declared.value.TreeValue.TheVariants as t
-use Rattle.wb_generate.specs.declared.generated.Generated.{Generated}
-use Rattle.wb_generate.specs.declared.generated.Generated.TheVariants as g
+use Rattle.wb_compose_texts.specs.tree_value.TreeValue.{TreeValue}
+use Rattle.wb_compose_texts.specs.tree_value.TreeValue.TheVariants as t
+use Rattle.wb_compose_texts.specs.generated_text.Generated.{Generated}
+use Rattle.wb_compose_texts.specs.generated_text.Generated.TheVariants as g
 use Rattle.wb_operations.specs.Operations.{OperationSignature, Operations}
 use Rattle.wb_compose_texts.specs.declared.text_reading.TextReading.{TextReading}
 use Rattle.wb_compose_texts.specs.declared.text_reading.TextReading.TheVariants as reading
@@ -30,8 +30,8 @@ use Rattle.wb_program.specs.Commands.Certificate.{CertificateChecks}
 use Rattle.wb_program.specs.Commands.Generate.{GenerateChecks, ShownMade}
 use Rattle.wb_program.specs.Commands.Run.{RunChecks}
 use Rattle.wb_program.specs.Values.{ShownTextValue, ShownTreeValue}
-use Rattle.wb_compose_edits.specs.declared.answer.EditsAnswer.{EditsAnswer}
-use Rattle.wb_compose_edits.specs.declared.answer.EditsAnswer.TheVariants as edits
+use Rattle.wb_compose_texts.specs.declared.edits_answer.EditsAnswer.{EditsAnswer}
+use Rattle.wb_compose_texts.specs.declared.edits_answer.EditsAnswer.TheVariants as edits
 use Rattle.wb_program.specs.Commands.Edit.{ShownEdits}
 use Rattle.wb_program.specs.Commands.Reading.{ShownReading}
 use Rattle.wb_program.specs.Commands.Tree.{ShownText}

@@ -3,8 +3,8 @@ use Rattle.std.proofs.Common.{◌≡◌, ◌∷◌, ◌∙◌, [], ℕ, List, So
 use Rattle.wb_certify_files.specs.HostContents.{IsBadText}
 use Rattle.wb_certify_files.specs.WellDefined.{IsWellDefinedTextRefusal}
 use Rattle.wb_certify_files.specs.declared.host_refusal.HostRefusal.TheVariants as h
-use Rattle.wb_eval_root.specs.declared.answer.RootAnswer.{RootAnswer}
-use Rattle.wb_eval_root.specs.declared.answer.RootAnswer.TheVariants as answered
+use Rattle.wb_compose_texts.specs.root_answer.RootAnswer.{RootAnswer}
+use Rattle.wb_compose_texts.specs.root_answer.RootAnswer.TheVariants as answered
 use Rattle.wb_operations.specs.Operations.{Operations}
 use Rattle.wb_report.specs.Lines.{report_of}
 use Rattle.wb_report.specs.declared.done.Done.TheVariants as done
@@ -28,7 +28,8 @@ use Rattle.wb_program.specs.Commands.Value.{RootReport, ValueReport}
 use Rattle.wb_program_theory.specs.Certified.{ComposeChecks, EditChecks, IsRefusalStatus, ReadingChecks, TreeChecks}
 use Rattle.wb_program_theory.specs.Codes.{HaveOneCode, IsCodeStatus, ShowOneCode}
 use Rattle.wb_program_theory.proofs.AlikeLemmas.{IsTold, told_alike, written_alike}
-use Rattle.wb_program_theory.proofs.CertifiedLemmas.{certificate_well, compose_well, edit_well, generate_well, reading_well, run_well, tree_well}
+use Rattle.wb_program_theory.proofs.CertifiedLemmas.{certificate_well, compose_well, edit_well, generate_well, reading_well, run_well}
+use Rattle.wb_program_theory.proofs.CertifiedLemmas.{tree_well}
 use Rattle.wb_program_theory.proofs.FileLemmas.{file_is}
 use Rattle.wb_program_theory.proofs.HostCodes.{IsWellDefinedShown, attributes_shown, well_defined_alike, written_shown}
 use Rattle.wb_program_theory.proofs.MarkerCodes.{RefusalsExclude}

@@ -3,7 +3,7 @@ use Rattle.std.proofs.Common.{◌≡◌, ◌≢◌, ℕ, List, Option, Some, inl
 use Rattle.std.specs.Io.KnownBytes.{append_known}
 use Rattle.wb_compose_texts.specs.Roots.{attributes_in}
 use Rattle.wb_compose_texts.specs.declared.value.TextValue.TheVariants as v
-use Rattle.wb_eval_root.specs.declared.value.TreeValue.TheVariants as t
+use Rattle.wb_compose_texts.specs.tree_value.TreeValue.TheVariants as t
 use Rattle.wb_eval_theory.proofs.EnoughLemmas.{more_enough, some_enough}
 use Rattle.wb_eval_theory.specs.Instances.{root, synthesized_at}
 use Rattle.wb_eval_theory.specs.Walks as walk

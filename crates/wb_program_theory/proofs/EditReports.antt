@@ -2,8 +2,8 @@
 use Rattle.std.proofs.Common.{◌≡◌, ◌<◌, ◌≤◌, ◌⊎◌, ◌++◌, ◌∷◌, ◌∙◌, [], ℕ, List, Some, inl, inr, length, append_assoc, append-nil, refl, sym}
 use Rattle.std.proofs.Common.{subst}
 use Rattle.std.proofs.lemmas.Bool.{cases_lt}
-use Rattle.wb_compose_edits.specs.declared.answer.EditsAnswer.{EditsAnswer}
-use Rattle.wb_compose_edits.specs.declared.answer.EditsAnswer.TheVariants as edits
+use Rattle.wb_compose_texts.specs.declared.edits_answer.EditsAnswer.{EditsAnswer}
+use Rattle.wb_compose_texts.specs.declared.edits_answer.EditsAnswer.TheVariants as edits
 use Rattle.wb_compose_texts.specs.Names.{terminals_of}
 use Rattle.wb_compose_texts.specs.Signatures.{signatures_of}
 use Rattle.wb_lemmas.proofs.NotNot.{bind, certain, decide, follows}

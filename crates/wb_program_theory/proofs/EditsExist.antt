@@ -4,11 +4,11 @@ use Rattle.std.proofs.Common.{subst, arith}
 use Rattle.std.specs.Prelude.{slice_index_or}
 use Rattle.std.proofs.lemmas.Bool.{cases_lt}
 use Rattle.std.proofs.lemmas.Option.{slice_get_cases, slice_get_within}
-use Rattle.wb_compose_edits.specs.Answers.{joined, AreLinesOf, IsEditsAnswerIn, IsLineOf}
-use Rattle.wb_compose_edits.specs.Edited.{after, AreDone, IsDone, IsFirstRefused, IsOutOfRange, IsTooLong}
-use Rattle.wb_compose_edits.specs.declared.answer.EditsAnswer.{EditsAnswer}
-use Rattle.wb_compose_edits.specs.declared.answer.EditsAnswer.TheVariants as a
-use Rattle.wb_compose_edits.proofs.WalkLemmas.{after-suc}
+use Rattle.wb_compose_texts.specs.EditAnswers.{joined, AreLinesOf, IsEditsAnswerIn, IsLineOf}
+use Rattle.wb_compose_texts.specs.Edited.{after, AreDone, IsDone, IsFirstRefused, IsOutOfRange, IsTooLong}
+use Rattle.wb_compose_texts.specs.declared.edits_answer.EditsAnswer.{EditsAnswer}
+use Rattle.wb_compose_texts.specs.declared.edits_answer.EditsAnswer.TheVariants as a
+use Rattle.wb_compose_texts.proofs.WalkLemmas.{after-suc}
 use Rattle.wb_compose_texts.specs.Names.{stop_shown}
 use Rattle.wb_lemmas.proofs.NotNot.{Chosen, certain, choose, follows}
 use Rattle.wb_lemmas.proofs.Places.{at_once, default_at}
@@ -20,9 +20,9 @@ use Rattle.wb_scan_theory.specs.Facts.{IsLanguage}
 use Rattle.wb_scan_theory.specs.Languages.{LanguageView}
 use Rattle.wb_scan_theory.specs.Readings.{a_stop, a_tree}
 use Rattle.wb_scan_theory.specs.Texts.{HasAnswer}
-use Rattle.wb_session.specs.Sessions.{Fits, MakesText}
+use Rattle.wb_compose_texts.specs.Sessions.{Fits, MakesText}
 use Rattle.wb_session_edits.specs.declared.edit.Edit.{Edit}
-use Rattle.wb_session_theory.specs.Edits.{edited}
+use Rattle.wb_compose_texts.specs.Edits.{edited}
 use Rattle.wb_terms.specs.Printed.{printed_tree}
 use Rattle.wb_values.specs.Signature.{Signature}
 use Rattle.wb_program_theory.proofs.TreeReports.{one_shown}

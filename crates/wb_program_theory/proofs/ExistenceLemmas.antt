@@ -3,14 +3,14 @@ use Rattle.std.proofs.Common.{◌≡◌, ◌∙◌, ◌++◌, ◌∷◌, [], ℕ
 use Rattle.std.specs.Prelude.{All}
 use Rattle.std.proofs.lemmas.List.Elements.{All-append, All-cons, All-nil}
 use Rattle.wb_base.specs.Different.{Differ}
-use Rattle.wb_certify.specs.Kept.{AreCertifiedBoth}
+use Rattle.wb_certify_files.specs.Kept.{AreCertifiedBoth}
 use Rattle.wb_certify_files.specs.ExtensionContents.{IsExtensionText}
 use Rattle.wb_certify_files.specs.HostContents.{IsHostText}
-use Rattle.wb_certify_host.specs.Hosts.{IsCertifiedValue}
-use Rattle.wb_compose.proofs.ExistenceLemmas.{some_answer}
-use Rattle.wb_compose.proofs.WrittenApart.{all_apart, all_certified}
-use Rattle.wb_compose.specs.Joined.{AreCertifiedApart, Extended}
-use Rattle.wb_compose.specs.Written.{name_in, written_in}
+use Rattle.wb_certify_files.specs.Hosts.{IsCertifiedValue}
+use Rattle.wb_compose_texts.proofs.ExistenceLemmas.{some_answer}
+use Rattle.wb_compose_texts.proofs.WrittenApart.{all_apart, all_certified}
+use Rattle.wb_compose_texts.specs.Joined.{AreCertifiedApart, Extended}
+use Rattle.wb_compose_texts.specs.Written.{name_in, written_in}
 use Rattle.wb_compose_texts.specs.Names.{name_at, terminals_of}
 use Rattle.wb_compose_texts.specs.Withdrawn.{AreWithdrawnNames}
 use Rattle.wb_compose_theory_language.proofs.WithdrawnExist as withdrawn

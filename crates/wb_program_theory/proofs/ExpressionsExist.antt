@@ -3,15 +3,15 @@ use Rattle.std.proofs.Common.{◌≡◌, ◌<◌, ◌++◌, ◌∷◌, [], ℕ, 
 use Rattle.std.proofs.lemmas.List.Elements.{All-append, All-cons, All-drop, All-head, All-map, All-nil, All-tail, All-take}
 use Rattle.std.specs.List.{AllZip}
 use Rattle.std.specs.Prelude.{All}
-use Rattle.wb_certify_shown.specs.Names.{terminals_in}
-use Rattle.wb_compose.specs.Joined.{Extended}
-use Rattle.wb_compose.specs.Written.{written_in}
+use Rattle.wb_certify_files.specs.Names.{terminals_in}
+use Rattle.wb_compose_texts.specs.Joined.{Extended}
+use Rattle.wb_compose_texts.specs.Written.{written_in}
 use Rattle.wb_compose_texts.specs.Expressions.{AreUnitedExpressions, IsExpressionOf, IsWrittenAs, Row, added_rows, marker_prefix, name_of}
 use Rattle.wb_compose_texts.specs.Expressions.{rows_of, united_rows}
 use Rattle.wb_compose_theory_language.specs.Apart.{colon}
 use Rattle.wb_compose_theory_language.specs.Written.{WrittenPiece}
 use Rattle.wb_compose_theory_order.specs.Names.{all_of}
-use Rattle.wb_generate.specs.Laws.{MatchesSome}
+use Rattle.wb_compose_texts.specs.GenerateLaws.{MatchesSome}
 use Rattle.wb_regex.specs.Tree.{Tree}
 use Rattle.wb_syntax_resolved.specs.declared.resolved.ResolvedParts.{ResolvedParts}
 use Rattle.wb_syntax_resolved.specs.declared.terminal.Terminal.{Terminal}

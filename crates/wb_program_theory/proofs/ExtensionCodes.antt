@@ -1,19 +1,19 @@
 -- Contents that aren't a certified extension of a host are refused with one code.
-use Rattle.std.proofs.Common.{◌≡◌, ◌≢◌, ◌≤◌, ◌⊎◌, ◌∙◌, ℕ, zero, suc, List, [], ◌∷◌, Option, Some, length, inl, inr, ap, arith}
-use Rattle.std.proofs.Common.{refl, subst, sym}
+use Rattle.std.proofs.Common.{◌≡◌, ◌≢◌, ◌≤◌, ◌⊎◌, ◌∙◌, ℕ, zero, suc, List, [], ◌∷◌, Option, Some, length, inl, inr, ap, arith, refl, subst}
+use Rattle.std.proofs.Common.{sym}
 use Rattle.std.specs.Prelude.{option_map}
 use lib.Chars.{codes}
 use Rattle.wb_base.specs.Grammar.{GrammarView}
-use Rattle.wb_certify.specs.Refusals.{IsAttributeRefusal, IsBesideRefusal}
+use Rattle.wb_certify_files.specs.BesideRefusals.{IsAttributeRefusal, IsBesideRefusal}
 use Rattle.wb_certify_files.specs.ExtensionContents.{HasBadNames, IsBadText, IsExtensionRefusal, IsRefusedValue, StandsFor}
 use Rattle.wb_certify_files.specs.declared.extension_refusal.FileRefusal.TheVariants as f
-use Rattle.wb_certify_host.specs.Refusals.{start_of}
-use Rattle.wb_certify_host.specs.declared.refusal.CertifyRefusal.{CertifyRefusal}
-use Rattle.wb_certify_host.specs.declared.refusal.CertifyRefusal.TheVariants as c
-use Rattle.wb_certify_shown.specs.Extensions.{extension_refusal_shown}
-use Rattle.wb_certify_shown.specs.Shows.{name_reason, of_spec}
+use Rattle.wb_certify_files.specs.CertifyRefusals.{start_of}
+use Rattle.wb_certify_files.specs.certify_refusal.CertifyRefusal.{CertifyRefusal}
+use Rattle.wb_certify_files.specs.certify_refusal.CertifyRefusal.TheVariants as c
+use Rattle.wb_certify_files.specs.ShownExtensions.{extension_refusal_shown}
+use Rattle.wb_certify_files.specs.Shows.{name_reason, of_spec}
 use Rattle.wb_lemmas.proofs.Elements.{all_contained, all_from_contained}
-use Rattle.wb_names.specs.Resolving.{IsExtensionNameRefusal, IsForOther, ResolvesExtension, extension_file, file_scope}
+use Rattle.wb_certify_files.specs.Resolving.{IsExtensionNameRefusal, IsForOther, ResolvesExtension, extension_file, file_scope}
 use Rattle.wb_names_numbers_theory.proofs.OneValue.{only_value}
 use Rattle.wb_names_numbers_theory.specs.OneValue.{SeesAll}
 use Rattle.wb_names_theory.specs.Refusals.{IsTrueRefusal}
@@ -30,10 +30,10 @@ use Rattle.wb_syntax_resolved.specs.Owners.{Sees}
 use Rattle.wb_syntax_resolved.specs.Resolved.{IsResolved}
 use Rattle.wb_syntax_resolved.specs.declared.production.Production.{Production}
 use Rattle.wb_syntax_resolved.specs.declared.resolved.ResolvedParts.{ResolvedParts}
-use Rattle.wb_program_theory.proofs.AlikeLemmas.{Alike, NameRules, coded_alike, coded_by, names_coded, names_hold, names_one}
-use Rattle.wb_program_theory.proofs.AlikeLemmas.{none_written, three_alike, written_alike}
-use Rattle.wb_program_theory.proofs.AttributeCodes.{AttributeRules, Coded, KindRules, after_kinds, attributes_coded, attributes_one}
-use Rattle.wb_program_theory.proofs.AttributeCodes.{coded, kinds_coded, kinds_one, none_some}
+use Rattle.wb_program_theory.proofs.AlikeLemmas.{Alike, NameRules, coded_alike, coded_by, names_coded, names_hold, names_one, none_written}
+use Rattle.wb_program_theory.proofs.AlikeLemmas.{three_alike, written_alike}
+use Rattle.wb_program_theory.proofs.AttributeCodes.{AttributeRules, Coded, KindRules, after_kinds, attributes_coded, attributes_one, coded}
+use Rattle.wb_program_theory.proofs.AttributeCodes.{kinds_coded, kinds_one, none_some}
 use Rattle.wb_program_theory.proofs.ChainLemmas.{First, HasOne, first_one, go_on}
 use Rattle.wb_program_theory.proofs.MarkerCodes.{MarkerRules, RefusalsExclude, after_beside, beside_coded, markers_one}
 

@@ -6,7 +6,7 @@ use Rattle.std.proofs.lemmas.Option.{same_Some, slice_get_within}
 use Rattle.wb_base.specs.Different.{Differ}
 use Rattle.wb_eval_theory.proofs.CountLemmas.{no_more}
 use Rattle.wb_certify_files.specs.ExtensionContents.{IsExtensionText}
-use Rattle.wb_compose.specs.Written.{name_in}
+use Rattle.wb_compose_texts.specs.Written.{name_in}
 use Rattle.wb_lemmas.proofs.Members.{contains_at, place_of}
 use Rattle.wb_lemmas.proofs.Places.{append_keeps, append_seam, at_once, at_push, nothing_at}
 use Rattle.wb_operations.specs.Operations.{OperationSignature}

@@ -4,14 +4,14 @@ use Rattle.std.specs.Prelude.{All}
 use Rattle.std.proofs.lemmas.Bool.{cases_lt}
 use Rattle.wb_base.specs.Different.{Differ}
 use Rattle.wb_base.specs.Grammar.{GrammarView, IsGrammar}
-use Rattle.wb_compose.proofs.SpelledLemmas.{all_spelled}
+use Rattle.wb_compose_texts.proofs.SpelledLemmas.{all_spelled}
 use Rattle.wb_compose_texts.specs.Expressions.{name_of}
 use Rattle.wb_compose_texts.specs.Generated.{IsGeneratedText, first_layout, place_behind}
 use Rattle.wb_compose_texts.specs.Roots.{IsAskedIn}
 use Rattle.wb_compose_texts.specs.Unions.{united_of}
-use Rattle.wb_generate.proofs.ExistLemmas.{some_outcome}
-use Rattle.wb_generate.specs.declared.generated.Generated.{Generated}
-use Rattle.wb_generate.specs.declared.generated.Generated.TheVariants as g
+use Rattle.wb_compose_texts.proofs.ExistLemmas.{some_outcome}
+use Rattle.wb_compose_texts.specs.generated_text.Generated.{Generated}
+use Rattle.wb_compose_texts.specs.generated_text.Generated.TheVariants as g
 use Rattle.wb_eval_theory.specs.Evaluable.{AreOperations}
 use Rattle.wb_lemmas.proofs.NotNot.{bind, certain, decide, follows}
 use Rattle.wb_operations.specs.Operations.{Operations, OperationSignature}

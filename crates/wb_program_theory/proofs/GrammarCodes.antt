@@ -3,7 +3,7 @@ use Rattle.std.proofs.Common.{◌≡◌, ◌∙◌, ℕ, List, Option, Some, inl
 use Rattle.std.proofs.lemmas.Option.{same_Some}
 use lib.Chars.{codes}
 use Rattle.wb_base.specs.Grammar.{GrammarView}
-use Rattle.wb_certify_shown.specs.Shows.{grammar_reason, of_grammar}
+use Rattle.wb_certify_files.specs.Shows.{grammar_reason, of_grammar}
 use Rattle.wb_determinism_contexts.proofs.ConflictLemmas.{shown_conflict}
 use Rattle.wb_determinism_contexts.specs.Considered.{HasNoClashAt}
 use Rattle.wb_determinism_host.proofs.RefusalLemmas.{not_reduced}

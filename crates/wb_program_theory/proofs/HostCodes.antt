@@ -5,17 +5,17 @@ use Rattle.wb_base.specs.Grammar.{GrammarView}
 use Rattle.wb_certify_files.specs.HostContents.{HasBadNames, IsBadText, IsHostRefusal, IsRefusedValue, StandsFor}
 use Rattle.wb_certify_files.specs.WellDefined.{IsIllDefined, IsWellDefinedTextRefusal}
 use Rattle.wb_certify_files.specs.declared.host_refusal.HostRefusal.TheVariants as h
-use Rattle.wb_certify_host.specs.Refusals.{IsDeterminismOf, IsValueRefusal, start_of}
-use Rattle.wb_certify_host.specs.WellDefined.{IsWellDefinedRefusal}
-use Rattle.wb_certify_host.specs.declared.refusal.CertifyRefusal.{CertifyRefusal}
-use Rattle.wb_certify_host.specs.declared.refusal.CertifyRefusal.TheVariants as c
-use Rattle.wb_certify_shown.specs.Shows.{grammar_reason, name_reason, of_grammar, of_spec, refusal_shown}
+use Rattle.wb_certify_files.specs.CertifyRefusals.{IsDeterminismOf, IsValueRefusal, start_of}
+use Rattle.wb_certify_files.specs.WellDefinedHosts.{IsWellDefinedRefusal}
+use Rattle.wb_certify_files.specs.certify_refusal.CertifyRefusal.{CertifyRefusal}
+use Rattle.wb_certify_files.specs.certify_refusal.CertifyRefusal.TheVariants as c
+use Rattle.wb_certify_files.specs.Shows.{grammar_reason, name_reason, of_grammar, of_spec, refusal_shown}
 use Rattle.wb_determinism_host.specs.Hosts.{AreAcyclic}
 use Rattle.wb_determinism_host.specs.Refusals.{IsNoMemory}
 use Rattle.wb_determinism_host.specs.declared.refusal.DeterminismRefusal.{DeterminismRefusal}
 use Rattle.wb_determinism_host.specs.declared.refusal.DeterminismRefusal.TheVariants as d
 use Rattle.wb_lemmas.proofs.Elements.{all_contained, all_from_contained}
-use Rattle.wb_names.specs.Resolving.{IsExtension, IsHostNameRefusal, ResolvesHost, file_scope, host_file}
+use Rattle.wb_certify_files.specs.Resolving.{IsExtension, IsHostNameRefusal, ResolvesHost, file_scope, host_file}
 use Rattle.wb_names_numbers_theory.proofs.OneValue.{only_value}
 use Rattle.wb_names_numbers_theory.specs.OneValue.{SeesAll}
 use Rattle.wb_names_theory.specs.Refusals.{IsTrueRefusal}
@@ -32,10 +32,10 @@ use Rattle.wb_syntax_resolved.specs.Owners.{Sees}
 use Rattle.wb_syntax_resolved.specs.Resolved.{IsResolved}
 use Rattle.wb_syntax_resolved.specs.declared.production.Production.{Production}
 use Rattle.wb_syntax_resolved.specs.declared.resolved.ResolvedParts.{ResolvedParts}
-use Rattle.wb_program_theory.proofs.AlikeLemmas.{Alike, NameRules, coded_alike, coded_by, names_coded, names_hold, names_one}
-use Rattle.wb_program_theory.proofs.AlikeLemmas.{none_written, three_alike, written_alike}
-use Rattle.wb_program_theory.proofs.AttributeCodes.{AttributeRules, Coded, KindRules, after_kinds, attributes_coded, attributes_one}
-use Rattle.wb_program_theory.proofs.AttributeCodes.{coded, kinds_coded, kinds_one, none_some}
+use Rattle.wb_program_theory.proofs.AlikeLemmas.{Alike, NameRules, coded_alike, coded_by, names_coded, names_hold, names_one, none_written}
+use Rattle.wb_program_theory.proofs.AlikeLemmas.{three_alike, written_alike}
+use Rattle.wb_program_theory.proofs.AttributeCodes.{AttributeRules, Coded, KindRules, after_kinds, attributes_coded, attributes_one, coded}
+use Rattle.wb_program_theory.proofs.AttributeCodes.{kinds_coded, kinds_one, none_some}
 use Rattle.wb_program_theory.proofs.ChainLemmas.{First, HasOne, first_one, go_on}
 use Rattle.wb_program_theory.proofs.GrammarCodes.{GrammarRules, after_grammar, grammar_coded, grammar_one}
 

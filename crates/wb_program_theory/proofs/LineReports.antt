@@ -1,7 +1,7 @@
 -- Words that ask for `check`, `certify`, `compose`, `certificate` or `recheck` have a report, where files are certified.
 use Rattle.std.proofs.Common.{◌<◌, ◌≤◌, ◌⊎◌, ◌++◌, ◌∷◌, [], ℕ, List, Some, None, inl, inr, length, refl}
 use Rattle.std.proofs.lemmas.Bool.{cases_lt}
-use Rattle.wb_certify.specs.Extensions.{IsOneExtension}
+use Rattle.wb_certify_files.specs.Extensions.{IsOneExtension}
 use Rattle.wb_certify_files.specs.ExtensionContents.{IsExtensionText}
 use Rattle.wb_lemmas.proofs.NotNot.{follows}
 use Rattle.wb_operations.specs.Operations.{OperationSignature}

@@ -3,9 +3,9 @@ use Rattle.std.proofs.Common.{◌≡◌, ℕ, List, Some, inl, inr, refl, subst}
 use lib.Chars.{codes}
 use Rattle.wb_base.specs.declared.symbol.Symbol.{Symbol}
 use Rattle.wb_base.specs.Grammar.{GrammarView}
-use Rattle.wb_certify.specs.Extensions.{AreMarkersKept, IsDeterministicBeside}
-use Rattle.wb_certify.specs.Refusals.{AreMarkersRefused, IsReason}
-use Rattle.wb_certify_shown.specs.Extensions.{determinism_shown, marker_reason, of_extension}
+use Rattle.wb_certify_files.specs.Extensions.{AreMarkersKept, IsDeterministicBeside}
+use Rattle.wb_certify_files.specs.BesideRefusals.{AreMarkersRefused, IsReason}
+use Rattle.wb_certify_files.specs.ShownExtensions.{determinism_shown, marker_reason, of_extension}
 use Rattle.wb_compose_theory.specs.Numbered.{KeepsKernelLookaheads}
 use Rattle.wb_determinism.specs.Extensions.{IsDeterministicExtension, both_numbers, extended_grammar}
 use Rattle.wb_determinism.specs.Images.{stands_for}

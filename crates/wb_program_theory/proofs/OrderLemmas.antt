@@ -8,13 +8,13 @@ use Rattle.wb_compose_theory_lists.proofs.LawLemmas.{is_of_rows}
 use Rattle.wb_compose_theory_lists.specs.Hosts.{rows_of}
 use Rattle.wb_base.specs.Different.{Differ}
 use Rattle.wb_base.specs.Grammar.{GrammarView}
-use Rattle.wb_compose.proofs.AdditionLemmas.{is_addition_of}
-use Rattle.wb_compose.proofs.LawLemmas.{is_attribution}
-use Rattle.wb_compose.specs.Attributes.{addition_of, additions_of, attributes_of}
+use Rattle.wb_compose_texts.proofs.AdditionLemmas.{is_addition_of}
+use Rattle.wb_compose_texts.proofs.ComposeLaws.{is_attribution}
+use Rattle.wb_compose_texts.specs.Attributes.{addition_of, additions_of, attributes_of}
 use Rattle.wb_grammar_theory.specs.Trees.{IsDerived}
-use Rattle.wb_certify.specs.Kept.{AreCertifiedBoth}
-use Rattle.wb_compose.specs.Joined.{AreCertifiedApart, Extended}
-use Rattle.wb_compose.specs.Written.{name_in}
+use Rattle.wb_certify_files.specs.Kept.{AreCertifiedBoth}
+use Rattle.wb_compose_texts.specs.Joined.{AreCertifiedApart, Extended}
+use Rattle.wb_compose_texts.specs.Written.{name_in}
 use Rattle.wb_scan_theory.specs.declared.stop_kind.StopKind.{StopKind}
 use Rattle.wb_scan_theory.specs.Languages.{LanguageView}
 use Rattle.wb_scan_theory.specs.Texts.{StopsAt}
@@ -33,8 +33,8 @@ use Rattle.wb_compose_theory_order.proofs.NumberLemmas.{reordering_back, reorder
 use Rattle.wb_report.specs.declared.shown.ShownStop.{ShownStop}
 use Rattle.wb_syntax_resolved.specs.declared.resolved.ResolvedParts.{ResolvedParts}
 use Rattle.wb_syntax_resolved.specs.Grammar.{IsGrammarOf}
-use Rattle.wb_eval_root.specs.Asked.{IsAskedOn}
-use Rattle.wb_eval_root.specs.declared.value.TreeValue.{TreeValue}
+use Rattle.wb_compose_texts.specs.Asked.{IsAskedOn}
+use Rattle.wb_compose_texts.specs.tree_value.TreeValue.{TreeValue}
 use Rattle.wb_compose_texts.specs.declared.text_answer.TextAnswer.TheVariants as a
 use Rattle.wb_compose_theory_grammar.specs.Places.{total_of}
 use Rattle.wb_compose_texts.specs.Answers.{IsUnitedTextAnswer, StopsShown}

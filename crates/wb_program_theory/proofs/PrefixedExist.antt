@@ -1,12 +1,12 @@
 -- Expressions of the texts that begin with fixed bytes: there are some.
-use Rattle.std.proofs.Common.{◌≡◌, ◌∙◌, ◌⊎◌, ℕ, zero, suc, ◌*◌, ◌/◌, ◌%◌, ◌^◌, ◌<◌, List, [], ◌∷◌, ◌++◌, length, get_or, set, refl, sym, ap, subst}
-use Rattle.std.proofs.Common.{arith, inl, inr, w64, get_or-set_same, get_or-set_other, append_assoc}
+use Rattle.std.proofs.Common.{◌≡◌, ◌∙◌, ◌⊎◌, ℕ, zero, suc, ◌*◌, ◌/◌, ◌%◌, ◌^◌, ◌<◌, List, [], ◌∷◌, ◌++◌, length, get_or, set, refl, sym, ap}
+use Rattle.std.proofs.Common.{subst, arith, inl, inr, w64, get_or-set_same, get_or-set_other, append_assoc}
 use Rattle.std.specs.Prelude.{All, bit_or, slice_index}
 use Rattle.std.specs.Int.{bit_at}
 use Rattle.std.proofs.lemmas.Bool.{cases_eq}
 use Rattle.std.proofs.lemmas.List.Elements.{All-head, All-tail}
 use Rattle.std.proofs.lemmas.Nat.Bits.{bit_at-zero, bit_at_set_same, bit_at_set_other}
-use Rattle.wb_generate.specs.Laws.{MatchesSome}
+use Rattle.wb_compose_texts.specs.GenerateLaws.{MatchesSome}
 use Rattle.wb_regex.specs.Matches.{HoldsByte, Matches}
 use Rattle.wb_regex.specs.Matches as m
 use Rattle.wb_regex.specs.Prefixed.{IsPrefixed, IsPrefixedText}

@@ -5,12 +5,12 @@ use Rattle.std.proofs.lemmas.List.{length-drop, length-take-le}
 use Rattle.std.proofs.lemmas.List.Elements.{All-head, All-tail}
 use Rattle.wb_compose_theory_lists.specs.Hosts.{rows_of}
 use Rattle.wb_base.specs.Grammar.{GrammarView}
-use Rattle.wb_compose.specs.Attributes.{addition_of, additions_of}
+use Rattle.wb_compose_texts.specs.Attributes.{addition_of, additions_of}
 use Rattle.wb_grammar_theory.specs.Trees.{Forest, IsDerived, leaf, node, nothing, symbols}
 use Rattle.wb_grammar_theory.proofs.ProductionLemmas.{production_within}
-use Rattle.wb_certify.specs.Kept.{AreCertifiedBoth}
-use Rattle.wb_compose.specs.Joined.{Extended}
-use Rattle.wb_compose.specs.Written.{written_in}
+use Rattle.wb_certify_files.specs.Kept.{AreCertifiedBoth}
+use Rattle.wb_compose_texts.specs.Joined.{Extended}
+use Rattle.wb_compose_texts.specs.Written.{written_in}
 use Rattle.wb_scan_theory.specs.Shown.{Shows, values_of}
 use Rattle.wb_compose_theory_lists.specs.Additions.{Rows}
 use Rattle.wb_operations.specs.Operations.{OperationSignature}

@@ -5,7 +5,7 @@ use Rattle.wb_lemmas.proofs.NotNot.{bind, certain, follows}
 use Rattle.wb_operations.specs.Operations.{OperationSignature, Operations}
 use Rattle.wb_compose_texts.specs.declared.text_reading.TextReading.TheVariants as reading
 use Rattle.wb_compose_texts.specs.UnionMarkers.{union_markers}
-use Rattle.wb_reading_theory.specs.Markers.{IsMarkerAt}
+use Rattle.wb_compose_texts.specs.Markers.{IsMarkerAt}
 use Rattle.wb_report.specs.Lines.{report_of}
 use Rattle.wb_report.specs.declared.done.Done.TheVariants as done
 use Rattle.wb_report.specs.declared.outcome.Outcome.TheVariants as o

@@ -3,11 +3,11 @@ use Rattle.std.proofs.Common.{◌≡◌, ◌∷◌, [], ℕ, List, Option, Some,
 use Rattle.wb_certify_files.specs.HostContents.{IsHostText}
 use Rattle.wb_certify_files.specs.declared.extension_refusal.FileRefusal.TheVariants as f
 use Rattle.wb_operations.specs.Operations.{OperationSignature}
-use Rattle.wb_recheck_contents.proofs.CallerLemmas.{extension_file, host_certification, host_specification, host_text}
-use Rattle.wb_recheck_contents.specs.Extensions.{IsRefusedExtension}
-use Rattle.wb_recheck_contents.specs.Hosts.{IsRecheckedHost, IsRefusedHost}
-use Rattle.wb_recheck_contents.specs.declared.refusal.ContentsRefusal.{ContentsRefusal}
-use Rattle.wb_recheck_contents.specs.declared.refusal.ContentsRefusal.TheVariants as k
+use Rattle.wb_certify_files.proofs.RecheckCallerLemmas.{extension_file, host_certification, host_specification, host_text}
+use Rattle.wb_certify_files.specs.RecheckedExtensions.{IsRefusedExtension}
+use Rattle.wb_certify_files.specs.RecheckedHosts.{IsRecheckedHost, IsRefusedHost}
+use Rattle.wb_certify_files.specs.declared.contents_refusal.ContentsRefusal.{ContentsRefusal}
+use Rattle.wb_certify_files.specs.declared.contents_refusal.ContentsRefusal.TheVariants as k
 use Rattle.wb_report.specs.declared.refusal.Refusal.{Refusal}
 use Rattle.wb_syntax_resolved.specs.declared.resolved.ResolvedParts.{ResolvedParts}
 use Rattle.wb_world.specs.Shelf.{Files}

@@ -4,18 +4,17 @@ use Rattle.std.proofs.lemmas.Bool.{cases_lt}
 use Rattle.std.proofs.lemmas.Simd.{map-map}
 use Rattle.wb_base.specs.Different.{Differ}
 use Rattle.wb_base.specs.Grammar.{GrammarView}
-use Rattle.wb_compose.proofs.AgreementLemmas.{agrees}
-use Rattle.wb_compose.proofs.LawLemmas.{are_united}
-use Rattle.wb_compose.specs.Joined.{Extended}
-use Rattle.wb_compose.specs.Written.{name_in}
+use Rattle.wb_compose_texts.proofs.AgreementLemmas.{agrees}
+use Rattle.wb_compose_texts.proofs.ComposeLaws.{are_united}
+use Rattle.wb_compose_texts.specs.Joined.{Extended}
+use Rattle.wb_compose_texts.specs.Written.{name_in}
 use Rattle.wb_compose_texts.specs.Names.{stop_shown, terminals_of}
 use Rattle.wb_compose_texts.specs.Roots.{IsAskedIn, attributes_in}
 use Rattle.wb_compose_texts.specs.Unions.{united_of}
 use Rattle.wb_compose_texts.specs.declared.value.TextValue.TheVariants as v
-use Rattle.wb_eval_root.specs.Values.{ComesTo, HasPrintedValue, operation_shown}
-use Rattle.wb_eval_root.specs.declared.value.TreeValue.TheVariants as t
-use Rattle.wb_eval_root.specs.Values.{IsTreeValue}
-use Rattle.wb_eval_root.specs.declared.value.TreeValue.{TreeValue}
+use Rattle.wb_compose_texts.specs.TreeValues.{ComesTo, HasPrintedValue, operation_shown, IsTreeValue}
+use Rattle.wb_compose_texts.specs.tree_value.TreeValue.TheVariants as t
+use Rattle.wb_compose_texts.specs.tree_value.TreeValue.{TreeValue}
 use Rattle.wb_eval_theory.proofs.EnoughLemmas.{either}
 use Rattle.wb_eval_theory.specs.Evaluable.{AreOperations, IsAsked, IsEvaluable}
 use Rattle.wb_eval_theory.specs.Instances.{root, synthesized_at}

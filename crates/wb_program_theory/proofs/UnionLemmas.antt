@@ -3,10 +3,10 @@ use Rattle.std.proofs.Common.{◌≡◌, ◌∙◌, ◌∷◌, [], ℕ, List, Op
 use Rattle.std.proofs.lemmas.List.Elements.{All-head, All-tail}
 use Rattle.wb_base.specs.Grammar.{GrammarView}
 use Rattle.wb_determinism_host.specs.Lexicons.{lexicon_of}
-use Rattle.wb_certify.specs.Kept.{AreCertifiedBoth}
-use Rattle.wb_compose.specs.Joined.{Extended}
-use Rattle.wb_compose.specs.Written.{written_in, written_with}
-use Rattle.wb_compose.proofs.WrittenApart.{all_certified}
+use Rattle.wb_certify_files.specs.Kept.{AreCertifiedBoth}
+use Rattle.wb_compose_texts.specs.Joined.{Extended}
+use Rattle.wb_compose_texts.specs.Written.{written_in, written_with}
+use Rattle.wb_compose_texts.proofs.WrittenApart.{all_certified}
 use Rattle.wb_scan_theory.specs.Languages.{LanguageView}
 use Rattle.wb_lemmas.proofs.Elements.{all_at, all_from_places}
 use Rattle.wb_operations.specs.Operations.{OperationSignature}

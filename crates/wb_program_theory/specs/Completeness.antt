@@ -5,7 +5,7 @@ use Rattle.wb_compose_texts.specs.Roots.{IsAskedIn, attributes_in}
 use Rattle.wb_compose_texts.specs.Unions.{IsLanguageOf, Union}
 use Rattle.wb_compose_texts.specs.Values.{IsTextValue}
 use Rattle.wb_compose_texts.specs.declared.value.TextValue.TheVariants as v
-use Rattle.wb_eval_root.specs.declared.value.TreeValue.TheVariants as t
+use Rattle.wb_compose_texts.specs.tree_value.TreeValue.TheVariants as t
 use Rattle.wb_eval_theory.specs.Answers.{HasAnswer}
 use Rattle.wb_eval_theory.specs.Instances.{root, synthesized_at}
 use Rattle.wb_eval_theory.specs.Walks as walk

@@ -1,6 +1,6 @@
 -- That what is written matches something.
 use Rattle.std.specs.Prelude.{List, All}
-use Rattle.wb_generate.specs.Laws.{MatchesSome}
+use Rattle.wb_compose_texts.specs.GenerateLaws.{MatchesSome}
 use Rattle.wb_syntax_resolved.specs.declared.resolved.ResolvedParts.{ResolvedParts}
 use Rattle.wb_syntax_resolved.specs.declared.terminal.Terminal.{Terminal}
 

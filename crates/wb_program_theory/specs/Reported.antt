@@ -8,8 +8,8 @@ use Rattle.wb_world.specs.Shelf.{Files}
 use Rattle.wb_program_words.specs.Asked.{Asked}
 use Rattle.wb_program_words.specs.Asked as a
 use Rattle.wb_program_words.specs.Words.{Asks}
-use Rattle.wb_recheck_contents.specs.Extensions.{IsRecheckedNamed}
-use Rattle.wb_recheck_contents.specs.Hosts.{IsRecheckedHost}
+use Rattle.wb_certify_files.specs.RecheckedExtensions.{IsRecheckedNamed}
+use Rattle.wb_certify_files.specs.RecheckedHosts.{IsRecheckedHost}
 use Rattle.wb_program.specs.CertificateChecks.{IsPair}
 use Rattle.wb_program.specs.Checks.{Report}
 use Rattle.wb_program.specs.Files.{KnownFile}

@@ -1,7 +1,7 @@
 -- What the law says of a host with extensions in two orders.
 use Rattle.std.specs.Prelude.{ℕ, List, map}
 use Rattle.wb_base.specs.Different.{Differ}
-use Rattle.wb_compose.specs.Written.{name_in}
+use Rattle.wb_compose_texts.specs.Written.{name_in}
 use Rattle.wb_operations.specs.Operations.{OperationSignature, Operations}
 use Rattle.wb_compose_theory_order.specs.Orders.{IsReordering}
 use Rattle.wb_syntax_resolved.specs.declared.resolved.ResolvedParts.{ResolvedParts}

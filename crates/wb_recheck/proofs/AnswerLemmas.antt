@@ -3,16 +3,16 @@ use Rattle.std.proofs.Common.{◌≡◌, inl, inr, ℕ, List, Some, None, sym, s
 use Rattle.std.specs.Prelude.{Option, option_map}
 use Rattle.std.proofs.lemmas.Option.{same_Some}
 use Rattle.wb_base.specs.Grammar.{GrammarView}
-use Rattle.wb_certify_host.specs.Hosts.{IsCertifiedValue}
-use Rattle.wb_certify_host.specs.Refusals.{IsAttributeMemory, IsAttributeRefusal, IsDeterminismOf, IsTypeMemory, IsValueRefusal, start_of}
-use Rattle.wb_certify_host.specs.declared.refusal.CertifyRefusal.{CertifyRefusal}
-use Rattle.wb_certify_host.specs.declared.refusal.CertifyRefusal.TheVariants as c
+use Rattle.wb_certify.specs.Hosts.{IsCertifiedValue}
+use Rattle.wb_certify.specs.CertifyRefusals.{IsAttributeMemory, IsAttributeRefusal, IsDeterminismOf, IsTypeMemory, IsValueRefusal, start_of}
+use Rattle.wb_certify.specs.certify_refusal.CertifyRefusal.{CertifyRefusal}
+use Rattle.wb_certify.specs.certify_refusal.CertifyRefusal.TheVariants as c
 use Rattle.wb_certify.specs.Extensions.{IsCertifiedBeside, IsOneExtension}
 use Rattle.wb_certify.specs.OneAnswer.{HasOneAnswer}
 use Rattle.wb_certify.specs.Refusals.{IsBesideRefusal}
 use Rattle.wb_complete.proofs.AnswerLemmas.{one_answer as one_completeness}
 use Rattle.wb_complete.specs.Refusals.{CompleteOk, IsTrueCompletenessRefusal}
-use Rattle.wb_determinism_host.proofs.RefusalLemmas.{excluded}
+use Rattle.wb_certify.proofs.DeterminismRefusalLemmas.{excluded}
 use Rattle.wb_flow.proofs.CheckLemmas.{flows_one_answer}
 use Rattle.wb_flow.specs.Refusals.{FlowsOk, IsTrueFlowRefusal}
 use Rattle.wb_flow.specs.declared.refusal.AttributeRefusal.{AttributeRefusal}

@@ -1,12 +1,12 @@
 -- What is known of a host with an extension after each test, and of the text.
-use Rattle.std.proofs.Common.{◌≡◌, ◌⊎◌, inl, inr, Result, Ok, Err, IfOk, IfErr, ℕ, List, [], ◌∷◌, Some, length, slice_get}
-use Rattle.std.proofs.Common.{ap, sym, subst, ◌∙◌}
+use Rattle.std.proofs.Common.{◌≡◌, ◌⊎◌, inl, inr, Result, Ok, Err, IfOk, IfErr, ℕ, List, [], ◌∷◌, Some, length, slice_get, ap, sym, subst}
+use Rattle.std.proofs.Common.{◌∙◌}
 use Rattle.std.proofs.lemmas.Option.{IfSome_then}
 use Rattle.std.specs.Prelude.{IfSome, IsSome}
 use Rattle.wb_base.specs.Grammar.{GrammarView}
-use Rattle.wb_certify_host.specs.Hosts.{CertifiedView, IsCertified, IsCertifiedValue}
-use Rattle.wb_certify_host.specs.declared.refusal.CertifyRefusal.{CertifyRefusal}
-use Rattle.wb_certify_host.specs.declared.refusal.CertifyRefusal.TheVariants as c
+use Rattle.wb_certify.specs.Hosts.{CertifiedView, IsCertified, IsCertifiedValue}
+use Rattle.wb_certify.specs.certify_refusal.CertifyRefusal.{CertifyRefusal}
+use Rattle.wb_certify.specs.certify_refusal.CertifyRefusal.TheVariants as c
 use Rattle.wb_certify.proofs.DeterminismLemmas.{whole_reason}
 use Rattle.wb_certify.proofs.ValueLemmas.{attributes_refused, made_beside, parts_beside, start_is}
 use Rattle.wb_certify.specs.Extensions.{IsCertifiedBeside, IsCertifiedExtension, IsOneExtension}
@@ -14,16 +14,16 @@ use Rattle.wb_certify.specs.Inner.Tests.{AreClearBeside, IsFound, IsReasonBeside
 use Rattle.wb_certify.specs.Kept.{Extends}
 use Rattle.wb_certify.specs.Refusals.{IsReason}
 use Rattle.wb_certify.specs.Tests.{IsAttributesReason, IsMarkReason, KeepMarkers}
-use Rattle.wb_determinism_host.proofs.HostLemmas.{fit_of}
-use Rattle.wb_determinism_host.specs.Judged.{AreFactsOfHost}
-use Rattle.wb_determinism_host.specs.Refusals.{IsBeforeConflict, IsHostRefusal, IsNoMemory}
-use Rattle.wb_determinism_host.specs.declared.parts.HostParts.{HostParts}
-use Rattle.wb_determinism_host.specs.declared.refusal.DeterminismRefusal.{DeterminismRefusal}
-use Rattle.wb_determinism_host.specs.declared.refusal.DeterminismRefusal.TheVariants as d
-use Rattle.wb_determinism.specs.Refusals.{IsExtensionRefusal}
+use Rattle.wb_certify.proofs.DeterministicHostLemmas.{fit_of}
+use Rattle.wb_certify.specs.Judged.{AreFactsOfHost}
+use Rattle.wb_certify.specs.DeterminismRefusals.{IsBeforeConflict, IsHostRefusal, IsNoMemory}
+use Rattle.wb_certify.specs.parts.HostParts.{HostParts}
+use Rattle.wb_certify.specs.determinism_refusal.DeterminismRefusal.{DeterminismRefusal}
+use Rattle.wb_certify.specs.determinism_refusal.DeterminismRefusal.TheVariants as d
+use Rattle.wb_certify.specs.ExtensionDeterminism.{IsExtensionRefusal}
 use Rattle.wb_grammar.specs.Facts.{FactsView}
 use Rattle.wb_marking_holes.specs.Holes.{with_holes_of}
-use Rattle.wb_names.specs.Resolving.{ResolvesExtension}
+use Rattle.wb_certify.specs.Resolving.{ResolvesExtension}
 use Rattle.wb_operations.specs.Operations.{OperationSignature}
 use Rattle.wb_recheck_entries.specs.Texts.{HasCertificate, IsExtensionHead, IsFault}
 use Rattle.wb_recheck_entries.specs.declared.fault.CertificateFault.{CertificateFault}

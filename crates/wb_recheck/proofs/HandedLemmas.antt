@@ -1,9 +1,9 @@
 -- A refusal that is handed on is true of what was asked.
 use Rattle.std.proofs.Common.{◌≡◌, ℕ, List, Some, None, refl, sym, subst}
 use Rattle.std.specs.Prelude.{Option, IfSome, IsSome}
-use Rattle.wb_certify_host.specs.Tests.{IsKindRefusal}
-use Rattle.wb_certify_host.specs.declared.refusal.CertifyRefusal.{CertifyRefusal}
-use Rattle.wb_certify_host.specs.declared.refusal.CertifyRefusal.TheVariants as c
+use Rattle.wb_certify.specs.HostTests.{IsKindRefusal}
+use Rattle.wb_certify.specs.certify_refusal.CertifyRefusal.{CertifyRefusal}
+use Rattle.wb_certify.specs.certify_refusal.CertifyRefusal.TheVariants as c
 use Rattle.wb_operations.specs.Operations.{OperationSignature}
 use Rattle.wb_syntax_resolved.specs.declared.resolved.ResolvedParts.{ResolvedParts}
 use Rattle.wb_recheck.specs.declared.refusal.RecheckRefusal.{RecheckRefusal}

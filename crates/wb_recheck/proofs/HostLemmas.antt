@@ -2,25 +2,25 @@
 use Rattle.std.proofs.Common.{◌≡◌, ◌⊎◌, inl, Result, Ok, Err, IfOk, IfErr, ℕ, List, Some, None, sym, subst}
 use Rattle.std.specs.Prelude.{Option, IfSome, IsSome}
 use Rattle.wb_base.specs.Grammar.{GrammarView}
-use Rattle.wb_certify_host.proofs.RefusalLemmas.{deterministic, not_deterministic, parts_of}
-use Rattle.wb_certify_host.specs.Hosts.{CertifiedView, IsCertifiedHost, IsCertifiedValue}
-use Rattle.wb_certify_host.specs.Refusals.{IsDeterminismOf, IsDeterministic, IsPreferenceCycle}
-use Rattle.wb_certify_host.specs.Tests.{IsAttributesRefusal, IsGrammarRefusal}
-use Rattle.wb_certify_host.specs.declared.refusal.CertifyRefusal.{CertifyRefusal}
-use Rattle.wb_certify_host.specs.declared.refusal.CertifyRefusal.TheVariants as c
-use Rattle.wb_determinism_host.proofs.HostLemmas.{fit_of}
-use Rattle.wb_determinism_host.specs.Hosts.{AreHostParts, IsDeterministicHost}
-use Rattle.wb_determinism_host.specs.Judged.{AreFactsOfHost, IsReadyToJudge}
-use Rattle.wb_determinism_host.specs.Refusals.{IsBeforeConflict, IsHostRefusal, IsNoMemory}
-use Rattle.wb_determinism_host.specs.declared.parts.HostParts.{HostParts}
-use Rattle.wb_determinism_host.specs.declared.refusal.DeterminismRefusal.{DeterminismRefusal}
-use Rattle.wb_determinism_host.specs.declared.refusal.DeterminismRefusal.TheVariants as d
+use Rattle.wb_certify.proofs.CertifyRefusalLemmas.{deterministic, not_deterministic, parts_of}
+use Rattle.wb_certify.specs.Hosts.{CertifiedView, IsCertifiedHost, IsCertifiedValue}
+use Rattle.wb_certify.specs.CertifyRefusals.{IsDeterminismOf, IsDeterministic, IsPreferenceCycle}
+use Rattle.wb_certify.specs.HostTests.{IsAttributesRefusal, IsGrammarRefusal}
+use Rattle.wb_certify.specs.certify_refusal.CertifyRefusal.{CertifyRefusal}
+use Rattle.wb_certify.specs.certify_refusal.CertifyRefusal.TheVariants as c
+use Rattle.wb_certify.proofs.DeterministicHostLemmas.{fit_of}
+use Rattle.wb_certify.specs.DeterministicHosts.{AreHostParts, IsDeterministicHost}
+use Rattle.wb_certify.specs.Judged.{AreFactsOfHost, IsReadyToJudge}
+use Rattle.wb_certify.specs.DeterminismRefusals.{IsBeforeConflict, IsHostRefusal, IsNoMemory}
+use Rattle.wb_certify.specs.parts.HostParts.{HostParts}
+use Rattle.wb_certify.specs.determinism_refusal.DeterminismRefusal.{DeterminismRefusal}
+use Rattle.wb_certify.specs.determinism_refusal.DeterminismRefusal.TheVariants as d
 use Rattle.wb_grammar.specs.Facts.{FactsView, AreFacts}
 use Rattle.wb_items.specs.Kernels.{KernelsView}
 use Rattle.wb_items.specs.Lookaheads.{LookaheadsView}
 use Rattle.wb_items.specs.LookaheadSets.{AreLookaheads}
 use Rattle.wb_marking_holes.specs.Holes.{with_holes_of}
-use Rattle.wb_names.specs.Resolving.{ResolvesHost}
+use Rattle.wb_certify.specs.Resolving.{ResolvesHost}
 use Rattle.wb_operations.specs.Operations.{OperationSignature}
 use Rattle.wb_recheck_entries.specs.Texts.{HasCertificate, IsFault, IsHostHead}
 use Rattle.wb_recheck_entries.specs.declared.fault.CertificateFault.{CertificateFault}

@@ -4,16 +4,16 @@ use Rattle.std.specs.Prelude.{Option}
 use Rattle.std.proofs.lemmas.Option.{same_Some}
 use Rattle.wb_base.specs.Grammar.{GrammarView}
 use Rattle.wb_grammar_theory.proofs.CycleLemmas.{first_element, hidden_cycle_above, unit_cycle_member}
-use Rattle.wb_certify_host.specs.Refusals.{IsDeterminismOf, IsValueRefusal}
-use Rattle.wb_certify_host.specs.declared.refusal.CertifyRefusal.{CertifyRefusal}
-use Rattle.wb_certify_host.specs.declared.refusal.CertifyRefusal.TheVariants as c
+use Rattle.wb_certify.specs.CertifyRefusals.{IsDeterminismOf, IsValueRefusal}
+use Rattle.wb_certify.specs.certify_refusal.CertifyRefusal.{CertifyRefusal}
+use Rattle.wb_certify.specs.certify_refusal.CertifyRefusal.TheVariants as c
 use Rattle.wb_certify.specs.Extensions.{AreMarkersKept}
 use Rattle.wb_certify.specs.Refusals.{IsBesideRefusal, IsReason}
-use Rattle.wb_determinism_host.proofs.RefusalLemmas.{not_reduced}
-use Rattle.wb_determinism_host.specs.Hosts.{IsFitForParsing}
-use Rattle.wb_determinism_host.specs.Refusals.{IsBeforeConflict, IsHostRefusal, IsNoMemory}
-use Rattle.wb_determinism_host.specs.declared.refusal.DeterminismRefusal.{DeterminismRefusal}
-use Rattle.wb_determinism_host.specs.declared.refusal.DeterminismRefusal.TheVariants as d
+use Rattle.wb_certify.proofs.DeterminismRefusalLemmas.{not_reduced}
+use Rattle.wb_certify.specs.DeterministicHosts.{IsFitForParsing}
+use Rattle.wb_certify.specs.DeterminismRefusals.{IsBeforeConflict, IsHostRefusal, IsNoMemory}
+use Rattle.wb_certify.specs.determinism_refusal.DeterminismRefusal.{DeterminismRefusal}
+use Rattle.wb_certify.specs.determinism_refusal.DeterminismRefusal.TheVariants as d
 use Rattle.wb_marking.proofs.RefusalLemmas.{bridges_excluded, clash_excluded}
 use Rattle.wb_marking_holes.specs.Holes.{with_holes_of}
 use Rattle.wb_operations.specs.Operations.{OperationSignature}

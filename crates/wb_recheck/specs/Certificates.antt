@@ -2,9 +2,9 @@
 use Rattle.std.specs.Prelude.{◌≡◌, ℕ, List, Some}
 use Rattle.wb_base.specs.Grammar.{GrammarView}
 use Rattle.wb_certify.specs.Extensions.{AreMarkersKept, IsOneExtension}
-use Rattle.wb_determinism_host.specs.Hosts.{IsFitForParsing}
+use Rattle.wb_certify.specs.DeterministicHosts.{IsFitForParsing}
 use Rattle.wb_marking_holes.specs.Holes.{with_holes_of}
-use Rattle.wb_names.specs.Resolving.{ResolvesExtension}
+use Rattle.wb_certify.specs.Resolving.{ResolvesExtension}
 use Rattle.wb_recheck_entries.specs.Texts.{HasCertificate, IsExtensionHead, IsFault, IsHostHead}
 use Rattle.wb_recheck_entries.specs.declared.fault.CertificateFault.{CertificateFault}
 use Rattle.wb_syntax_resolved.specs.declared.resolved.ResolvedParts.{ResolvedParts}

@@ -1,10 +1,10 @@
 -- Why an extension isn't certified with its host by a text: each reason with a true example, where no earlier one holds.
 use Rattle.std.specs.Prelude.{ℕ, List}
-use Rattle.wb_certify_host.specs.Refusals.{IsNameMemory}
-use Rattle.wb_certify_host.specs.declared.refusal.CertifyRefusal.{CertifyRefusal}
-use Rattle.wb_certify_host.specs.declared.refusal.CertifyRefusal.TheVariants as c
+use Rattle.wb_certify.specs.CertifyRefusals.{IsNameMemory}
+use Rattle.wb_certify.specs.certify_refusal.CertifyRefusal.{CertifyRefusal}
+use Rattle.wb_certify.specs.certify_refusal.CertifyRefusal.TheVariants as c
 use Rattle.wb_certify.specs.Refusals.{IsBesideRefusal}
-use Rattle.wb_names.specs.Resolving.{IsExtensionNameRefusal, ResolvesExtension}
+use Rattle.wb_certify.specs.Resolving.{IsExtensionNameRefusal, ResolvesExtension}
 use Rattle.wb_operations.specs.Operations.{OperationSignature}
 use Rattle.wb_recheck_entries.specs.declared.fault.CertificateFault.{CertificateFault}
 use Rattle.wb_recheck_entries.specs.declared.fault.CertificateFault.TheVariants as f

@@ -1,10 +1,10 @@
 -- Why a host isn't certified by a text: each reason with a true example, where no earlier one holds.
 use Rattle.std.specs.Prelude.{◌⊎◌, ℕ, List}
-use Rattle.wb_certify_host.specs.Refusals.{IsNameMemory, IsValueRefusal}
-use Rattle.wb_certify_host.specs.declared.refusal.CertifyRefusal.{CertifyRefusal}
-use Rattle.wb_certify_host.specs.declared.refusal.CertifyRefusal.TheVariants as c
-use Rattle.wb_determinism_host.specs.Refusals.{IsBeforeConflict}
-use Rattle.wb_names.specs.Resolving.{IsHostNameRefusal, ResolvesHost}
+use Rattle.wb_certify.specs.CertifyRefusals.{IsNameMemory, IsValueRefusal}
+use Rattle.wb_certify.specs.certify_refusal.CertifyRefusal.{CertifyRefusal}
+use Rattle.wb_certify.specs.certify_refusal.CertifyRefusal.TheVariants as c
+use Rattle.wb_certify.specs.DeterminismRefusals.{IsBeforeConflict}
+use Rattle.wb_certify.specs.Resolving.{IsHostNameRefusal, ResolvesHost}
 use Rattle.wb_operations.specs.Operations.{OperationSignature}
 use Rattle.wb_recheck_entries.specs.declared.fault.CertificateFault.{CertificateFault}
 use Rattle.wb_recheck_entries.specs.declared.fault.CertificateFault.TheVariants as f

@@ -4,3 +4,5 @@ pub mod Handed
 pub mod Hosts
 -- what the tests of a host with an extension tell
 pub mod Extensions
+-- grammars that pass their analysis, and texts within a limit
+pub mod Fit

@@ -1,8 +1,8 @@
 -- That there is one answer: what is certified, with a certificate, has no refusal but out of memory; and refusals are of one sort.
 use Rattle.std.specs.Prelude.{◌≡◌, ℕ, List}
-use Rattle.wb_certify_host.specs.Hosts.{IsCertifiedValue}
-use Rattle.wb_certify_host.specs.declared.refusal.CertifyRefusal.{CertifyRefusal}
-use Rattle.wb_certify_host.specs.declared.refusal.CertifyRefusal.TheVariants as c
+use Rattle.wb_certify.specs.Hosts.{IsCertifiedValue}
+use Rattle.wb_certify.specs.certify_refusal.CertifyRefusal.{CertifyRefusal}
+use Rattle.wb_certify.specs.certify_refusal.CertifyRefusal.TheVariants as c
 use Rattle.wb_certify.specs.Extensions.{IsCertifiedBeside}
 use Rattle.wb_operations.specs.Operations.{OperationSignature}
 use Rattle.wb_recheck_entries.specs.declared.fault.CertificateFault.{CertificateFault}

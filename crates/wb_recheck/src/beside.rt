@@ -5,7 +5,7 @@
 
 ghost use Rattle.std.specs.Prelude.{◌≡◌, ℕ, List, IfErr, IfOk, IfSome, IsSome, length};
 ghost use Rattle.wb_items.specs.LookaheadSets.{AreLookaheads};
-ghost use Rattle.wb_determinism_host.specs.Judged.{AreFactsOfHost};
+ghost use Rattle.wb_certify.specs.Judged.{AreFactsOfHost};
 ghost use Rattle.wb_certify.specs.Extensions.{IsCertifiedBeside, IsOneExtension};
 ghost use Rattle.wb_certify.specs.Inner.Tests.{AreClearBeside};
 ghost use Rattle.wb_certify.specs.Kept.{Extends};
@@ -19,9 +19,7 @@ use crate::value::test_kinds;
 use crate::{RecheckRefusal, RecheckedHost};
 use std::alloc::Global;
 use wb_base::Grammar;
-use wb_certify::{check_attributes, test_marks};
-use wb_determinism::judge_extension;
-use wb_determinism_host::{HostFacts, HostParts, host_facts};
+use wb_certify::{HostFacts, HostParts, check_attributes, host_facts, judge_extension, test_marks};
 use wb_grammar::Facts;
 use wb_operations::{Meaning, OperationTable};
 use wb_recheck_entries::{CertificateFault, Looked, Owner, lookaheads_by_text};

@@ -5,8 +5,7 @@ ghost use Rattle.wb_recheck.specs.Inner.Handed.{IsHandedOn, IsReasonHandedOn, re
 
 use crate::RecheckRefusal;
 use std::alloc::AllocError;
-use wb_certify_host::CertifyRefusal;
-use wb_determinism_host::DeterminismRefusal;
+use wb_certify::{CertifyRefusal, DeterminismRefusal};
 use wb_recheck_entries::CertificateFault;
 
 // The refusal by a rule of certification.

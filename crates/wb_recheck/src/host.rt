@@ -3,16 +3,15 @@
 //! Names first, then what the numbered value has to meet.
 
 ghost use Rattle.std.specs.Prelude.{◌≡◌, IfErr, IfOk};
-ghost use Rattle.wb_names.specs.Resolving.{ResolvesHost};
-ghost use Rattle.wb_certify_host.specs.Hosts.{IsCertifiedHost};
+ghost use Rattle.wb_certify.specs.Resolving.{ResolvesHost};
+ghost use Rattle.wb_certify.specs.Hosts.{IsCertifiedHost};
 ghost use Rattle.wb_recheck.specs.Certificates.{IsCertificateOfHost};
 ghost use Rattle.wb_recheck.specs.HostRefusals.{IsHostRecheckRefusal};
 
 use crate::value::recheck_resolved;
 use crate::{RecheckRefusal, RecheckedHost};
 use std::alloc::Global;
-use wb_certify_host::CertifyRefusal;
-use wb_names::resolve_host;
+use wb_certify::{CertifyRefusal, resolve_host};
 use wb_names_theory::NameRefusal;
 use wb_operations::{Meaning, OperationTable};
 use wb_syntax::Spec;

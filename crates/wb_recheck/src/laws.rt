@@ -1,8 +1,11 @@
 //! Laws of the definitions: what they say is proved, and there is nothing to run.
 
-ghost use Rattle.std.specs.Prelude.{List, ℕ};
+ghost use Rattle.std.specs.Prelude.{◌≡◌, List, ℕ};
+ghost use Rattle.wb_base.specs.Grammar.{GrammarView};
 ghost use Rattle.wb_operations.specs.Operations.{OperationSignature};
 ghost use Rattle.wb_syntax_resolved.specs.declared.resolved.ResolvedParts.{ResolvedParts};
+ghost use Rattle.wb_recheck_text.specs.declared.certificate.Head.{Head};
+ghost use Rattle.wb_recheck.specs.CertificateTexts.{IsCertificateText, IsExtensionCertificate, IsHostCertificate};
 ghost use Rattle.wb_recheck.specs.OneAnswer.{HasOneExtensionAnswer, HasOneExtensionSort, HasOneHostAnswer, HasOneHostSort};
 
 use wb_certify::one_answer_law;
@@ -19,3 +22,10 @@ pub fn one_recheck_answer_law()
     text_law();
     one_answer_law();
 }
+
+/// A grammar has one certificate with a head, a host has one, and an extension with its host has one.
+pub fn one_text_law()
+    ensures grammar { (g : GrammarView) (head : Head) (text other : List ℕ) → IsCertificateText g head text → IsCertificateText g head other → text ≡ other }
+    ensures host { (r : ResolvedParts) (text other : List ℕ) → IsHostCertificate r text → IsHostCertificate r other → text ≡ other }
+    ensures extension { (r : ResolvedParts) (text other : List ℕ) → IsExtensionCertificate r text → IsExtensionCertificate r other → text ≡ other }
+{}

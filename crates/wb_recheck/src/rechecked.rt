@@ -2,11 +2,11 @@
 
 ghost use Rattle.std.specs.Prelude.{◌≡◌, Some};
 ghost use Rattle.wb_base.specs.Grammar.{GrammarView};
-ghost use Rattle.wb_determinism_host.specs.Hosts.{AreHostParts};
-ghost use Rattle.wb_certify_host.specs.Hosts.{IsCertified, IsCertifiedValue};
+ghost use Rattle.wb_certify.specs.DeterministicHosts.{AreHostParts};
+ghost use Rattle.wb_certify.specs.Hosts.{IsCertified, IsCertifiedValue};
 
 use std::marker::Model;
-use wb_determinism_host::HostParts;
+use wb_certify::HostParts;
 use wb_operations::OperationSignatures;
 use wb_syntax_resolved::Resolved;
 
@@ -22,7 +22,7 @@ pub struct RecheckedHost {
 impl Model for RecheckedHost {
     ghost use Rattle.std.specs.Coded.{codes};
     ghost use Rattle.wb_regex.specs.contracts.regex.Regex as regex;
-    ghost use Rattle.wb_certify_host.specs.Hosts.{CertifiedView, IsCertified};
+    ghost use Rattle.wb_certify.specs.Hosts.{CertifiedView, IsCertified};
 
     ghost Value = { CertifiedView };
 

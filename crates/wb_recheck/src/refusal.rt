@@ -1,7 +1,7 @@
 //! Why is a specification not certified by a certificate?
 
 use std::alloc::AllocError;
-use wb_certify_host::CertifyRefusal;
+use wb_certify::CertifyRefusal;
 
 /// Why a specification isn't certified by the text of a certificate: the first of these that fails, where rules of certification are
 /// tested before the text up to the conflict, and after it from the conflict on.

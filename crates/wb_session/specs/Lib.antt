@@ -8,5 +8,10 @@ pub mod Stacks
 pub mod Kept
 -- what a session shows of its fields, and what holds of them
 pub mod Views
+-- words of `wb_parser` that callers speak of
+pub use Rattle.wb_parser.specs.Parses
+pub use Rattle.wb_parser.specs.declared.parsed
+-- words of `wb_session_theory` that callers speak of
+pub use Rattle.wb_session_theory.specs.Edits
 -- words of private functions, and what loops keep
 pub mod Inner

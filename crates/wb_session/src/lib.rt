@@ -19,3 +19,4 @@ mod step;
 pub use place::LeafPlace;
 pub use refusal::EditRefusal;
 pub use session::{Edited, Session};
+pub use wb_parser::{Parsed, parse};

@@ -22,6 +22,6 @@ mod parts;
 #[cfg(test)]
 mod recheck;
 #[cfg(test)]
-mod recheck_files;
+mod recheck_written;
 #[cfg(test)]
 mod shown;

@@ -1,7 +1,7 @@
 -- Refusals by their sorts.
 use Rattle.std.specs.Prelude.{◌≡◌}
-use Rattle.wb_certify_host.specs.declared.refusal.CertifyRefusal.{CertifyRefusal}
-use Rattle.wb_certify_host.specs.declared.refusal.CertifyRefusal.TheVariants as c
+use Rattle.wb_recheck.specs.certify_refusal.CertifyRefusal.{CertifyRefusal}
+use Rattle.wb_recheck.specs.certify_refusal.CertifyRefusal.TheVariants as c
 use Rattle.wb_names_theory.specs.declared.refusal.NameRefusal.{NameRefusal}
 use Rattle.wb_names_theory.specs.declared.refusal.NameRefusal.TheVariants as n
 use Rattle.wb_report.specs.declared.refusal.Refusal.{Refusal}

@@ -1,7 +1,7 @@
 -- Refusals of a value by their sorts.
 use Rattle.std.specs.Prelude.{◌≡◌, Some}
-use Rattle.wb_certify_host.specs.declared.refusal.CertifyRefusal.{CertifyRefusal}
-use Rattle.wb_certify_host.specs.declared.refusal.CertifyRefusal.TheVariants as c
+use Rattle.wb_recheck.specs.certify_refusal.CertifyRefusal.{CertifyRefusal}
+use Rattle.wb_recheck.specs.certify_refusal.CertifyRefusal.TheVariants as c
 use Rattle.wb_report.specs.declared.refusal.Refusal.{Refusal}
 use Rattle.wb_syntax_resolved.specs.declared.resolved.ResolvedParts.{ResolvedParts}
 use Rattle.wb_certify_shown.specs.Shows.{refusal_shown}

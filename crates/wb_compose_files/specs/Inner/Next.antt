@@ -1,7 +1,7 @@
 -- The steps from contents to an extension after others.
 use Rattle.std.specs.Prelude.{◌≡◌, ℕ, List, Contains}
-use Rattle.wb_certify.specs.Kept.{ExtensionView}
-use Rattle.wb_certify_host.specs.Hosts.{CertifiedView}
+use Rattle.wb_certify_files.specs.Kept.{ExtensionView}
+use Rattle.wb_certify_files.specs.Hosts.{CertifiedView}
 use Rattle.wb_compose_texts.specs.Composed.{IsWith, name_of}
 use Rattle.wb_certify_files.specs.Specifications.{IsSpecFor}
 use Rattle.wb_certify_files.specs.declared.extension_refusal.FileRefusal.TheVariants as f

@@ -1,7 +1,7 @@
 -- The first marker of a text in a language of a host with extensions, by number.
 use Rattle.std.specs.Prelude.{ℕ, List}
-use Rattle.wb_certify.specs.Kept.{ExtensionView}
-use Rattle.wb_certify_host.specs.Hosts.{CertifiedView}
+use Rattle.wb_compose.specs.Kept.{ExtensionView}
+use Rattle.wb_compose.specs.Hosts.{CertifiedView}
 use Rattle.wb_compose_texts.specs.UnionMarkers.{union_markers}
 use Rattle.wb_compose_texts.specs.Unions.{all_resolved}
 use Rattle.wb_reading.specs.Answers.{IsFirstMarker}

@@ -2,8 +2,8 @@
 use Rattle.std.specs.Prelude.{◌≡◌, ◌<◌, ℕ, List, length}
 use Rattle.wb_eval_theory.specs.Evaluable.{IsAsked}
 use Rattle.wb_operations.specs.Operations.{Operations}
-use Rattle.wb_parser.specs.declared.parsed.Parsed.{Parsed}
-use Rattle.wb_parser.specs.declared.parsed.Parsed.TheVariants as parsed
+use Rattle.wb_session.specs.parsed.Parsed.{Parsed}
+use Rattle.wb_session.specs.parsed.Parsed.TheVariants as parsed
 use Rattle.wb_syntax_resolved.specs.declared.attribution.AttributionParts.{AttributionParts}
 use Rattle.wb_eval_root.specs.Values.{IsTreeValue}
 use Rattle.wb_compose_texts.specs.Names.{stop_shown}

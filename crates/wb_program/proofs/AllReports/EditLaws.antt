@@ -1,7 +1,7 @@
 -- The report of `edit`: it is written whole, and known files have one status, and one text where nothing is refused.
 use Rattle.std.proofs.Common.{◌≡◌, ◌<◌, ◌≤◌, inl, inr, ℕ, List, Option, Some, length, arith, sym, ap, ◌∙◌, subst}
-use Rattle.wb_compose_edits.specs.declared.answer.EditsAnswer.{EditsAnswer}
-use Rattle.wb_compose_edits.specs.declared.answer.EditsAnswer.TheVariants as edits
+use Rattle.wb_compose_texts.specs.declared.edits_answer.EditsAnswer.{EditsAnswer}
+use Rattle.wb_compose_texts.specs.declared.edits_answer.EditsAnswer.TheVariants as edits
 use Rattle.wb_operations.specs.Operations.{OperationSignature, Operations}
 use Rattle.wb_report.specs.declared.edits_reason.EditsReason.TheVariants as u
 use Rattle.wb_session_edits.specs.Edits.{IsList, IsListOf}

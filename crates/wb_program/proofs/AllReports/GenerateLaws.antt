@@ -1,8 +1,8 @@
 -- The report of `generate`: it is written whole, and known files have one status, and one text where nothing is refused.
 use Rattle.std.proofs.Common.{◌≡◌, ◌<◌, ◌≤◌, inl, inr, ℕ, List, Option, Some, length, arith, sym, ◌∙◌, subst}
 use Rattle.wb_base.specs.Different.{Differ}
-use Rattle.wb_generate.specs.declared.generated.Generated.{Generated}
-use Rattle.wb_generate.specs.declared.generated.Generated.TheVariants as g
+use Rattle.wb_compose_texts.specs.generated_text.Generated.{Generated}
+use Rattle.wb_compose_texts.specs.generated_text.Generated.TheVariants as g
 use Rattle.wb_operations.specs.Operations.{Operations}
 use Rattle.wb_report.specs.declared.done.Done.TheVariants as done
 use Rattle.wb_syntax_resolved.specs.declared.resolved.ResolvedParts.{ResolvedParts}

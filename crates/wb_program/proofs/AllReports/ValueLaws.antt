@@ -5,9 +5,9 @@ use Rattle.wb_operations.specs.Operations.{OperationSignature, Operations}
 use Rattle.wb_syntax_resolved.specs.Attribution.{IsAttribution}
 use Rattle.wb_syntax_resolved.specs.declared.attribution.AttributionParts.{AttributionParts}
 use Rattle.wb_syntax_resolved.specs.declared.resolved.ResolvedParts.{ResolvedParts}
-use Rattle.wb_eval_root.proofs.OneAnswer.{one_answer as one_root}
-use Rattle.wb_eval_root.specs.declared.answer.RootAnswer.{RootAnswer}
-use Rattle.wb_eval_root.specs.declared.answer.RootAnswer.TheVariants as answered
+use Rattle.wb_compose_texts.proofs.OneRootAnswer.{one_answer as one_root}
+use Rattle.wb_compose_texts.specs.root_answer.RootAnswer.{RootAnswer}
+use Rattle.wb_compose_texts.specs.root_answer.RootAnswer.TheVariants as answered
 use Rattle.wb_world.specs.Shelf.{Files}
 use Rattle.wb_program_words.specs.Asked as a
 use Rattle.wb_program.specs.Checks.{Check}

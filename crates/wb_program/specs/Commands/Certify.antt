@@ -1,6 +1,6 @@
 -- What `certify HOST EXT..` reports.
 use Rattle.std.specs.Prelude.{◌≡◌, ◌≤◌, ◌⊎◌, ◌++◌, ℕ, Option, List, [], ◌∷◌, length}
-use Rattle.wb_certify.specs.Extensions.{IsOneExtension}
+use Rattle.wb_certify_files.specs.Extensions.{IsOneExtension}
 use Rattle.wb_certify_files.specs.ExtensionContents.{IsExtensionText, IsExtensionRefusal}
 use Rattle.wb_certify_files.specs.declared.extension_refusal.FileRefusal.{FileRefusal}
 use Rattle.wb_certify_files.specs.declared.extension_refusal.FileRefusal.TheVariants as f

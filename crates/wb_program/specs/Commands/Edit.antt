@@ -1,8 +1,8 @@
 -- What `edit --text FILE --edits FILE HOST EXT..` reports, and at which files it may stop.
 use Rattle.std.specs.Prelude.{◌≡◌, ◌<◌, ◌≤◌, ◌⊎◌, ℕ, Option, List, length}
-use Rattle.wb_compose_edits.specs.Answers.{IsUnitedEditsAnswer}
-use Rattle.wb_compose_edits.specs.declared.answer.EditsAnswer.{EditsAnswer}
-use Rattle.wb_compose_edits.specs.declared.answer.EditsAnswer.TheVariants as a
+use Rattle.wb_compose_texts.specs.EditAnswers.{IsUnitedEditsAnswer}
+use Rattle.wb_compose_texts.specs.declared.edits_answer.EditsAnswer.{EditsAnswer}
+use Rattle.wb_compose_texts.specs.declared.edits_answer.EditsAnswer.TheVariants as a
 use Rattle.wb_operations.specs.Operations.{OperationSignature}
 use Rattle.wb_report.specs.Lines.{report_of}
 use Rattle.wb_report.specs.declared.done.Done.TheVariants as done

@@ -1,7 +1,7 @@
 -- What `generate --number N --size K --attr NAME HOST EXT..` reports.
 use Rattle.std.specs.Prelude.{◌≡◌, ◌<◌, ◌≤◌, ◌⊎◌, ℕ, Option, List, length}
-use Rattle.wb_generate.specs.declared.generated.Generated.{Generated}
-use Rattle.wb_generate.specs.declared.generated.Generated.TheVariants as g
+use Rattle.wb_compose_texts.specs.generated_text.Generated.{Generated}
+use Rattle.wb_compose_texts.specs.generated_text.Generated.TheVariants as g
 use Rattle.wb_compose_texts.specs.Generated.{IsGeneratedText}
 use Rattle.wb_operations.specs.Operations.{Operations}
 use Rattle.wb_report.specs.Lines.{report_of}

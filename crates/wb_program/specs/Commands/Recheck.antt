@@ -1,8 +1,8 @@
 -- What `recheck HOST CERT [EXT CERT]` reports, and which files it comes to read.
 use Rattle.std.specs.Prelude.{◌≡◌, ℕ, Option, Some, None, List, [], ◌∷◌}
 use Rattle.wb_operations.specs.Operations.{OperationSignature}
-use Rattle.wb_recheck_contents.specs.Extensions.{IsRecheckedNamed, IsRefusedExtension}
-use Rattle.wb_recheck_contents.specs.Hosts.{IsRecheckedHost, IsRefusedHost}
+use Rattle.wb_certify_files.specs.RecheckedExtensions.{IsRecheckedNamed, IsRefusedExtension}
+use Rattle.wb_certify_files.specs.RecheckedHosts.{IsRecheckedHost, IsRefusedHost}
 use Rattle.wb_report.specs.Lines.{report_of}
 use Rattle.wb_report.specs.declared.done.Done.TheVariants as done
 use Rattle.wb_report.specs.declared.outcome.Outcome.TheVariants as o

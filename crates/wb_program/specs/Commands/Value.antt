@@ -6,9 +6,9 @@ use Rattle.wb_report.specs.declared.done.Done.TheVariants as done
 use Rattle.wb_report.specs.declared.outcome.Outcome.TheVariants as o
 use Rattle.wb_report.specs.declared.refusal.Refusal.TheVariants as refusal
 use Rattle.wb_syntax_resolved.specs.declared.attribution.AttributionParts.{AttributionParts}
-use Rattle.wb_eval_root.specs.Answers.{IsRootAnswer}
-use Rattle.wb_eval_root.specs.declared.answer.RootAnswer.{RootAnswer}
-use Rattle.wb_eval_root.specs.declared.answer.RootAnswer.TheVariants as answered
+use Rattle.wb_compose_texts.specs.RootAnswers.{IsRootAnswer}
+use Rattle.wb_compose_texts.specs.root_answer.RootAnswer.{RootAnswer}
+use Rattle.wb_compose_texts.specs.root_answer.RootAnswer.TheVariants as answered
 use Rattle.wb_world.specs.Shelf.{Files}
 use Rattle.wb_program.specs.Checks.{Report, Ends, Check}
 use Rattle.wb_program.specs.Texts.{IsText, IsTooLongText}

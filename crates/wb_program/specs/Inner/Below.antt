@@ -2,7 +2,7 @@
 use Rattle.std.specs.Prelude.{◌≡◌, ℕ, List}
 use Rattle.wb_base.specs.Different.{Differ}
 use Rattle.wb_certify_files.specs.OneExtensionAnswer.{HaveOneHeader, HaveOneExtensionAnswer}
-use Rattle.wb_compose_edits.specs.Answers.{HasOneEditsAnswer}
+use Rattle.wb_compose_texts.specs.EditAnswers.{HasOneEditsAnswer}
 use Rattle.wb_compose_texts.specs.Answers.{HasSameAnswer}
 use Rattle.wb_compose_texts.specs.Generated.{HasOneText}
 use Rattle.wb_compose_texts.specs.Readings.{HasOneReading}
@@ -10,8 +10,8 @@ use Rattle.wb_compose_texts.specs.Roots.{HasOneRootAttribute}
 use Rattle.wb_compose_texts.specs.Values.{HasOneTextValue}
 use Rattle.wb_compose_texts.specs.Withdrawn.{HasOneWithdrawn}
 use Rattle.wb_operations.specs.Operations.{Operations, OperationSignature}
-use Rattle.wb_recheck_contents.specs.OneAnswer.{HaveOneExtensionAnswer as HaveOneRecheckedExtension, HaveOneHostAnswer}
-use Rattle.wb_recheck_files.specs.CertificateTexts.{IsExtensionCertificate, IsHostCertificate}
+use Rattle.wb_certify_files.specs.OneRecheckAnswer.{HaveOneExtensionAnswer as HaveOneRecheckedExtension, HaveOneHostAnswer}
+use Rattle.wb_certify_files.specs.CertificateTexts.{IsExtensionCertificate, IsHostCertificate}
 use Rattle.wb_session_edits.specs.Edits.{IsList, IsListOf}
 use Rattle.wb_session_edits.specs.declared.edit.Edit.{Edit}
 use Rattle.wb_syntax_resolved.specs.declared.resolved.ResolvedParts.{ResolvedParts}

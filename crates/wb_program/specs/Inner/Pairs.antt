@@ -1,9 +1,9 @@
 -- What is read of a file and of its certificate, and what is made of both.
 use Rattle.std.specs.Prelude.{◌≡◌, ◌≤◌, ◌⊎◌, ℕ, Option, List, Result, Ok, Err, IfOk, length}
-use Rattle.wb_certify_host.specs.Hosts.{CertifiedView}
+use Rattle.wb_certify_files.specs.Hosts.{CertifiedView}
 use Rattle.wb_operations.specs.Operations.{OperationSignature}
-use Rattle.wb_recheck_contents.specs.Hosts.{IsRecheckedHost, IsRefusedHost}
-use Rattle.wb_recheck_contents.specs.declared.refusal.ContentsRefusal.{ContentsRefusal}
+use Rattle.wb_certify_files.specs.RecheckedHosts.{IsRecheckedHost, IsRefusedHost}
+use Rattle.wb_certify_files.specs.declared.contents_refusal.ContentsRefusal.{ContentsRefusal}
 use Rattle.wb_report.specs.declared.certificate_reason.CertificateReason.TheVariants as q
 use Rattle.wb_world.specs.Shelf.{Files}
 use Rattle.wb_program.specs.CertificateChecks.{HasTooLongCertificate, IsPair, IsRefusedBy, RefusedCertificate, RefusedPair}

@@ -1,7 +1,7 @@
 -- What is made of the file of an extension after others, and of several in their order.
 use Rattle.std.specs.Prelude.{◌≡◌, ℕ, List, Option, [], Contains, drop}
-use Rattle.wb_certify.specs.Kept.{ExtensionView}
-use Rattle.wb_certify_host.specs.Hosts.{CertifiedView}
+use Rattle.wb_certify_files.specs.Kept.{ExtensionView}
+use Rattle.wb_certify_files.specs.Hosts.{CertifiedView}
 use Rattle.wb_compose_texts.specs.Composed.{IsWith, name_of}
 use Rattle.wb_certify_files.specs.Specifications.{IsHeaderRefusal, IsSpecFor}
 use Rattle.wb_certify_files.specs.declared.extension_refusal.FileRefusal.TheVariants as f

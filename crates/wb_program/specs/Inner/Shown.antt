@@ -6,7 +6,7 @@ use Rattle.wb_reader.specs.declared.refusal.SpecRefusal.{SpecRefusal}
 use Rattle.wb_report.specs.Lines.{report_of}
 use Rattle.wb_report.specs.declared.outcome.Outcome.TheVariants as o
 use Rattle.wb_report.specs.declared.refusal.Refusal.{Refusal}
-use Rattle.wb_certify_shown.specs.Shows.{written_reason, of_spec}
+use Rattle.wb_certify_files.specs.Shows.{written_reason, of_spec}
 use Rattle.wb_syntax.specs.Canonical.{IsCanonical}
 use Rattle.wb_program.specs.Checks.{Ends, Check}
 use Rattle.wb_program.specs.Inner.Contents.{ReadIs}

@@ -1,6 +1,6 @@
 //! What does `certificate HOST [EXT]` answer?
 //!
-//! The host and the extension come first, by the checks of `composable`, and then the certificate that `wb_recheck_files` writes.
+//! The host and the extension come first, by the checks of `composable`, and then the certificate that `wb_recheck` writes.
 
 ghost use Rattle.std.specs.Prelude.{IfOk};
 ghost use Rattle.wb_compose_texts.specs.Unions.{all_resolved};
@@ -18,10 +18,10 @@ use crate::pairs::MOST_BYTES;
 use crate::status::Status;
 use std::alloc::{AllocError, Global};
 use wb_base::Bytes;
-use wb_certify::CertifiedExtension;
-use wb_certify_host::CertifiedHost;
+use wb_certify_files::{
+    CertifiedExtension, CertifiedHost, extension_certificate, host_certificate,
+};
 use wb_operations::{Meaning, OperationTable};
-use wb_recheck_files::{extension_certificate, host_certificate};
 use wb_report::Outcome;
 use wb_world::Shelf;
 

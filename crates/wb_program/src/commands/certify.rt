@@ -4,7 +4,7 @@
 //! one, is found by `wb_certify_files`.
 
 ghost use Rattle.std.specs.Prelude.{◌≡◌, ◌++◌, IfOk, IfErr, OnOk, List, ℕ, [], ◌∷◌, map};
-ghost use Rattle.wb_certify.specs.Extensions.{IsOneExtension};
+ghost use Rattle.wb_certify_files.specs.Extensions.{IsOneExtension};
 ghost use Rattle.wb_certify_files.specs.ExtensionContents.{IsExtensionText, IsExtensionRefusal};
 ghost use Rattle.wb_certify_files.specs.HostContents.{IsHostText};
 ghost use Rattle.wb_report.specs.Lines.{report_of};
@@ -25,9 +25,7 @@ use crate::several::refused_extension;
 use crate::status::Status;
 use std::alloc::{AllocError, Global};
 use wb_base::{Bytes, Sequence};
-use wb_certify::CertifiedExtension;
-use wb_certify_files::{FileRefusal, extension_of};
-use wb_certify_host::CertifiedHost;
+use wb_certify_files::{CertifiedExtension, CertifiedHost, FileRefusal, extension_of};
 use wb_operations::{Meaning, OperationTable};
 use wb_report::{Done, Outcome, Refusal, SpecReason};
 use wb_world::Shelf;

@@ -15,7 +15,7 @@ use crate::hosts::read_host;
 use crate::status::Status;
 use std::alloc::{AllocError, Global};
 use wb_base::{Bytes, Sequence};
-use wb_certify_host::CertifiedHost;
+use wb_certify_files::CertifiedHost;
 use wb_operations::{Meaning, OperationTable};
 use wb_report::{Done, Outcome};
 use wb_world::Shelf;

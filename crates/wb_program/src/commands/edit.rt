@@ -1,7 +1,7 @@
 //! What does `edit --text FILE --edits FILE HOST EXT..` answer for a text and a list of its edits?
 //!
 //! The host and the extensions, if any, come as in `compose`, then the text as in `tree`, and then the edits. What becomes of the text by
-//! them is in `wb_compose_edits`.
+//! them is in `wb_compose_texts`.
 
 ghost use Rattle.std.specs.Prelude.{◌≡◌, ◌≤◌, ◌⊎◌, IfOk, ℕ, List, length};
 ghost use Rattle.wb_compose_texts.specs.Unions.{all_resolved};
@@ -13,7 +13,7 @@ ghost use Rattle.wb_program.specs.Inner.Makes.{Answers};
 ghost use Rattle.wb_program.specs.Inner.Stopped.{outside};
 ghost use Rattle.wb_program.specs.Texts.{IsText, IsTooLongText};
 ghost use Rattle.wb_program.specs.Commands.Edit.{EditReport, EditStops, EditsReport, ShownEdits, TextEditsReport, refused_line};
-ghost use Rattle.wb_compose_edits.specs.Answers.{IsUnitedEditsAnswer};
+ghost use Rattle.wb_compose_texts.specs.EditAnswers.{IsUnitedEditsAnswer};
 
 use crate::answer::{Answer, reported};
 use crate::composable::read_composable;
@@ -21,10 +21,8 @@ use crate::files::{Contents, ReadFailure, read_file};
 use crate::status::Status;
 use std::alloc::{AllocError, Global};
 use wb_base::{Bytes, FILE_LIMIT};
-use wb_certify::CertifiedExtension;
-use wb_certify_host::CertifiedHost;
-use wb_compose_edits::{EditsAnswer, united_edits_answer};
-use wb_compose_texts::compose;
+use wb_certify_files::{CertifiedExtension, CertifiedHost};
+use wb_compose_texts::{EditsAnswer, compose, united_edits_answer};
 use wb_operations::{Meaning, OperationTable};
 use wb_report::{Done, EditsReason, Outcome, Refusal};
 use wb_session_edits::{Edit, EditsRefusal, read_edits};

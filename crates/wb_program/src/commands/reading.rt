@@ -8,8 +8,7 @@ ghost use Rattle.wb_program.specs.Commands.Reading.{ShownReading, TextReadingRep
 use crate::answer::{Answer, reported};
 use crate::status::Status;
 use std::alloc::{AllocError, Global};
-use wb_certify::CertifiedExtension;
-use wb_certify_host::CertifiedHost;
+use wb_certify_files::{CertifiedExtension, CertifiedHost};
 use wb_compose_texts::{TextReading, union_reading};
 use wb_report::{Done, Outcome};
 

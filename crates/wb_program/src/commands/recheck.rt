@@ -1,12 +1,12 @@
 //! What does `recheck HOST CERT [EXT CERT]` answer?
 //!
 //! The host comes first with its certificate, and then the extension with its. Files are read in `pairs`, and what is certified by the
-//! text of a certificate is found by `wb_recheck_contents`.
+//! text of a certificate is found by `wb_certify_files`.
 
 ghost use Rattle.std.specs.Prelude.{◌≡◌, ◌⊎◌, IfErr, IfOk, List, None, Option, Some, ℕ};
 ghost use Rattle.wb_program_words.specs.Asked.{texts};
-ghost use Rattle.wb_recheck_contents.specs.Extensions.{IsRecheckedNamed, IsRefusedExtension};
-ghost use Rattle.wb_recheck_contents.specs.Hosts.{IsRecheckedHost, IsRefusedHost};
+ghost use Rattle.wb_certify_files.specs.RecheckedExtensions.{IsRecheckedNamed, IsRefusedExtension};
+ghost use Rattle.wb_certify_files.specs.RecheckedHosts.{IsRecheckedHost, IsRefusedHost};
 ghost use Rattle.wb_program.specs.Commands.Recheck.{ExtensionReport, RecheckReport, RecheckedLines, extension_reads, rechecked_reads};
 ghost use Rattle.wb_program.specs.Inner.Contents.{ReadIs};
 ghost use Rattle.wb_program.specs.Inner.Makes.{Answers, Makes};
@@ -20,11 +20,10 @@ use crate::pairs::{Pair, certified_or_answer, read_pair};
 use crate::status::Status;
 use std::alloc::{AllocError, Global};
 use wb_base::Bytes;
-use wb_certify_files::FileRefusal;
-use wb_operations::{Meaning, OperationTable};
-use wb_recheck_contents::{
-    ContentsRefusal, RecheckedHost, rechecked_extension_of, rechecked_host_of,
+use wb_certify_files::{
+    ContentsRefusal, FileRefusal, RecheckedHost, rechecked_extension_of, rechecked_host_of,
 };
+use wb_operations::{Meaning, OperationTable};
 use wb_report::{Done, Outcome, Refusal, SpecReason};
 use wb_world::Shelf;
 

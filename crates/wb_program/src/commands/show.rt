@@ -15,7 +15,7 @@ use crate::files::{Contents, ReadFailure, read_file};
 use crate::status::Status;
 use std::alloc::{AllocError, Global};
 use wb_base::{Bytes, FILE_LIMIT};
-use wb_certify_shown::written_rule;
+use wb_certify_files::written_rule;
 use wb_reader::{SpecRefusal, read_spec};
 use wb_reader_printer::print_spec;
 use wb_report::{Outcome, Refusal};

@@ -9,8 +9,7 @@ ghost use Rattle.wb_program.specs.Commands.Tree.{ShownText, TextReport};
 use crate::answer::{Answer, reported};
 use crate::status::Status;
 use std::alloc::{AllocError, Global};
-use wb_certify::CertifiedExtension;
-use wb_certify_host::CertifiedHost;
+use wb_certify_files::{CertifiedExtension, CertifiedHost};
 use wb_compose_texts::{Composed, TextAnswer, compose, united_text_answer};
 use wb_report::{Done, Outcome};
 

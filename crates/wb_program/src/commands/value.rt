@@ -21,7 +21,7 @@ use crate::hosts::read_well_defined;
 use crate::status::Status;
 use std::alloc::{AllocError, Global};
 use wb_base::{Bytes, FILE_LIMIT, Sequence};
-use wb_eval_root::{RootAnswer, root_value};
+use wb_compose_texts::{RootAnswer, root_value};
 use wb_operations::{Meaning, OperationRefusal, OperationTable};
 use wb_report::{Done, Outcome, Refusal, TermReason};
 use wb_syntax_resolved::Attribution;

@@ -1,10 +1,10 @@
 -- What each test of a host with an extension after its kinds tells.
 use Rattle.std.specs.Prelude.{◌≡◌, ℕ, List, Some, IfSome, IsSome, length}
 use Rattle.wb_base.specs.Grammar.{GrammarView}
-use Rattle.wb_certify_host.specs.Hosts.{CertifiedView, IsCertified}
+use Rattle.wb_certify.specs.Hosts.{CertifiedView, IsCertified}
 use Rattle.wb_certify.specs.Inner.Tests.{IsFound}
-use Rattle.wb_determinism.specs.Extensions.{IsHostBeside}
-use Rattle.wb_determinism_host.specs.declared.parts.HostParts.{HostParts}
+use Rattle.wb_certify.specs.DeterministicExtensions.{IsHostBeside}
+use Rattle.wb_certify.specs.parts.HostParts.{HostParts}
 use Rattle.wb_marking_holes.specs.Holes.{with_holes_of}
 use Rattle.wb_operations.specs.Operations.{OperationSignature}
 use Rattle.wb_syntax_resolved.specs.declared.resolved.ResolvedParts.{ResolvedParts}

@@ -1,9 +1,9 @@
 -- Refusals of other crates, as they are handed on.
 use Rattle.std.specs.Prelude.{◌≡◌, ℕ, List}
-use Rattle.wb_certify_host.specs.declared.refusal.CertifyRefusal.{CertifyRefusal}
-use Rattle.wb_certify_host.specs.declared.refusal.CertifyRefusal.TheVariants as c
-use Rattle.wb_determinism_host.specs.declared.refusal.DeterminismRefusal.{DeterminismRefusal}
-use Rattle.wb_determinism_host.specs.declared.refusal.DeterminismRefusal.TheVariants as d
+use Rattle.wb_certify.specs.certify_refusal.CertifyRefusal.{CertifyRefusal}
+use Rattle.wb_certify.specs.certify_refusal.CertifyRefusal.TheVariants as c
+use Rattle.wb_certify.specs.determinism_refusal.DeterminismRefusal.{DeterminismRefusal}
+use Rattle.wb_certify.specs.determinism_refusal.DeterminismRefusal.TheVariants as d
 use Rattle.wb_operations.specs.Operations.{OperationSignature}
 use Rattle.wb_recheck_entries.specs.declared.fault.CertificateFault.{CertificateFault}
 use Rattle.wb_recheck_entries.specs.declared.fault.CertificateFault.TheVariants as f

@@ -1,9 +1,9 @@
 -- What each test of a host after its kinds tells.
 use Rattle.std.specs.Prelude.{◌≡◌, ℕ, List, Some}
 use Rattle.wb_base.specs.Grammar.{GrammarView}
-use Rattle.wb_certify_host.specs.Refusals.{IsDeterministic}
-use Rattle.wb_determinism_host.specs.Hosts.{AreHostParts}
-use Rattle.wb_determinism_host.specs.declared.parts.HostParts.{HostParts}
+use Rattle.wb_certify.specs.CertifyRefusals.{IsDeterministic}
+use Rattle.wb_certify.specs.DeterministicHosts.{AreHostParts}
+use Rattle.wb_certify.specs.parts.HostParts.{HostParts}
 use Rattle.wb_operations.specs.Operations.{OperationSignature}
 use Rattle.wb_syntax_resolved.specs.Resolved.{IsResolved}
 use Rattle.wb_syntax_resolved.specs.declared.resolved.ResolvedParts.{ResolvedParts}

@@ -1,5 +1,5 @@
 use Rattle.std.proofs.Common.{rules, subst, sym}
-use Rattle.wb_certify.specs.Refusals.{IsMemory}
+use Rattle.wb_recheck.specs.BesideRefusals.{IsMemory}
 use Rattle.wb_syntax_resolved.specs.declared.resolved.ResolvedParts.{ResolvedParts}
 use Rattle.wb_certify_files.specs.ExtensionContents.{IsExtensionText}
 use Rattle.wb_certify_files.proofs.ShownExtensions.{value_shown}

@@ -1,6 +1,6 @@
 use Rattle.std.proofs.lemmas.Result.{IfOk-weaker}
 use Rattle.wb_lemmas.proofs.Refusals.{handed_on}
-use Rattle.wb_certify.specs.Kept.{ExtensionView}
+use Rattle.wb_recheck.specs.Kept.{ExtensionView}
 use Rattle.wb_certify_files.specs.ExtensionContents.{IsExtensionRefusal, IsExtensionText}
 use Rattle.wb_certify_files.specs.Specifications.{IsExtensionSpec, IsHeaderRefusal}
 use Rattle.wb_certify_files.proofs.ExtensionLemmas.{header_refused}

@@ -1,5 +1,5 @@
 use Rattle.wb_compose.proofs.BridgedLemmas.{bridged_numbers, same_extensible}
-use Rattle.wb_determinism_beside.proofs.NumberLemmas.{tested_numbers}
+use Rattle.wb_certify.proofs.NumberLemmas.{tested_numbers}
 use Rattle.wb_compose.proofs.laws.numbers_law.Goals as goal
 
 pub returns : goal.returns

@@ -1,6 +1,6 @@
 -- None of the extensions before has the name.
 use Rattle.std.proofs.Common.{◌≡◌, ◌≢◌, ◌<◌, ◌≤◌, ◌-◌, ℕ, Some, length, slice_get}
-use Rattle.wb_certify.specs.Kept.{ExtensionView}
+use Rattle.wb_certify_files.specs.Kept.{ExtensionView}
 use Rattle.wb_compose_texts.specs.Composed.{name_of}
 use Rattle.wb_compose_files.proofs.extend.has_name.Given as goal
 

@@ -1,7 +1,7 @@
 use Rattle.std.proofs.Common.{List, map, subst}
 use Rattle.std.proofs.lemmas.List.{take_all}
-use Rattle.wb_certify.specs.Kept.{ExtensionView}
-use Rattle.wb_compose_theory_order.specs.Names.{all_of}
+use Rattle.wb_compose.specs.Kept.{ExtensionView}
+use Rattle.wb_reading.specs.OrderedNames.{all_of}
 use Rattle.wb_compose_texts.specs.Expressions.{added_rows}
 use Rattle.wb_compose_texts.specs.Inner.Added.{AreAdded}
 use Rattle.wb_compose_texts.specs.Unions.{all_resolved}

@@ -2,7 +2,7 @@ use Rattle.std.proofs.Common.{◌≡◌, ◌∙◌, ap, sym, subst, rules}
 use Rattle.std.proofs.lemmas.Result.{IfOk-weaker}
 use Rattle.wb_generate.specs.Outcomes.{IsOutcome}
 use Rattle.wb_scan_theory.specs.Bounds.{HasNoCycle}
-use Rattle.wb_scan.specs.Views.{LanguageParts}
+use Rattle.wb_compose.specs.LanguageViews.{LanguageParts}
 use Rattle.wb_compose_texts.specs.Expressions.{AreUnitedExpressions}
 use Rattle.wb_compose_texts.specs.Unions.{all_resolved}
 use Rattle.wb_compose_texts.specs.Generated.{IsGeneratedText, first_layout, place_behind}

@@ -1,9 +1,9 @@
 -- The flags of each extension come after those before it.
 use Rattle.std.proofs.Common.{rules, ◌≡◌, ◌∙◌, ◌++◌, List, ap, map, sym}
 use Rattle.std.proofs.lemmas.List.{append-nil, take_all}
-use Rattle.wb_certify.specs.Kept.{ExtensionView}
+use Rattle.wb_compose.specs.Kept.{ExtensionView}
 use Rattle.wb_certify_shown.specs.Names.{terminals_in}
-use Rattle.wb_compose_theory_order.specs.Names.{all_of}
+use Rattle.wb_reading.specs.OrderedNames.{all_of}
 use Rattle.wb_compose_texts.specs.Unions.{all_resolved}
 use Rattle.wb_compose_texts.specs.UnionMarkers.{added_markers}
 use Rattle.wb_compose_texts.proofs.FlagLemmas.{block_next}

@@ -2,7 +2,7 @@
 use Rattle.std.proofs.Common.{rules, ◌≡◌, refl, drop, slice_get, arith}
 use Rattle.wb_certify_shown.specs.Names.{terminals_in}
 use Rattle.wb_compose_texts.proofs.TableLemmas.{all_read, none_read}
-use Rattle.wb_determinism.specs.Images.{is_marker_row}
+use Rattle.wb_compose.specs.DeterminismImages.{is_marker_row}
 use Rattle.wb_compose_texts.specs.UnionMarkers.{grammar_markers}
 use Rattle.wb_compose_texts.proofs.FlagLemmas.{flag_next, flags_len}
 use Rattle.wb_compose_texts.proofs.markers.add_flags.Goals as goal

@@ -1,7 +1,7 @@
 -- The flags of the host, and then those of the extensions, are those of the union.
 use Rattle.std.proofs.Common.{rules, ◌≡◌, ◌∙◌, ◌++◌, ap, false, map, replicate}
 use Rattle.wb_certify_shown.specs.Names.{terminals_in}
-use Rattle.wb_compose_theory_order.specs.Names.{all_of}
+use Rattle.wb_reading.specs.OrderedNames.{all_of}
 use Rattle.wb_compose_texts.specs.Unions.{all_resolved}
 use Rattle.wb_compose_texts.specs.UnionMarkers.{added_markers}
 use Rattle.wb_compose_texts.proofs.markers.flags_of.Goals as goal

@@ -1,7 +1,7 @@
 -- The first marker by the set is the first of the union's.
 use Rattle.std.proofs.Common.{ap}
 use Rattle.wb_compose_texts.proofs.ReadingLemmas.{marker_found}
-use Rattle.wb_scan.specs.Views.{LanguageParts}
+use Rattle.wb_compose.specs.LanguageViews.{LanguageParts}
 use Rattle.wb_compose_texts.proofs.reading.marker_in.Goals as goal
 
 pub returns : goal.returns

@@ -1,7 +1,7 @@
 use Rattle.std.proofs.Common.{◌≡◌, ap, subst}
 use Rattle.wb_scan_theory.specs.Facts.{IsLanguage}
-use Rattle.wb_parser.specs.Parses.{FitsSignatures, IsParsed}
-use Rattle.wb_scan.specs.Views.{LanguageParts}
+use Rattle.wb_session.specs.Parses.{FitsSignatures, IsParsed}
+use Rattle.wb_compose.specs.LanguageViews.{LanguageParts}
 use Rattle.wb_types.specs.Rules.{KindsOk}
 use Rattle.wb_compose_texts.specs.Unions.{all_resolved}
 use Rattle.wb_compose_texts.proofs.ComposedValues.{asked_of_text, text_answered}

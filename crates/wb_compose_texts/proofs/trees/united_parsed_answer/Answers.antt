@@ -1,5 +1,5 @@
 use Rattle.std.proofs.Common.{subst, IfOk}
-use Rattle.wb_parser.specs.Parses.{IsParsed, IsTreeOf}
+use Rattle.wb_session.specs.Parses.{IsParsed, IsTreeOf}
 use Rattle.wb_compose_texts.specs.Answers.{IsAnswerIn}
 use Rattle.wb_compose_texts.specs.Names.{terminals_of}
 use Rattle.wb_compose_texts.specs.Unions.{all_resolved}

@@ -1,8 +1,8 @@
 use Rattle.std.proofs.Common.{◌≡◌, ap, subst}
 use Rattle.std.proofs.lemmas.Result.{IfOk-weaker}
 use Rattle.wb_scan_theory.specs.Facts.{IsLanguage}
-use Rattle.wb_parser.specs.Parses.{IsParsed}
-use Rattle.wb_scan.specs.Views.{LanguageParts}
+use Rattle.wb_session.specs.Parses.{IsParsed}
+use Rattle.wb_compose.specs.LanguageViews.{LanguageParts}
 use Rattle.wb_compose_texts.specs.Answers.{IsAnswerIn, IsUnitedTextAnswer}
 use Rattle.wb_compose_texts.specs.Names.{terminals_of}
 use Rattle.wb_compose_texts.specs.Signatures.{signatures_of}

@@ -1,6 +1,6 @@
 -- What a number makes is shown.
 use Rattle.std.proofs.Common.{◌≡◌, ℕ, List, IfOk, sym, subst}
-use Rattle.wb_generate.specs.declared.generated.Generated.{Generated}
+use Rattle.wb_compose_texts.specs.generated_text.Generated.{Generated}
 use Rattle.wb_compose_texts.specs.Generated.{IsGeneratedText}
 use Rattle.wb_operations.specs.Operations.{Operations, OperationSignature}
 use Rattle.wb_report.specs.Lines.{report_of}

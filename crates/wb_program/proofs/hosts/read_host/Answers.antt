@@ -1,6 +1,6 @@
 -- What was read is such a host, and so the file is; or the file is refused.
 use Rattle.std.proofs.Common.{◌≡◌}
-use Rattle.wb_certify_host.specs.Hosts.{IsCertifiedValue}
+use Rattle.wb_certify_files.specs.Hosts.{IsCertifiedValue}
 use Rattle.wb_certify_files.specs.HostContents.{IsHostText, IsHostRefusal}
 use Rattle.wb_lemmas.proofs.Refusals.{handed_on}
 use Rattle.wb_program.specs.Inner.Contents.{ReadIs}

@@ -1,5 +1,5 @@
 -- What was read is such a host, and so the file is; or the file is refused.
-use Rattle.wb_certify_host.specs.WellDefined.{HasWellDefinedAttributes}
+use Rattle.wb_certify_files.specs.WellDefinedHosts.{HasWellDefinedAttributes}
 use Rattle.wb_certify_files.specs.WellDefined.{IsWellDefinedText, IsWellDefinedTextRefusal}
 use Rattle.wb_lemmas.proofs.Refusals.{handed_on}
 use Rattle.wb_program.specs.Inner.Contents.{ReadIs}

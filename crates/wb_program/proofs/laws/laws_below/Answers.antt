@@ -17,7 +17,7 @@ returns c = record {
   values = c.one_value_law.ensures;
   host_certificates = c.one_text_law-2.ensures.host;
   extension_certificates = c.one_text_law-2.ensures.extension;
-  rechecked_hosts = c.one_host_law.ensures;
-  rechecked_extensions = c.one_extension_law.ensures;
+  rechecked_hosts = c.one_rechecked_host_law.ensures;
+  rechecked_extensions = c.one_rechecked_extension_law.ensures;
   made = c.one_text_law.ensures;
 }

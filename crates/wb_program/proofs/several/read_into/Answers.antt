@@ -1,7 +1,7 @@
 -- A certified extension leads on to the next, and one that is refused or can't be read ends the run.
 use Rattle.std.proofs.Common.{rules, ◌≡◌, ◌<◌, ◌+◌, ◌++◌, sym, List, [], ◌∷◌, Option, IfErr, length, drop, subst, arith}
 use Rattle.std.proofs.lemmas.Grind.{common_steps}
-use Rattle.wb_certify.specs.Kept.{ExtensionView}
+use Rattle.wb_certify_files.specs.Kept.{ExtensionView}
 use Rattle.wb_compose_texts.specs.Unions.{all_resolved}
 use Rattle.wb_program_words.specs.Asked.{texts}
 use Rattle.wb_world.specs.Shelf.{Files}

@@ -1,6 +1,6 @@
 -- What is answered of the source comes after the host and the extensions, and so does its report.
 use Rattle.std.proofs.Common.{List, Option, inr, subst}
-use Rattle.wb_certify.specs.Kept.{ExtensionView}
+use Rattle.wb_certify_files.specs.Kept.{ExtensionView}
 use Rattle.wb_operations.specs.Operations.{Operations}
 use Rattle.wb_compose_texts.specs.Unions.{all_resolved}
 use Rattle.wb_program_words.specs.Asked.{texts}

@@ -1,6 +1,6 @@
 -- A text is read after the host and the extensions, and its report comes after theirs.
 use Rattle.std.proofs.Common.{ℕ, List, Option, inr, subst}
-use Rattle.wb_certify.specs.Kept.{ExtensionView}
+use Rattle.wb_certify_files.specs.Kept.{ExtensionView}
 use Rattle.wb_operations.specs.Operations.{OperationSignature}
 use Rattle.wb_syntax_resolved.specs.declared.resolved.ResolvedParts.{ResolvedParts}
 use Rattle.wb_compose_texts.specs.Unions.{all_resolved}

@@ -1,4 +1,4 @@
-use Rattle.wb_certify_host.proofs.HostLemmas.{of_written}
+use Rattle.wb_certify.proofs.CertifiedHostLemmas.{of_written}
 use Rattle.wb_recheck.proofs.HostLemmas.{certificate_kept, certified_host, host_refused}
 use Rattle.wb_recheck.proofs.host.recheck_host.Goals as goal
 

@@ -1,5 +1,5 @@
 use Rattle.std.proofs.Common.{◌∙◌}
-use Rattle.wb_certify_host.proofs.ValueLemmas.{kept_of}
+use Rattle.wb_certify.proofs.CertifiedValueLemmas.{kept_of}
 use Rattle.wb_recheck.proofs.value.recheck_resolved.Goals as goal
 
 pub invariant_of-result : goal.invariant_of-result

@@ -1,4 +1,4 @@
-use Rattle.wb_certify_host.proofs.ValueLemmas.{certified}
+use Rattle.wb_certify.proofs.CertifiedValueLemmas.{certified}
 use Rattle.wb_lemmas.proofs.Refusals.{handed_on}
 use Rattle.wb_recheck.specs.HostRefusals.{IsValueRecheckRefusal}
 use Rattle.wb_recheck.specs.Inner.Handed.{IsKindFault}

@@ -1,6 +1,6 @@
 -- One more extension is apart from those before it.
 use Rattle.std.proofs.Common.{rules, ◌≡◌, ◌++◌, List, [], ◌∷◌, subst, sym}
-use Rattle.wb_certify.specs.Kept.{ExtensionView}
+use Rattle.wb_certify_files.specs.Kept.{ExtensionView}
 use Rattle.wb_compose_files.specs.Certified.{AreApart}
 use Rattle.wb_compose_files.specs.Inner.Next.{IsApartFrom}
 use Rattle.wb_compose_files.proofs.NextLemmas.{apart_more}

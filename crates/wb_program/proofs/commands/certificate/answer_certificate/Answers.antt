@@ -1,6 +1,6 @@
 -- The certificate comes after the checks of the host and the extension.
 use Rattle.std.proofs.Common.{List, subst}
-use Rattle.wb_certify.specs.Kept.{ExtensionView}
+use Rattle.wb_certify_files.specs.Kept.{ExtensionView}
 use Rattle.wb_compose_texts.specs.Unions.{all_resolved}
 use Rattle.wb_program_words.specs.Asked.{texts}
 use Rattle.wb_program.specs.Commands.Certificate.{CertificateChecks}

@@ -1,7 +1,7 @@
 -- The certificate is the host's where there is no extension, and else that of the first.
 use Rattle.std.proofs.Common.{List, Option, ℕ, arith}
 use Rattle.wb_compose_texts.specs.Unions.{all_resolved}
-use Rattle.wb_recheck_files.specs.CertificateTexts.{IsExtensionCertificate, IsHostCertificate}
+use Rattle.wb_certify_files.specs.CertificateTexts.{IsExtensionCertificate, IsHostCertificate}
 use Rattle.wb_program.specs.Commands.Certificate.{IsCertificateOf}
 use Rattle.wb_program.specs.Inner.Certificates.{IsTextOrTooLong}
 use Rattle.wb_program.proofs.CertificateLemmas.{of_extension, of_host}

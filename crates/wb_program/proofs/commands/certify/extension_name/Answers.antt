@@ -1,6 +1,6 @@
 -- The copied name is the extension's.
 use Rattle.std.proofs.Common.{◌≡◌, ℕ, List, sym, subst}
-use Rattle.wb_certify.specs.Extensions.{IsOneExtension}
+use Rattle.wb_certify_files.specs.Extensions.{IsOneExtension}
 use Rattle.wb_program.proofs.StopLemmas.{on_ok}
 use Rattle.wb_program.proofs.commands.certify.extension_name.Goals as goal
 

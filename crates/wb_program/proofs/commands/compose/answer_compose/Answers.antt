@@ -1,6 +1,6 @@
 -- What is composed of a host and extensions comes after the checks of them.
 use Rattle.std.proofs.Common.{List, subst}
-use Rattle.wb_certify.specs.Kept.{ExtensionView}
+use Rattle.wb_certify_files.specs.Kept.{ExtensionView}
 use Rattle.wb_operations.specs.Operations.{OperationSignature}
 use Rattle.wb_syntax_resolved.specs.declared.resolved.ResolvedParts.{ResolvedParts}
 use Rattle.wb_compose_texts.specs.Unions.{all_resolved}

@@ -1,6 +1,6 @@
 -- The text and its edits are read after the host and the extensions, and their report comes after theirs.
 use Rattle.std.proofs.Common.{◌⊎◌, ℕ, List, Option, inr, subst}
-use Rattle.wb_certify.specs.Kept.{ExtensionView}
+use Rattle.wb_certify_files.specs.Kept.{ExtensionView}
 use Rattle.wb_compose_texts.specs.Unions.{all_resolved}
 use Rattle.wb_operations.specs.Operations.{OperationSignature}
 use Rattle.wb_program_words.specs.Asked.{texts}

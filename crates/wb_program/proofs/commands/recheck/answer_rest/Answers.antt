@@ -1,7 +1,7 @@
 -- Where an extension is named it has the report of its checks, and else the host has its.
 use Rattle.std.proofs.Common.{◌≡◌, ◌∷◌, ◌⊎◌, ℕ, List, Some, None, drop, arith, subst}
 use Rattle.std.proofs.lemmas.Grind.{common_steps}
-use Rattle.wb_recheck_contents.specs.Extensions.{IsRecheckedNamed, IsRefusedExtension}
+use Rattle.wb_certify_files.specs.RecheckedExtensions.{IsRecheckedNamed, IsRefusedExtension}
 use Rattle.wb_program_words.specs.Asked.{texts}
 use Rattle.wb_program.specs.Commands.Recheck.{extension_reads}
 use Rattle.wb_program.specs.Inner.Pairs.{IsFound}

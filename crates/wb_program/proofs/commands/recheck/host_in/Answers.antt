@@ -1,9 +1,9 @@
 -- A file that is too long is refused for that.
 use Rattle.std.proofs.Common.{subst, sym}
 use Rattle.wb_certify_files.specs.declared.extension_refusal.FileRefusal.TheVariants as f
-use Rattle.wb_recheck_contents.specs.Hosts.{IsRefusedHost}
-use Rattle.wb_recheck_contents.specs.declared.refusal.ContentsRefusal.{ContentsRefusal}
-use Rattle.wb_recheck_contents.specs.declared.refusal.ContentsRefusal.TheVariants as k
+use Rattle.wb_certify_files.specs.RecheckedHosts.{IsRefusedHost}
+use Rattle.wb_certify_files.specs.declared.contents_refusal.ContentsRefusal.{ContentsRefusal}
+use Rattle.wb_certify_files.specs.declared.contents_refusal.ContentsRefusal.TheVariants as k
 use Rattle.wb_report.specs.declared.refusal.Refusal.TheVariants as r
 use Rattle.wb_report.specs.declared.spec_reason.SpecReason.TheVariants as t
 use Rattle.wb_program.specs.Inner.Contents.{ReadIs}

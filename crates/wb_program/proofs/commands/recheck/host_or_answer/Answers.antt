@@ -1,7 +1,7 @@
 -- The host that was found, or the answer for its refusal.
 use Rattle.std.proofs.Common.{◌≡◌, ℕ, List, Ok, IfOk, IfErr, subst}
 use Rattle.std.specs.Result.{IsErrAnd}
-use Rattle.wb_recheck_contents.specs.Hosts.{IsRecheckedHost, IsRefusedHost}
+use Rattle.wb_certify_files.specs.RecheckedHosts.{IsRecheckedHost, IsRefusedHost}
 use Rattle.wb_program.specs.CertificateChecks.{RefusedPair}
 use Rattle.wb_program.specs.Inner.Contents.{ReadIs}
 use Rattle.wb_program.specs.Inner.Pairs.{IsHostBy, IsMadeHost}

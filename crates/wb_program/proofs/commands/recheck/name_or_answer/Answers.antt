@@ -1,7 +1,7 @@
 -- The name that was found, or the answer for a refusal.
 use Rattle.std.proofs.Common.{◌≡◌, ℕ, List, Ok, IfOk, IfErr, subst}
 use Rattle.std.specs.Result.{IsErrAnd}
-use Rattle.wb_recheck_contents.specs.Extensions.{IsRecheckedNamed, IsRefusedExtension}
+use Rattle.wb_certify_files.specs.RecheckedExtensions.{IsRecheckedNamed, IsRefusedExtension}
 use Rattle.wb_program.specs.CertificateChecks.{RefusedPair}
 use Rattle.wb_program.specs.Inner.Contents.{ReadIs}
 use Rattle.wb_program.specs.Inner.Pairs.{IsMade}

@@ -1,6 +1,6 @@
 -- What is made of what was read is made of the files.
 use Rattle.std.proofs.Common.{Err, inl, subst}
-use Rattle.wb_recheck_contents.specs.Extensions.{IsRecheckedNamed, IsRefusedExtension}
+use Rattle.wb_certify_files.specs.RecheckedExtensions.{IsRecheckedNamed, IsRefusedExtension}
 use Rattle.wb_program.specs.Inner.Pairs.{ArePair, IsReadPair}
 use Rattle.wb_program.specs.CertificateChecks.{HasTooLongCertificate}
 use Rattle.wb_program.proofs.MakesLemmas.{answered, exhausted, handed}

@@ -3,7 +3,7 @@ use Rattle.std.proofs.Common.{◌≡◌, ◌∙◌, ℕ, List, Some, ap, sym, su
 use Rattle.wb_report.specs.Lines.{report_of}
 use Rattle.wb_report.specs.declared.outcome.Outcome.TheVariants as o
 use Rattle.wb_report.specs.declared.refusal.Refusal.TheVariants as r
-use Rattle.wb_certify_shown.specs.Shows.{written_reason, of_spec}
+use Rattle.wb_certify_files.specs.Shows.{written_reason, of_spec}
 use Rattle.wb_program.specs.Checks.{Ends}
 use Rattle.wb_program.specs.declared.status.Status.TheVariants.{SpecRefused}
 use Rattle.wb_program.proofs.StopLemmas.{on_both_ok}

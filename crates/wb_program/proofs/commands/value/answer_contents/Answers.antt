@@ -1,7 +1,7 @@
 -- What was read is a term, and its answer is shown.
 use Rattle.std.proofs.Common.{ℕ, List, IfOk, sym, subst}
 use Rattle.wb_operations.specs.Operations.{Operations}
-use Rattle.wb_eval_root.specs.Answers.{IsRootAnswer}
+use Rattle.wb_compose_texts.specs.RootAnswers.{IsRootAnswer}
 use Rattle.wb_program.specs.Inner.Contents.{ReadText}
 use Rattle.wb_program.specs.declared.files.Contents.{Contents}
 use Rattle.wb_program.proofs.StopLemmas.{on_ok}

@@ -1,7 +1,7 @@
 use Rattle.std.proofs.Common.{◌≡◌, Some, subst}
 use Rattle.wb_base.specs.Grammar.{GrammarView}
-use Rattle.wb_determinism_host.specs.Hosts.{AreHostParts}
-use Rattle.wb_certify_host.specs.Hosts.{CertifiedView, IsCertified}
+use Rattle.wb_certify.specs.DeterministicHosts.{AreHostParts}
+use Rattle.wb_certify.specs.Hosts.{CertifiedView, IsCertified}
 use Rattle.wb_recheck.proofs.rechecked.RecheckedHost.parts.Goals as goal
 
 pub returns-clause-of_grammar : goal.returns-clause-of_grammar

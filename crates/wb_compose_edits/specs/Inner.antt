@@ -1,4 +1,0 @@
--- lines that are gathered
-pub mod Gathered
--- how far edits have come, and where they halt
-pub mod Walks

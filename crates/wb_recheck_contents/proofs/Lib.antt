@@ -1,7 +1,0 @@
-pub mod CallerLemmas
-mod ExtensionLemmas
-mod HostLemmas
-mod OneExtensionAnswer
-mod OneHostAnswer
-mod ShownLemmas
-mod SortLemmas

@@ -1,2 +1,0 @@
--- what is shown of refusals
-pub mod Shown

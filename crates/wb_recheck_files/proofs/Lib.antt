@@ -1,4 +1,0 @@
-mod FitLemmas
-mod LengthLemmas
-mod SmallLemmas
-mod TextLemmas
