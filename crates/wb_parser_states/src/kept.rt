@@ -11,7 +11,7 @@ use std::alloc::Global;
 use wb_base::push;
 
 // How many places there are for kept ends.
-const PLACES: usize = 8_192;
+const PLACES: usize = 16_384;
 
 // States and left sides from here on aren't kept.
 const LIMIT: usize = 1_048_576;

@@ -8,7 +8,7 @@ use crate::HostReading;
 use crate::ahead::{Ahead, ahead_of};
 use std::alloc::AllocError;
 use wb_parser_states::{Outcome, Reductions, reduce_states, top};
-use wb_scan::{Language, scan};
+use wb_scan::{Language, scan_inline};
 use wb_termset::TermSet;
 
 // What became of one leaf.
@@ -37,7 +37,7 @@ pub(crate) fn take_leaf(
     ensures sound { IfOk result (StaysSound language.now (length text.now) at states.new.items) }
     ensures reductions { AreReductions language.now.language.grammar language.now.tables reductions.new }
 {
-    match ahead_of(markers, scan(language, top(states), text, at)) {
+    match ahead_of(markers, scan_inline(language, top(states), text, at)) {
         Ahead::Marker {
             at: place,
             terminal,

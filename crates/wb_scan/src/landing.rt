@@ -90,7 +90,7 @@ fn goes_on(automaton: &Automaton, state: usize) -> bool
 }
 
 // Whether a form is accepted at a state, and whether no match goes on.
-#[inline]
+#[inline(always)]
 pub(crate) fn mark_at(automaton: &Automaton, landings: &[Landing], state: usize) -> Landing
     requires landings { AreMarked automaton.now landings.now }
     requires state { state < length automaton.now.paths }
@@ -108,7 +108,7 @@ pub(crate) fn mark_at(automaton: &Automaton, landings: &[Landing], state: usize)
 }
 
 // The form that wins at a state.
-#[inline]
+#[inline(always)]
 pub(crate) fn winner_at(
     automaton: &Automaton,
     landings: &[Landing],

@@ -21,7 +21,7 @@ mod winner;
 pub use bare_language::language_of;
 pub use language::Language;
 pub use laws::bare_refusals_law;
-pub use next_token::{ExaminedScan, examined, scan, scan_examined};
+pub use next_token::{ExaminedScan, examined, scan, scan_examined, scan_inline};
 pub use refusal::LanguageRefusal;
 pub use scanned::Scanned;
 pub use wb_scan_theory::Form;

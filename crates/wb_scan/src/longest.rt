@@ -26,6 +26,7 @@ pub(crate) struct Reach {
 }
 
 // The longest match of the forms that are considered at a state.
+#[inline(always)]
 pub(crate) fn longest(
     automaton: &Automaton,
     landings: &[Landing],

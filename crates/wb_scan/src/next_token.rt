@@ -32,6 +32,17 @@ pub fn scan(language: &Language, state: usize, text: &[u8], at: usize) -> Scanne
     scan_examined(language, state, text, at).scanned
 }
 
+/// The same as `scan`, laid into the loop of its caller, so that its answer isn't handed on in memory.
+#[inline(always)]
+pub fn scan_inline(language: &Language, state: usize, text: &[u8], at: usize) -> Scanned
+    requires state { state < size_of language.now.tables }
+    requires at { at ≤ length text.now }
+    ensures next { (prefix : List Symbol) → IsPrefixOf language.now.language.grammar language.now.tables state prefix → NextToken language.now.language text.now prefix at (next_in text.now result) }
+    ensures inside { IsInside language.now.language.grammar.terminals (length text.now) at result }
+{
+    scan_examined(language, state, text, at).scanned
+}
+
 /// What is next on a text, and how far it was looked at.
 #[derive(Clone, Copy, Debug, PartialEq, Eq)]
 pub struct ExaminedScan {
@@ -44,6 +55,7 @@ pub struct ExaminedScan {
 /// What is next on a text at a state from a place on, as `scan` says it, and before which place the bytes were looked at.
 ///
 /// Each text with the same bytes before that place, and no others where its length is less, has the same next at this state and place.
+#[inline(always)]
 pub fn scan_examined(language: &Language, state: usize, text: &[u8], at: usize) -> ExaminedScan
     requires state { state < size_of language.now.tables }
     requires at { at ≤ length text.now }
@@ -116,6 +128,7 @@ struct Sought {
 }
 
 // Looks for the form that wins from a place on.
+#[inline(always)]
 fn sought_at(language: &Language, state: usize, text: &[u8], at: usize) -> Sought
     requires state { state < size_of language.now.tables }
     requires at { at ≤ length text.now }
@@ -157,6 +170,7 @@ fn sought_at(language: &Language, state: usize, text: &[u8], at: usize) -> Sough
 }
 
 // The token of a form that was found.
+#[inline(always)]
 fn token_at(language: &Language, at: usize, found: Found) -> Scanned
     requires form { found.form < length language.now.language.forms }
     requires prefix { (form : Form) → slice_get language.now.language.forms found.form ≡ Some form → at + length form.prefix ≤ found.end }

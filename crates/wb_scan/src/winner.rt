@@ -21,6 +21,7 @@ pub(crate) struct Ranking<'a> {
 }
 
 // Of these places of forms, that of the form that beats each other one.
+#[inline(never)]
 pub(crate) fn winner(ranking: &Ranking, places: &[usize]) -> Option<usize>
     requires { All (λ p. p < length (forms_of (ranked_by ranking.now))) places.now }
     ensures some { IfSome result (IsChampion (ranked_by ranking.now) places.now) }
