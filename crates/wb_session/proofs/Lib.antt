@@ -4,3 +4,4 @@ pub mod StepLemmas
 pub mod PlaceLemmas
 pub mod LeafLemmas
 pub mod KeptLemmas
+pub mod VersionLemmas

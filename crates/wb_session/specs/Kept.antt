@@ -58,3 +58,8 @@ pub record IsMemory (parts : LanguageParts) (memory : Memory) : Type 0 where
   pub sound : IsSound parts (roots_of memory.stacks)
   pub kept : AreCheckpoints parts memory.text.items (roots_of memory.stacks) memory.places.items memory.checkpoints.items
   pub placed : HasPlaces parts.language memory.text.items memory.places.items
+
+-- the room for the next text and its places begins as what is there does
+pub record AreCommon (memory : Memory) : Type 0 where
+  pub bytes : take memory.common memory.spare.items ≡ take memory.common memory.text.items
+  pub places : take memory.common_places memory.spare_places.items ≡ take memory.common_places memory.places.items

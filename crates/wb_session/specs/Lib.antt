@@ -13,5 +13,7 @@ pub use Rattle.wb_parser.specs.Parses
 pub use Rattle.wb_parser.specs.declared.parsed
 -- words of `wb_session_theory` that callers speak of
 pub use Rattle.wb_session_theory.specs.Edits
+-- texts that are kept apart from their language
+pub mod KeptTexts
 -- words of private functions, and what loops keep
 pub mod Inner

@@ -1,24 +1,51 @@
-//! Which text is made by an edit?
+//! How is the next version of a list made beside the one that is there? Of a text, and of the places of its leaves, what both have in common
+//! at their beginning stays where it is.
 
-ghost use Rattle.std.specs.Prelude.{◌≡◌, ◌≤◌, OnOk, length};
-ghost use Rattle.wb_session_theory.specs.Edits.{edited};
+ghost use Rattle.std.specs.Prelude.{◌≡◌, ◌≤◌, ◌++◌, OnOk, drop, length, take};
 
 use std::alloc::AllocError;
 
-// Makes the text in which the bytes from the one place to the other are these, in the room of what was there.
-pub(crate) fn make_edited(
+// Makes the other list the first elements of a list, so many of them. How many of these it has in common with the list is told before and
+// after, also where memory runs out.
+pub(crate) fn take_first<T: Copy + Drop>(
+    list: &[T],
+    other: &mut Vec<T>,
+    common: &mut usize,
+    count: usize,
+) -> Result<(), AllocError>
+    requires common { take common.old other.old.items ≡ take common.old list.now }
+    requires count { count ≤ length list.now }
+    ensures common { take common.new other.new.items ≡ take common.new list.now }
+    ensures ok { OnOk result (other.new.items ≡ take count list.now) }
+    ensures count { OnOk result (common.new ≡ count) }
+{
+    let shared = earlier(*common, count);
+    other.truncate(shared);
+    *common = shared;
+    other.extend_from_slice(&list[shared..count])?;
+    *common = count;
+    Ok(())
+}
+
+// The earlier of two places.
+fn earlier(one: usize, other: usize) -> usize
+    ensures one { result ≤ one }
+    ensures other { result ≤ other }
+{
+    if one < other { one } else { other }
+}
+
+// Adds to the beginning of a text the bytes that an edit puts there, and what of the text is from a place on.
+pub(crate) fn add_rest(
     text: &[u8],
     made: &mut Vec<u8>,
-    from: usize,
-    to: usize,
     with: &[u8],
+    to: usize,
 ) -> Result<(), AllocError>
-    requires order { from ≤ to }
-    requires within { to ≤ length text.now }
-    ensures { OnOk result (made.new.items ≡ edited text.now from to with.now) }
+    requires { to ≤ length text.now }
+    ensures ok { OnOk result (made.new.items ≡ made.old.items ++ with.now ++ drop to text.now) }
+    ensures first { take (length made.old.items) made.new.items ≡ made.old.items }
 {
-    made.clear();
-    made.extend_from_slice(&text[..from])?;
     made.extend_from_slice(with)?;
     made.extend_from_slice(&text[to..])?;
     Ok(())

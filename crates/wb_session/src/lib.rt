@@ -7,6 +7,7 @@
 mod checkpoint;
 mod edited_text;
 mod going_on;
+mod kept_text;
 mod leaf;
 mod memory;
 mod place;
@@ -16,6 +17,7 @@ mod session;
 mod stacks;
 mod step;
 
+pub use kept_text::KeptText;
 pub use place::LeafPlace;
 pub use refusal::EditRefusal;
 pub use session::{Edited, Session};

@@ -5,11 +5,11 @@ ghost use Rattle.wb_scan_theory.specs.Facts.{IsLanguage};
 ghost use Rattle.wb_parser.specs.Parses.{Extends, IsParsed};
 ghost use Rattle.wb_session_theory.specs.Edits.{edited};
 ghost use Rattle.wb_session.specs.Places.{KeepsPlaces};
-ghost use Rattle.wb_session.specs.Kept.{IsMemory};
+ghost use Rattle.wb_session.specs.Kept.{AreCommon, IsMemory};
 ghost use Rattle.wb_session.specs.Inner.Memories.{IsNew};
 
 use crate::checkpoint::Checkpoint;
-use crate::edited_text::make_edited;
+use crate::edited_text::{add_rest, take_first};
 use crate::going_on::{go_back, go_on};
 use crate::stacks::Stacks;
 use crate::{Edited, LeafPlace};
@@ -20,14 +20,16 @@ use wb_parser::Parsed;
 use wb_parser_states::{Rule, rules_of};
 use wb_scan::Language;
 
-// The left sides and widths of productions; a text with the places of its leaves, and room for the next one with its; and checkpoints with
-// their stacks.
+// The left sides and widths of productions; a text with the places of its leaves, and room for the next one with its, each with how many of
+// the first elements are there already; and checkpoints with their stacks.
 pub(crate) struct Memory {
     pub(crate) rules: Vec<Rule>,
     pub(crate) text: Vec<u8>,
     pub(crate) spare: Vec<u8>,
+    pub(crate) common: usize,
     pub(crate) places: Vec<LeafPlace>,
     pub(crate) spare_places: Vec<LeafPlace>,
+    pub(crate) common_places: usize,
     pub(crate) checkpoints: Vec<Checkpoint>,
     pub(crate) stacks: Stacks,
 }
@@ -38,8 +40,10 @@ impl Drop for Memory {
             rules,
             text,
             spare,
+            common: _,
             places,
             spare_places,
+            common_places: _,
             checkpoints,
             stacks,
         } = self;
@@ -62,8 +66,10 @@ impl Memory {
             rules: Vec::new(alloc),
             text: Vec::new(alloc),
             spare: Vec::new(alloc),
+            common: 0,
             places: Vec::new(alloc),
             spare_places: Vec::new(alloc),
+            common_places: 0,
             checkpoints: Vec::new(alloc),
             stacks: Stacks::new(alloc),
         }
@@ -80,6 +86,7 @@ pub(crate) fn read_text(
     requires { IsNew memory.old }
     ensures text { OnOk result (memory.new.text.items ≡ text.now) }
     ensures memory { OnOk result (IsMemory language.now memory.new) }
+    ensures common { OnOk result (AreCommon memory.new) }
     ensures parsed { IfOk result (IsParsed language.now.language text.now memory.new.stacks.store) }
     ensures language { OnOk result (IsLanguage language.now.language) }
 {
@@ -120,12 +127,14 @@ pub(crate) fn reread_text(
     with: &[u8],
 ) -> Result<Reread, AllocError>
     requires memory { IsMemory language.now memory.old }
+    requires common { AreCommon memory.old }
     requires order { from ≤ to }
     requires within { to ≤ length memory.old.text.items }
     ensures text { OnOk result (memory.new.text.items ≡ edited memory.old.text.items from to with.now) }
     ensures err { OnErr result (memory.new.text.items ≡ memory.old.text.items) }
     ensures err_places { OnErr result (memory.new.places.items ≡ memory.old.places.items) }
     ensures memory { IsMemory language.now memory.new }
+    ensures common { AreCommon memory.new }
     ensures parsed { IfOk result (λ reread. IsParsed language.now.language memory.new.text.items memory.new.stacks.store reread.parsed) }
     ensures store { Extends memory.old.stacks.store memory.new.stacks.store }
     ensures built { IfOk result (λ reread. length memory.new.stacks.store ≡ length memory.old.stacks.store + reread.edited.built) }
@@ -133,11 +142,17 @@ pub(crate) fn reread_text(
     ensures kept { IfOk result (λ reread. KeepsPlaces reread.edited.kept memory.old.places.items memory.new.places.items) }
     ensures scanned { IfOk result (λ reread. reread.edited.scanned + reread.edited.kept ≡ length memory.new.places.items + 1) }
 {
-    make_edited(&memory.text, &mut memory.spare, from, to, with)?;
+    take_first(&memory.text, &mut memory.spare, &mut memory.common, from)?;
+    add_rest(&memory.text, &mut memory.spare, with, to)?;
     let before = memory.stacks.store.len();
     let point = go_back(&mut memory.checkpoints, &mut memory.stacks, from);
     let kept = memory.checkpoints.len() - 1;
-    take_first(&memory.places, &mut memory.spare_places, kept)?;
+    take_first(
+        &memory.places,
+        &mut memory.spare_places,
+        &mut memory.common_places,
+        kept,
+    )?;
     let parsed = go_on(
         language,
         &memory.rules,
@@ -156,18 +171,4 @@ pub(crate) fn reread_text(
         kept,
     };
     Ok(Reread { parsed, edited })
-}
-
-// Copies the first places, so many of them, into the room of others.
-fn take_first(
-    places: &[LeafPlace],
-    first: &mut Vec<LeafPlace>,
-    count: usize,
-) -> Result<(), AllocError>
-    requires { count ≤ length places.now }
-    ensures { OnOk result (first.new.items ≡ take count places.now) }
-{
-    first.clear();
-    first.extend_from_slice(&places[..count])?;
-    Ok(())
 }

@@ -1,6 +1,6 @@
 //! Does a session of a long text take many edits, each of which rests on little, and is no text longer than its limit?
 //!
-//! A session that parses anew builds 500,000 nodes for each of 2,000 edits, and its store fits no machine.
+//! A session that parses anew builds 500,000 nodes for each of 5,000 edits, and its store fits no machine.
 
 ghost use Rattle.std.specs.Prelude.{◌≤◌, length};
 
@@ -41,7 +41,7 @@ fn stays_small_in(alloc: Global, language: &Language, signatures: &Signatures, t
 {
     match Session::open(alloc, language, text) {
         Ok(mut session) => {
-            takes_edits(&mut session, 999_998, 999_999, 2_000)
+            takes_edits(&mut session, 999_998, 999_999, 5_000)
                 && agrees(alloc, language, signatures, &session)
         }
         Err(_) => false,
@@ -77,7 +77,7 @@ fn stays_small(alloc: Global) -> bool {
 }
 
 #[test]
-fn two_thousand_edits_of_a_long_text_are_done(rt: HostRuntime) {
+fn five_thousand_edits_of_a_long_text_are_done(rt: HostRuntime) {
     assert!(rt; stays_small(rt.alloc()));
 }
 

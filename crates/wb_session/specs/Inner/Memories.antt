@@ -5,7 +5,9 @@ use Rattle.wb_session.specs.declared.memory.Memory.{Memory}
 -- nothing is there yet
 pub record IsNew (memory : Memory) : Type 0 where
   pub text : memory.text.items ≡ []
+  pub common : memory.common ≡ 0
   pub places : memory.places.items ≡ []
+  pub common_places : memory.common_places ≡ 0
   pub checkpoints : memory.checkpoints.items ≡ []
   pub entries : memory.stacks.entries.items ≡ []
   pub values : memory.stacks.values ≡ []

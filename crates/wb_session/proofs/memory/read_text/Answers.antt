@@ -1,8 +1,15 @@
 use Rattle.std.proofs.Common.{◌∙◌, ◌++◌, ◌∷◌, [], ap}
 use Rattle.wb_session.proofs.KeptLemmas.{checkpoints_start}
+use Rattle.wb_session.proofs.VersionLemmas.{none_common, on_ok}
 use Rattle.wb_session.proofs.memory.read_text.Goals as goal
 
 pub go_on-requires-clause-kept : goal.go_on-requires-clause-kept
 go_on-requires-clause-kept c =
     checkpoints_start c.args.language.now _ c.args.memory.now.places.items c.push.new.list.items
     (c.in_ok-push.ensures.ok ∙ ap (λ z. z ++ (record { at = 0; reach = 0; link = 0 }) ∷ []) c.requires.checkpoints)
+
+pub returns-clause-common : goal.returns-clause-common
+returns-clause-common c = on_ok c.go_on.result (record {
+  bytes = none_common _ _ _ c.requires.common;
+  places = none_common _ _ _ c.requires.common_places;
+})
