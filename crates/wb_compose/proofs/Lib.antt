@@ -17,6 +17,7 @@ pub mod AgreementLemmas
 pub mod HostLanguageLemmas
 mod LendingLemmas
 mod ComposedLemmas
+pub mod LocalLemmas
 mod CutRows
 mod ComposedAttributes
 -- lemmas of `wb_compose_theory_lists` that callers cite

@@ -18,6 +18,8 @@ pub mod AttributeLaws
 pub mod United
 -- the language that is composed of a certified host and certified extensions
 pub mod Composed
+-- that its lookaheads are those of the host by itself, or of the host with one extension
+pub mod Local
 -- the language of a host by itself, which is composed of no extensions
 pub mod HostLanguage
 -- that there is a language, and in it an answer to each text

@@ -3,6 +3,7 @@
 ghost use Rattle.std.specs.Prelude.{◌≡◌, [], All, IfOk, IsSome, map};
 ghost use Rattle.wb_base.specs.Different.{Differ};
 ghost use Rattle.wb_compose.specs.Composed.{IsComposed, IsWith, name_of};
+ghost use Rattle.wb_compose.specs.Local.{HasLocalLookaheads};
 ghost use Rattle.wb_syntax_resolved.specs.Resolved.{IsResolved};
 ghost use Rattle.wb_compose.specs.Inner.Lending.{IsLentHost};
 
@@ -43,8 +44,24 @@ impl Composed {
 
 /// The language of a host and of extensions, each certified with this host over the same operations.
 ///
-/// Terminals are numbered by the host, then by each extension, and then comes the host's layout. No clause bounds the time.
+/// Terminals are numbered by the host, then by each extension, and then comes the host's layout. The lookaheads of an item are those that it
+/// has in the host by itself, or in the host with one of the extensions, with all markers in the place of each hole. No clause bounds the
+/// time.
 pub fn compose(
+    alloc: Global,
+    host: &CertifiedHost,
+    extensions: &[CertifiedExtension],
+) -> Result<Composed, AllocError>
+    requires each { All (IsWith host.now) extensions.now }
+    requires names { Differ (map name_of extensions.now) }
+    ensures composed { IfOk result (λ made. IsComposed host.now extensions.now made.language.language made.withdrawn.items) }
+    ensures local { IfOk result (λ made. HasLocalLookaheads host.now extensions.now made.language.language) }
+{
+    by_union(alloc, host, extensions)
+}
+
+// The language, by the kernels and lookaheads of the union's grammar.
+fn by_union(
     alloc: Global,
     host: &CertifiedHost,
     extensions: &[CertifiedExtension],

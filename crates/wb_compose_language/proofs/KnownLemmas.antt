@@ -106,7 +106,7 @@ text_answer patterns texts one other same p q are is at at' =
       λ s. is.answer.1 (sym (a.only s.text s.one) ∙ b.only s.text s.other),
     )
 
-match_tree : (patterns : List Tree) (k : ℕ) (p : Tree) (text : List ℕ) → slice_get patterns k ≡ Some p → IsMatch patterns k text → Matches p text
+pub match_tree : (patterns : List Tree) (k : ℕ) (p : Tree) (text : List ℕ) → slice_get patterns k ≡ Some p → IsMatch patterns k text → Matches p text
 match_tree patterns k p text at m = subst (λ z. Matches z text) (same_Some m.tree p (sym m.at ∙ at)) m.matches
 
 -- and what is told of two

@@ -2,6 +2,7 @@ pub mod GrammarLemmas
 pub mod FormLemmas
 pub mod KindLemmas
 pub mod KnownLemmas
+mod TextMachineLemmas
 pub mod WithdrawnLemmas
 pub mod MadeLemmas
 pub mod WholeLemmas

@@ -1,5 +1,7 @@
 -- how many symbols a union has
 pub mod Totals
+-- an automaton by which expressions are asked for texts
+pub mod TextMachines
 -- what is known of own terminals
 pub mod Known
 -- what is known of a host with extensions while forms are made

@@ -1,18 +1,20 @@
 //! Which terminals of extensions share a text?
 //!
-//! The own terminals of all extensions are listed one after another. Two that are one text each are compared as texts, and all other pairs
-//! that are asked later are asked at once, by one walk.
+//! The own terminals of all extensions are listed one after another. Two that are one text each are compared as texts. Where one of two is,
+//! an automaton of the other is followed along it (`text_machine`). All other pairs that are asked later are asked at once, by one walk.
 
 ghost use Rattle.std.specs.Prelude.{◌≡◌, ◌<◌, ◌↔◌, All, IfOk, IfSome, IsTrue, List, OnOk, Some, length, slice_get, true};
+ghost use Rattle.wb_automata.specs.Automata.{IsMatch};
 ghost use Rattle.wb_automata.specs.Sharing.{ArePairsBelow, Share};
 ghost use Rattle.wb_regex.specs.Matches.{ShareText};
 ghost use Rattle.wb_regex.specs.Tree.{Tree};
 ghost use Rattle.wb_compose_language.specs.Inner.Known.{AreBases, ArePatternsAdded, AreTexts, AreTold, HasOwnRows, IsAdded, IsKnown, IsOneText, IsText};
 
 use crate::Addition;
+use crate::text_machine::is_match;
 use indexmap::IndexSet;
 use std::alloc::{AllocError, Global};
-use wb_automata::{Overlap, only_text, overlap, sharing};
+use wb_automata::{Automaton, Overlap, only_text, overlap, sharing};
 use wb_base::{Sequence, push};
 use wb_regex::Regex;
 use wb_syntax_resolved::TerminalKind;
@@ -36,11 +38,12 @@ pub(crate) struct Told {
     places: IndexSet<(usize, usize)>,
 }
 
-// What is known of them: the texts of those that are one text alone, and what is told of pairs.
+// What is known of them: the texts of those that are one text alone, an automaton of all others, and what is told of pairs.
 #[derive(Clone, Copy)]
 pub(crate) struct Known<'a> {
     pub(crate) owns: &'a Owns,
     pub(crate) texts: &'a [Option<Sequence<u8>>],
+    pub(crate) machine: &'a Automaton,
     pub(crate) told: &'a Told,
 }
 
@@ -107,7 +110,7 @@ pub(crate) fn texts_of(
     Ok(texts)
 }
 
-// What is told of all pairs of a marker and a terminal of another extension of which one isn't a text alone.
+// What is told of all pairs of a marker and a terminal of another extension of which neither is a text alone.
 pub(crate) fn told_of(
     alloc: Global,
     owns: &Owns,
@@ -189,7 +192,8 @@ fn group_of(owns: &Owns, place: usize) -> usize {
 
 fn is_asked(owns: &Owns, texts: &[Option<Sequence<u8>>], marker: usize, other: usize) -> bool {
     group_of(owns, marker) != group_of(owns, other)
-        && !(is_plain(texts, marker) && is_plain(texts, other))
+        && !is_plain(texts, marker)
+        && !is_plain(texts, other)
 }
 
 // Whether two of them match some text.
@@ -206,6 +210,9 @@ pub(crate) fn shares(
 {
     if let Some(same) = same_text(known.texts, one, other) {
         return Ok(same);
+    }
+    if let Some(matched) = matched_text(known, one, other) {
+        return Ok(matched);
     }
     if let Some(flag) = told_flag(known.told, one, other) {
         return Ok(flag);
@@ -232,6 +239,34 @@ fn is_text(text: &[u8], other: &Option<Sequence<u8>>) -> Option<bool>
     match other {
         None => None,
         Some(found) => Some(text == found.as_slice()),
+    }
+}
+
+// Whether they share a text, where one of them is a text alone and the other isn't.
+fn matched_text(known: &Known, one: usize, other: usize) -> Option<bool>
+    requires known { IsKnown known.now }
+    requires one { one < length known.now.owns.now.patterns.items }
+    requires other { other < length known.now.owns.now.patterns.items }
+    ensures { IfSome result (λ matched. (p q : Tree) → slice_get known.now.owns.now.patterns.items one ≡ Some p → slice_get known.now.owns.now.patterns.items other ≡ Some q → (matched ≡ true) ↔ ShareText p q) }
+{
+    match &known.texts[one] {
+        Some(text) => matched_by(known, text.as_slice(), other),
+        None => match &known.texts[other] {
+            Some(text) => matched_by(known, text.as_slice(), one),
+            None => None,
+        },
+    }
+}
+
+// Whether an expression that isn't a text alone matches a text.
+fn matched_by(known: &Known, text: &[u8], other: usize) -> Option<bool>
+    requires known { IsKnown known.now }
+    requires other { other < length known.now.owns.now.patterns.items }
+    ensures { IfSome result (λ matched. (matched ≡ true) ↔ IsMatch known.now.owns.now.patterns.items other text.now) }
+{
+    match &known.texts[other] {
+        Some(_) => None,
+        None => Some(is_match(known.machine, other, text)),
     }
 }
 

@@ -14,6 +14,7 @@ mod own_productions;
 mod preferences;
 mod row;
 mod tables;
+mod text_machine;
 mod union_forms;
 mod united;
 mod withdrawn;

@@ -7,16 +7,19 @@ ghost use Rattle.wb_compose_theory_language.specs.Languages.{AreForms, AreWithdr
 ghost use Rattle.wb_compose_language.specs.Expressions.{AreExpressions};
 ghost use Rattle.wb_compose_language.specs.Lents.{IsUnitable, all_in, own_in};
 ghost use Rattle.wb_compose_language.specs.Inner.FormsMade.{AreLayoutAdded, AreMadeBelow};
-ghost use Rattle.wb_compose_language.specs.Inner.Known.{AreBases};
+ghost use Rattle.wb_compose_language.specs.Inner.Known.{AreBases, AreTexts};
 ghost use Rattle.wb_compose_language.specs.Inner.Opened.{IsOpened, union_terminals};
+ghost use Rattle.wb_compose_language.specs.Inner.TextMachines.{IsTextMachine};
 
 use crate::Lent;
 use crate::extension_forms::add_extension;
 use crate::known::{Known, Owns, owns_of, texts_of, told_of};
 use crate::own_productions::sum;
+use crate::text_machine::text_machine;
 use crate::written::add_bare;
 use std::alloc::{AllocError, Global};
-use wb_base::push;
+use wb_automata::Automaton;
+use wb_base::{Sequence, push};
 use wb_regex::Regex;
 use wb_scan_theory::Form;
 
@@ -32,8 +35,8 @@ pub struct UnitedForms {
 
 /// The forms of the union of a host and its extensions.
 ///
-/// Markers and terminals of other extensions that are one text each are compared as texts, and all other pairs of them by one walk over
-/// pairs of places.
+/// Markers and terminals of other extensions that are one text each are compared as texts; where one of two is, the other is read along it;
+/// and all other pairs of them are met by one walk over pairs of places.
 pub fn united_forms(alloc: Global, lent: &Lent) -> Result<UnitedForms, AllocError>
     requires { IsUnitable lent.now }
     ensures forms { IfOk result (λ made. AreForms lent.now.grammar.now lent.now.extensible.now (own_in lent.now) (all_in lent.now) made.forms.items) }
@@ -60,19 +63,62 @@ fn forms_of(alloc: Global, lent: &Lent, owns: &Owns) -> Result<UnitedForms, Allo
     ensures withdrawn { IfOk result (λ made. AreWithdrawn lent.now.grammar.now lent.now.extensible.now (own_in lent.now) (all_in lent.now) made.withdrawn.items) }
 {
     let texts = texts_of(alloc, owns.patterns.as_slice())?;
-    let told = told_of(alloc, owns, texts.as_slice())?;
-    let known = Known {
-        owns,
-        texts: texts.as_slice(),
-        told: &told,
-    };
-    forms_with(
+    let made = forms_by(alloc, lent, owns, texts.as_slice());
+    drop(texts);
+    made
+}
+
+// Like `forms_of`, where these are texts alone.
+fn forms_by(
+    alloc: Global,
+    lent: &Lent,
+    owns: &Owns,
+    texts: &[Option<Sequence<u8>>],
+) -> Result<UnitedForms, AllocError>
+    requires unitable { IsUnitable lent.now }
+    requires owns { AreBases lent.now.grammar.now.terminals lent.now.extensions.now owns.now.patterns.items owns.now.bases.items }
+    requires texts { AreTexts owns.now.patterns.items texts.now }
+    ensures forms { IfOk result (λ made. AreForms lent.now.grammar.now lent.now.extensible.now (own_in lent.now) (all_in lent.now) made.forms.items) }
+    ensures expressions { IfOk result (λ made. AreExpressions lent.now made.forms.items made.expressions.items) }
+    ensures withdrawn { IfOk result (λ made. AreWithdrawn lent.now.grammar.now lent.now.extensible.now (own_in lent.now) (all_in lent.now) made.withdrawn.items) }
+{
+    let machine = text_machine(alloc, owns.patterns.as_slice(), texts)?;
+    let made = forms_told(alloc, lent, owns, texts, &machine);
+    drop(machine);
+    made
+}
+
+// Like `forms_by`, with the automaton of all others.
+fn forms_told(
+    alloc: Global,
+    lent: &Lent,
+    owns: &Owns,
+    texts: &[Option<Sequence<u8>>],
+    machine: &Automaton,
+) -> Result<UnitedForms, AllocError>
+    requires unitable { IsUnitable lent.now }
+    requires owns { AreBases lent.now.grammar.now.terminals lent.now.extensions.now owns.now.patterns.items owns.now.bases.items }
+    requires texts { AreTexts owns.now.patterns.items texts.now }
+    requires machine { IsTextMachine owns.now.patterns.items texts.now machine.now }
+    ensures forms { IfOk result (λ made. AreForms lent.now.grammar.now lent.now.extensible.now (own_in lent.now) (all_in lent.now) made.forms.items) }
+    ensures expressions { IfOk result (λ made. AreExpressions lent.now made.forms.items made.expressions.items) }
+    ensures withdrawn { IfOk result (λ made. AreWithdrawn lent.now.grammar.now lent.now.extensible.now (own_in lent.now) (all_in lent.now) made.withdrawn.items) }
+{
+    let told = told_of(alloc, owns, texts)?;
+    let made = forms_with(
         alloc,
         &Opened {
             lent: *lent,
-            known: &known,
+            known: &Known {
+                owns,
+                texts,
+                machine,
+                told: &told,
+            },
         },
-    )
+    );
+    drop(told);
+    made
 }
 
 // Like `united_forms`, where this is known.

@@ -6,6 +6,7 @@ use Rattle.wb_syntax_resolved.specs.declared.terminal.Terminal.{Terminal}
 use Rattle.wb_compose_language.specs.declared.addition.Addition.{Addition}
 use Rattle.wb_compose_language.specs.declared.known.Known.{Known}
 use Rattle.wb_compose_language.specs.declared.known.Told.{Told}
+use Rattle.wb_compose_language.specs.Inner.TextMachines.{IsTextMachine}
 
 -- each terminal of the grammar has a row
 abbrev pub HasTerminals : Addition → Type 0
@@ -50,9 +51,10 @@ pub record AreTexts (patterns : List Tree) (texts : List (Option (List ℕ))) : 
 abbrev pub AreTold : List Tree → Told → Type 0
 AreTold patterns told = AreSharing patterns told.pairs.items told.flags.items
 
--- the texts and what is told are those of the expressions
+-- the texts, the automaton and what is told are those of the expressions
 pub record IsKnown (known : Known) : Type 0 where
   pub texts : AreTexts known.owns.now.patterns.items known.texts.now
+  pub machine : IsTextMachine known.owns.now.patterns.items known.texts.now known.machine.now
   pub told : AreTold known.owns.now.patterns.items known.told.now
 
 -- the other is one text alone, and the answer says whether it is this one

@@ -11,4 +11,4 @@ returns-clause-none_withdrawn c =
     let host = c.args.host.now in
     let empty : (made : Composed) → IsComposed host [] made.language.language made.withdrawn.items → made.withdrawn.items ≡ [] =
     λ made is. none_composed host made.language.language made.withdrawn.items is in
-    IfOk-weaker c.compose.result _ _ empty c.compose.ensures
+    IfOk-weaker c.compose.result _ _ empty c.compose.ensures.composed
