@@ -2,22 +2,40 @@
 
 ghost use Rattle.std.specs.Prelude.{◌≡◌, IfOk};
 ghost use Rattle.wb_compose_texts.specs.Composed.{IsComposed};
-ghost use Rattle.wb_compose_files.specs.Languages.{AreSignatures, IsTextLanguage};
+ghost use Rattle.wb_compose_files.specs.Languages.{AreSignatures, AreTerminals, IsTextLanguage};
 ghost use Rattle.wb_compose_files.specs.Inner.Fields.{parts_of};
 
 use crate::Certified;
 use std::alloc::{AllocError, Global};
 use std::marker::Model;
 use std::rc::Rc;
-use wb_compose_texts::{Composed, compose, united_signatures};
+use wb_base::{Bytes, Sequence};
+use wb_compose_texts::{Composed, compose, united_signatures, united_terminals};
 use wb_scan::Language;
 use wb_values::Signatures;
 
-// A host and extensions, what is composed of them, and the signatures of the productions.
+// The signatures of the productions of a language, and the printed names of its terminals, by number.
+pub(crate) struct Shown {
+    pub(crate) signatures: Signatures,
+    pub(crate) terminals: Sequence<Bytes>,
+}
+
+impl Drop for Shown {
+    fn drop(self) {
+        let Shown {
+            signatures,
+            terminals,
+        } = self;
+        drop(signatures);
+        drop(terminals);
+    }
+}
+
+// A host and extensions, what is composed of them, and what shows it.
 pub(crate) struct Fields {
     pub(crate) certified: Certified,
     pub(crate) composed: Composed,
-    pub(crate) signatures: Signatures,
+    pub(crate) shown: Shown,
 }
 
 impl Drop for Fields {
@@ -25,15 +43,16 @@ impl Drop for Fields {
         let Fields {
             certified,
             composed,
-            signatures,
+            shown,
         } = self;
         certified.release();
         composed.release();
-        drop(signatures);
+        drop(shown);
     }
 }
 
-/// The language that is composed of a certified host and extensions, beside these, and the signatures of its productions, by number.
+/// The language that is composed of a certified host and extensions, beside these, and the signatures of its productions and the names of
+/// its terminals, by number.
 pub struct TextLanguage {
     fields: Rc<Fields>,
 }
@@ -66,8 +85,8 @@ impl TextLanguage {
     pub fn of(alloc: Global, certified: Certified) -> Result<TextLanguage, AllocError>
         ensures { IfOk result (λ made. made.certified ≡ certified) }
     {
-        match signatures_of(alloc, &certified) {
-            Ok(signatures) => with_signatures(alloc, certified, signatures),
+        match shown_of(alloc, &certified) {
+            Ok(shown) => with_shown(alloc, certified, shown),
             Err(error) => {
                 certified.release();
                 Err(error)
@@ -91,6 +110,13 @@ impl TextLanguage {
         &self.fields.certified
     }
 
+    // What is composed of them.
+    pub(crate) fn composed(&self) -> &Composed
+        ensures { IsComposed self.now.certified.host self.now.certified.extensions result.now.language.language result.now.withdrawn.items }
+    {
+        &self.fields.composed
+    }
+
     /// The language.
     pub fn language(&self) -> &Language
         ensures language { result.now ≡ self.now.language }
@@ -103,17 +129,21 @@ impl TextLanguage {
     pub fn signatures(&self) -> &Signatures
         ensures { result.now ≡ self.now.signatures }
     {
-        &self.fields.signatures
+        &self.fields.shown.signatures
+    }
+
+    /// The printed names of its terminals.
+    pub fn terminals(&self) -> &[Bytes]
+        ensures { result.now ≡ self.now.terminals }
+    {
+        self.fields.shown.terminals.as_slice()
     }
 }
 
-// The language of a certified host with extensions, with the signatures.
-fn with_signatures(
-    alloc: Global,
-    certified: Certified,
-    signatures: Signatures,
-) -> Result<TextLanguage, AllocError>
-    requires { AreSignatures certified signatures }
+// The language of a certified host with extensions, with what shows it.
+fn with_shown(alloc: Global, certified: Certified, shown: Shown) -> Result<TextLanguage, AllocError>
+    requires signatures { AreSignatures certified shown.signatures }
+    requires terminals { AreTerminals certified shown.terminals }
     ensures { IfOk result (λ made. made.certified ≡ certified) }
 {
     match composed_of(alloc, &certified) {
@@ -122,12 +152,12 @@ fn with_signatures(
             Fields {
                 certified,
                 composed,
-                signatures,
+                shown,
             },
         ),
         Err(error) => {
             certified.release();
-            drop(signatures);
+            drop(shown);
             Err(error)
         }
     }
@@ -148,6 +178,31 @@ fn composed_of(alloc: Global, certified: &Certified) -> Result<Composed, AllocEr
     ensures { IfOk result (λ made. IsComposed certified.now.host certified.now.extensions made.language.language made.withdrawn.items) }
 {
     compose(alloc, certified.certified_host(), certified.extensions())
+}
+
+// What shows a host with extensions.
+fn shown_of(alloc: Global, certified: &Certified) -> Result<Shown, AllocError>
+    ensures signatures { IfOk result (λ made. AreSignatures certified.now made.signatures) }
+    ensures terminals { IfOk result (λ made. AreTerminals certified.now made.terminals) }
+{
+    let signatures = signatures_of(alloc, certified)?;
+    match terminals_of(alloc, certified) {
+        Ok(terminals) => Ok(Shown {
+            signatures,
+            terminals,
+        }),
+        Err(error) => {
+            drop(signatures);
+            Err(error)
+        }
+    }
+}
+
+// The printed names of the terminals of a host with extensions.
+fn terminals_of(alloc: Global, certified: &Certified) -> Result<Sequence<Bytes>, AllocError>
+    ensures { IfOk result (AreTerminals certified.now) }
+{
+    united_terminals(alloc, certified.certified_host(), certified.extensions())
 }
 
 // The signatures of the productions of a host with extensions.

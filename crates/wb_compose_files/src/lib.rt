@@ -8,6 +8,7 @@ mod certified;
 mod extend;
 mod language;
 mod refusal;
+mod value;
 
 pub use certified::Certified;
 pub use language::TextLanguage;
