@@ -1,0 +1,2 @@
+-- where a line begins, and where it ends
+pub mod Ends
