@@ -1,0 +1,26 @@
+-- A text's answer in numbers.
+use Rattle.std.specs.Prelude.{◌≡◌, ℕ, length}
+use Rattle.wb_scan_theory.specs.declared.stop_kind.StopKind.{StopKind}
+use Rattle.wb_scan_theory.specs.declared.stop_kind.StopKind.TheVariants.{NoToken, Unexpected}
+use Rattle.wb_parser.specs.declared.parsed.Parsed.{Parsed}
+use Rattle.wb_parser.specs.declared.parsed.Parsed.TheVariants as parsed
+use Rattle.wb_session_library.specs.Places.{counts}
+use Rattle.wb_session_library.specs.Views.{TextView}
+use Rattle.wb_session_library.specs.declared.answer.TextAnswer.{TextAnswer}
+
+-- a text that stops there is told so
+abbrev pub IsToldStop : StopKind → ℕ → TextAnswer → Type 0
+IsToldStop NoToken at told = (told.kind ≡ 1) × (told.at ≡ at)
+IsToldStop (Unexpected terminal) at told = (told.kind ≡ 2) × (told.at ≡ at) × (told.terminal ≡ terminal)
+
+-- a tree is told by its node, and a stop by its place and kind
+abbrev pub IsTold : Parsed → TextAnswer → Type 0
+IsTold (parsed.Tree id) told = (told.kind ≡ 0) × (told.tree ≡ id.0)
+IsTold (parsed.Stopped at kind) told = IsToldStop kind at told
+
+-- the answer of the text, and how many bytes, nodes and placed leaves it has
+pub record IsAnswer (view : TextView) (told : TextAnswer) : Type 0 where
+  pub is : IsTold view.answer told
+  pub bytes : told.bytes ≡ length view.text
+  pub nodes : told.nodes ≡ length view.store
+  pub leaves : told.leaves ≡ counts view.places
