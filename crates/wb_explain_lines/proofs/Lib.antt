@@ -1,0 +1,3 @@
+pub mod KeepLemmas
+mod Known
+mod LineLemmas

@@ -1,0 +1,13 @@
+//! Tests of the program `explain`: runs of its top call over files in memory.
+//!
+//! Nothing depends on this crate.
+#![tactic(auto)]
+
+#[cfg(test)]
+mod codes;
+#[cfg(test)]
+mod places;
+#[cfg(test)]
+mod runs;
+#[cfg(test)]
+mod statuses;
