@@ -6,7 +6,7 @@ use Rattle.wb_eval_theory.specs.Instances.{Path, Instance}
 use Rattle.wb_eval_theory.specs.Walks.{Outcome, Walk, value, fault, walk_of}
 use Rattle.wb_operations.specs.Operations.{Operations}
 use Rattle.wb_syntax_resolved.specs.declared.attribution.AttributionParts.{AttributionParts}
-use Rattle.wb_compose_theory_attributes.specs.Numbers.{IsOneToOne, NumberMap}
+use Rattle.wb_compose_theory_attribute_order.specs.AttributeNumbers.{IsOneToOne, NumberMap}
 use Rattle.wb_values.specs.Tree.{Tree, node, Value, plain, tree, Values, empty, more, children_of, value_at}
 use Rattle.wb_compose_theory_attribute_order.specs.Values.{renamed_outcome, renamed_tree, renamed_value, renamed_values}
 use Rattle.wb_compose_theory_attribute_order.proofs.PathLemmas.{Becomes, Leads, home_leads, to_child, to_made, to_root, tree_too}

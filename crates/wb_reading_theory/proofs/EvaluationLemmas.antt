@@ -6,12 +6,12 @@ use Rattle.wb_eval_theory.specs.Walks.{Outcome}
 use Rattle.wb_operations.specs.Operations.{Operations}
 use Rattle.wb_syntax_resolved.specs.Attribution.{IsAttribution}
 use Rattle.wb_syntax_resolved.specs.declared.attribution.AttributionParts.{AttributionParts}
-use Rattle.wb_compose_theory_attributes.specs.Numbers.{NumberMap}
+use Rattle.wb_compose_theory_attribute_order.specs.AttributeNumbers.{NumberMap}
 use Rattle.wb_values.specs.Tree.{Tree}
 use Rattle.wb_compose_theory_attribute_order.specs.Values.{renamed_outcome, renamed_tree}
 use Rattle.wb_compose_theory_attribute_order.proofs.AnswerLemmas.{answer_there}
 use Rattle.wb_compose_theory_attribute_order.proofs.PathLemmas.{Becomes, synthesized_too, to_root}
-use Rattle.wb_compose_theory_attributes.specs.Seen.{IsSeen}
+use Rattle.wb_compose_theory_attribute_order.specs.Seen.{IsSeen}
 use Rattle.wb_reading_theory.specs.Attributions.{ExtendsAttribution, KeepsNothing}
 use Rattle.wb_reading_theory.specs.Attributes.{EvaluatesAlike}
 use Rattle.wb_reading_theory.proofs.BackLemmas.{answer_back, outcome_once}

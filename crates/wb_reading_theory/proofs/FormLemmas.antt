@@ -1,7 +1,6 @@
 -- What is considered, matches and beats at a prefix of a language does so in one that extends it; and there only markers do besides.
-use Rattle.std.proofs.Common.{◌≡◌, ◌⊎◌, ◌∙◌, ◌+◌, ◌-◌, ◌<◌, ◌≤◌, ℕ, Bool, List, Some, [], true, false, ap, inl, inr, length, map}
-use Rattle.std.proofs.Common.{slice_get, refl, subst, sym}
-use Rattle.std.proofs.Common.{arith}
+use Rattle.std.proofs.Common.{◌≡◌, ◌⊎◌, ◌∙◌, ◌+◌, ◌-◌, ◌<◌, ◌≤◌, ℕ, Bool, List, Some, [], true, false, ap, inl, inr, length, map, slice_get}
+use Rattle.std.proofs.Common.{refl, subst, sym, arith}
 use Rattle.std.specs.Prelude.{Contains, option_map, slice_index_or}
 use Rattle.std.proofs.lemmas.Bool.{cases_order}
 use Rattle.std.proofs.lemmas.Option.{slice_get-map, slice_get_within}
@@ -12,10 +11,10 @@ use Rattle.wb_grammar_theory.specs.Items.{IsViablePrefix}
 use Rattle.wb_scan_theory.specs.declared.form.Form.{Form}
 use Rattle.wb_scan_theory.specs.Facts.{HasWinner, IsLanguage}
 use Rattle.wb_scan_theory.specs.Languages.{LanguageView, bare, forms_of, IsLayout}
-use Rattle.wb_scan_theory.specs.Winners.{Beats, BeatsAt, IsConsideredForm, MatchesAt, Wins, both_bare, both_prefixed, by_prefix}
-use Rattle.wb_scan_theory.specs.Winners.{layout, valid}
+use Rattle.wb_scan_theory.specs.Winners.{Beats, BeatsAt, IsConsideredForm, MatchesAt, Wins, both_bare, both_prefixed, by_prefix, layout}
+use Rattle.wb_scan_theory.specs.Winners.{valid}
 use Rattle.wb_scan_theory.proofs.TokenLemmas.{wins_once}
-use Rattle.wb_compose_theory_order.specs.Languages.{IsPreferred}
+use Rattle.wb_compose_theory_attribute_order.specs.OrderedLanguages.{IsPreferred}
 use Rattle.wb_reading_theory.specs.Languages.{IsSameForm, of_terminal, of_layout, KeepsForms, ExtendsLanguage}
 
 -- a number is a member or not

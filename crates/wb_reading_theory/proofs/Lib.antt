@@ -20,8 +20,8 @@ pub mod UnionLanguageLemmas
 pub mod UnionAttributeLemmas
 pub mod PrintedLemmas
 -- lemmas of `wb_compose_theory_order` that callers cite
-pub use Rattle.wb_compose_theory_order.proofs.LanguageLemmas as OrderedLanguageLemmas
-pub use Rattle.wb_compose_theory_order.proofs.NameLemmas as OrderedNameLemmas
-pub use Rattle.wb_compose_theory_order.proofs.NumberLemmas as OrderedNumberLemmas
-pub use Rattle.wb_compose_theory_order.proofs.PrintedLemmas as OrderedPrintedLemmas
-pub use Rattle.wb_compose_theory_order.proofs.TextLemmas as OrderedTextLemmas
+pub use Rattle.wb_compose_theory_attribute_order.proofs.OrderedLanguageLemmas
+pub use Rattle.wb_compose_theory_attribute_order.proofs.OrderedNameLemmas
+pub use Rattle.wb_compose_theory_attribute_order.proofs.OrderedNumberLemmas
+pub use Rattle.wb_compose_theory_attribute_order.proofs.OrderedPrintedLemmas
+pub use Rattle.wb_compose_theory_attribute_order.proofs.OrderedTextLemmas

@@ -10,7 +10,7 @@ use Rattle.wb_lemmas.proofs.Elements.{all_from_places}
 use Rattle.wb_lemmas.proofs.Places.{nothing_at}
 use Rattle.wb_operations.specs.Operations.{Operations}
 use Rattle.wb_syntax_resolved.specs.declared.attribution.AttributionParts.{AttributionParts}
-use Rattle.wb_compose_theory_attributes.specs.Numbers.{IsOneToOne, NumberMap}
+use Rattle.wb_compose_theory_attribute_order.specs.AttributeNumbers.{IsOneToOne, NumberMap}
 use Rattle.wb_values.specs.Tree.{Tree, Value}
 use Rattle.wb_compose_theory_attribute_order.specs.Values.{renamed_tree}
 use Rattle.wb_compose_theory_attribute_order.proofs.AnswerLemmas.{answer_there, node_there}

@@ -6,7 +6,7 @@ use Rattle.wb_eval_theory.specs.Answers.{IsNodeAt}
 use Rattle.wb_eval_theory.specs.Instances.{Path, root, down, Instance, synthesized_at, inherited_at, tree_at}
 use Rattle.wb_operations.specs.Operations.{Operations}
 use Rattle.wb_syntax_resolved.specs.declared.attribution.AttributionParts.{AttributionParts}
-use Rattle.wb_compose_theory_attributes.specs.Numbers.{IsOneToOne, NumberMap, new_made}
+use Rattle.wb_compose_theory_attribute_order.specs.AttributeNumbers.{IsOneToOne, NumberMap, new_made}
 use Rattle.wb_values.specs.Tree.{Tree, production_of}
 use Rattle.wb_compose_theory_attribute_order.proofs.PathLemmas.{Becomes, Leads, inherited_too, synthesized_too, to_child, to_made, to_root}
 use Rattle.wb_compose_theory_attribute_order.proofs.PathLemmas.{tree_too}

@@ -25,9 +25,9 @@ use Rattle.wb_syntax_resolved.specs.declared.production.Local.{Local}
 use Rattle.wb_syntax_resolved.specs.declared.production.Production.{Production}
 use Rattle.wb_syntax_resolved.specs.Owned.{IsForOwnLocal, IsForOwnOccurrence, IsOwnEquation, IsOwnOccurrence, IsTargetOf}
 use Rattle.wb_syntax_resolved.specs.Visible.{kind_at}
-use Rattle.wb_compose_theory_attributes.specs.Numbers.{NumberMap}
-use Rattle.wb_compose_theory_attributes.specs.Rows.{new_child, new_child_kind, new_kind, new_local, new_nonterminal}
-use Rattle.wb_compose_theory_attributes.specs.Seen.{IsSeen, IsSeenProduction}
+use Rattle.wb_compose_theory_attribute_order.specs.AttributeNumbers.{NumberMap}
+use Rattle.wb_compose_theory_attribute_order.specs.Rows.{new_child, new_child_kind, new_kind, new_local, new_nonterminal}
+use Rattle.wb_compose_theory_attribute_order.specs.Seen.{IsSeen, IsSeenProduction}
 use Rattle.wb_reading_theory.specs.Attributions.{IsForFurther, attribute_of, of_attribute, of_local}
 use Rattle.wb_reading_theory.proofs.SeenLemmas.{host_owner, some_from}
 

@@ -1,7 +1,6 @@
 -- In an attribution that extends that of a host, what the host prints is printed alike, and what may be asked there may be asked alike.
 use Rattle.std.proofs.Common.{◌≡◌, ◌≤◌, ◌∙◌, ◌++◌, ◌∷◌, [], ℕ, zero, suc, List, Option, Some, None, inl, inr, length, map, option_map}
-use Rattle.std.proofs.Common.{slice_get}
-use Rattle.std.proofs.Common.{refl, sym, ap, subst, arith}
+use Rattle.std.proofs.Common.{slice_get, refl, sym, ap, subst, arith}
 use Rattle.std.specs.Prelude.{◌↔◌, Contains}
 use Rattle.wb_lemmas.proofs.Elements.{all_at, all_contained}
 use Rattle.wb_lemmas.proofs.Members.{contains_at, place_of}
@@ -20,8 +19,8 @@ use Rattle.wb_syntax_resolved.specs.Owned.{IsOwnOccurrence}
 use Rattle.wb_syntax_resolved.specs.Owners.{IsOwner, printed_name}
 use Rattle.wb_terms.specs.Printed.{name_of, printed_children, printed_others, printed_tree}
 use Rattle.wb_values.specs.Tree.{Tree, node, Value, plain, tree, Values, empty, more}
-use Rattle.wb_compose_theory_attributes.specs.Numbers.{NumberMap}
-use Rattle.wb_compose_theory_attributes.specs.Rows.{new_attribute, new_occurrence}
+use Rattle.wb_compose_theory_attribute_order.specs.AttributeNumbers.{NumberMap}
+use Rattle.wb_compose_theory_attribute_order.specs.Rows.{new_attribute, new_occurrence}
 use Rattle.wb_compose_theory_attribute_order.specs.Laws.{IsPrintedAlike, MayBeAskedAlike}
 use Rattle.wb_compose_theory_attribute_order.specs.Values.{renamed_tree, renamed_values}
 use Rattle.wb_reading_theory.specs.Attributions.{ExtendsAttribution}

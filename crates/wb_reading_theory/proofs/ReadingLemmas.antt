@@ -14,7 +14,7 @@ use Rattle.wb_operations.specs.Operations.{Operations}
 use Rattle.wb_compose_theory_attribute_order.specs.Values.{renamed_outcome, renamed_tree, renamed_values}
 use Rattle.wb_syntax_resolved.specs.Attribution.{IsAttribution}
 use Rattle.wb_syntax_resolved.specs.declared.attribution.AttributionParts.{AttributionParts}
-use Rattle.wb_compose_theory_attributes.specs.Numbers.{NumberMap}
+use Rattle.wb_compose_theory_attribute_order.specs.AttributeNumbers.{NumberMap}
 use Rattle.wb_values.specs.Tree.{Tree, Values, empty, more, plain, text, tree}
 use Rattle.wb_values.specs.Tree as values
 use Rattle.wb_reading_theory.proofs.EvaluationLemmas.{evaluates_alike}

@@ -27,10 +27,11 @@ use Rattle.wb_syntax_resolved.specs.declared.production.Forward.{Forward}
 use Rattle.wb_syntax_resolved.specs.declared.production.Local.{Local}
 use Rattle.wb_syntax_resolved.specs.declared.production.Production.{Production}
 use Rattle.wb_syntax_resolved.specs.Expression.{Expression, Node}
-use Rattle.wb_compose_theory_attributes.proofs.ExpressionLemmas.{new_expression}
-use Rattle.wb_compose_theory_attributes.specs.Numbers.{IsOneToOne, NumberMap, new_vertex}
-use Rattle.wb_compose_theory_attributes.specs.Rows.{new_attribute, new_equation, new_forward, new_local, new_node, new_owner, new_target}
-use Rattle.wb_compose_theory_attributes.specs.Seen.{IsSeen, IsSeenProduction}
+use Rattle.wb_compose_theory_attribute_order.proofs.ExpressionLemmas.{new_expression}
+use Rattle.wb_compose_theory_attribute_order.specs.AttributeNumbers.{IsOneToOne, NumberMap, new_vertex}
+use Rattle.wb_compose_theory_attribute_order.specs.Rows.{new_attribute, new_equation, new_forward, new_local, new_node, new_owner}
+use Rattle.wb_compose_theory_attribute_order.specs.Rows.{new_target}
+use Rattle.wb_compose_theory_attribute_order.specs.Seen.{IsSeen, IsSeenProduction}
 use Rattle.wb_reading_theory.proofs.VertexLemmas.{once, vertex_once}
 use Rattle.wb_reading_theory.specs.Attributions.{ExtendsAttribution, IsForFurther, attribute_of, of_attribute, of_local}
 

@@ -6,21 +6,21 @@ use Rattle.wb_lemmas.proofs.Elements.{all_at}
 use Rattle.wb_syntax_resolved.specs.Attribution.{IsAttribution}
 use Rattle.wb_syntax_resolved.specs.declared.production.Local.{Local}
 use Rattle.wb_syntax_resolved.specs.declared.production.Production.{Production}
-use Rattle.wb_compose_theory_attributes.specs.Numbers.{NumberMap}
-use Rattle.wb_compose_theory_attributes.specs.Rows.{new_local}
-use Rattle.wb_compose_theory_attributes.specs.Seen.{IsSeen}
-use Rattle.wb_compose_theory_attributes.proofs.SeenLemmas.{mapped}
-use Rattle.wb_compose_theory_lists.specs.Additions.{Rows, Addition, IsAddition, IsOwn, nothing}
-use Rattle.wb_compose_theory_lists.specs.Joined.{Block, place_after}
-use Rattle.wb_compose_theory_lists.specs.Laws.{AreAdded}
-use Rattle.wb_compose_theory_lists.specs.Numbers.{block_of, number_with, numbers_of}
-use Rattle.wb_compose_theory_lists.specs.United.{host_numbers, host_production, united_attribution, united_productions}
-use Rattle.wb_compose_theory_lists.proofs.EachLemmas.{IsView, of_host}
-use Rattle.wb_compose_theory_lists.proofs.PlacedLemmas.{after_below}
-use Rattle.wb_compose_theory_lists.proofs.ProductionLemmas.{locals_seen}
-use Rattle.wb_compose_theory_lists.proofs.SourceLemmas.{IsAt, Source, from_host, from_own, row_at, row_of, source_at, sources, there_at}
-use Rattle.wb_compose_theory_lists.proofs.SourceLemmas.{there_of}
-use Rattle.wb_compose_theory_lists.proofs.UnionLemmas.{is_seen}
+use Rattle.wb_compose_theory_attribute_order.specs.AttributeNumbers.{NumberMap}
+use Rattle.wb_compose_theory_attribute_order.specs.Rows.{new_local}
+use Rattle.wb_compose_theory_attribute_order.specs.Seen.{IsSeen}
+use Rattle.wb_compose_theory_attribute_order.proofs.SeenLemmas.{mapped}
+use Rattle.wb_compose_theory_attribute_order.specs.Additions.{Rows, Addition, IsAddition, IsOwn, nothing}
+use Rattle.wb_compose_theory_attribute_order.specs.JoinedLists.{Block, place_after}
+use Rattle.wb_compose_theory_attribute_order.specs.ListLaws.{AreAdded}
+use Rattle.wb_compose_theory_attribute_order.specs.ListNumbers.{block_of, number_with, numbers_of}
+use Rattle.wb_compose_theory_attribute_order.specs.UnitedLists.{host_numbers, host_production, united_attribution, united_productions}
+use Rattle.wb_compose_theory_attribute_order.proofs.EachLemmas.{IsView, of_host}
+use Rattle.wb_compose_theory_attribute_order.proofs.PlacedLemmas.{after_below}
+use Rattle.wb_compose_theory_attribute_order.proofs.ListProductionLemmas.{locals_seen}
+use Rattle.wb_compose_theory_attribute_order.proofs.SourceLemmas.{IsAt, Source, from_host, from_own, row_at, row_of, source_at, sources}
+use Rattle.wb_compose_theory_attribute_order.proofs.SourceLemmas.{there_at, there_of}
+use Rattle.wb_compose_theory_attribute_order.proofs.UnionLemmas.{is_seen}
 use Rattle.wb_reading_theory.specs.Attributions.{ExtendsAttribution, KeepsNothing}
 use Rattle.wb_reading_theory.proofs.EvaluationLemmas.{extends_attribution}
 

@@ -13,7 +13,7 @@ use Rattle.wb_scan_theory.specs.declared.form.Form.{Form}
 use Rattle.wb_scan_theory.specs.Languages.{LanguageView, bare, forms_of}
 use Rattle.wb_lemmas.proofs.Members.{contains_at}
 use Rattle.wb_lemmas.proofs.Places.{append_after, append_keeps, at_once, nothing_at}
-use Rattle.wb_compose_theory_order.specs.Languages.{IsPreferred}
+use Rattle.wb_compose_theory_attribute_order.specs.OrderedLanguages.{IsPreferred}
 use Rattle.wb_compose_theory_grammar.specs.Certificates.{AreCertified, IsCertifiedPiece}
 use Rattle.wb_compose_theory_grammar.specs.Laws.{in_union}
 use Rattle.wb_compose_theory_grammar.specs.Pieces.{ArePieces, IsPiece}

@@ -3,8 +3,8 @@ use Rattle.std.proofs.Common.{◌≡◌, ◌<◌, ℕ, inl, inr, refl, ap, arith
 use Rattle.std.proofs.lemmas.Bool.{cases_order}
 use Rattle.wb_flow_theory.specs.Vertices.{Made, local, forward, Step, child, made, Vertex, top_synthesized, top_inherited, synthesized}
 use Rattle.wb_flow_theory.specs.Vertices.{inherited, tree_of}
-use Rattle.wb_compose_theory_attributes.specs.Numbers.{IsOneToOne, NumberMap, new_made, new_step, new_vertex}
-use Rattle.wb_compose_theory_attributes.specs.Seen.{KeepsOrder, Rises}
+use Rattle.wb_compose_theory_attribute_order.specs.AttributeNumbers.{IsOneToOne, NumberMap, new_made, new_step, new_vertex}
+use Rattle.wb_compose_theory_attribute_order.specs.Seen.{KeepsOrder, Rises}
 
 -- what rises is one to one
 rises_once : (f : ℕ → ℕ) → Rises f → (x y : ℕ) → f x ≡ f y → x ≡ y

@@ -7,7 +7,7 @@ use Rattle.wb_eval_theory.specs.Walks.{Outcome}
 use Rattle.wb_operations.specs.Operations.{Operations}
 use Rattle.wb_compose_theory_attribute_order.specs.Values.{renamed_outcome, renamed_tree}
 use Rattle.wb_syntax_resolved.specs.declared.attribution.AttributionParts.{AttributionParts}
-use Rattle.wb_compose_theory_attributes.specs.Numbers.{NumberMap}
+use Rattle.wb_compose_theory_attribute_order.specs.AttributeNumbers.{NumberMap}
 use Rattle.wb_values.specs.Tree.{Tree}
 
 -- at the root of a tree an attribute of the first attribution has the same value or fault by the equations of both, in the numbers of each,

@@ -8,8 +8,8 @@ use Rattle.wb_syntax_resolved.specs.declared.equation.Target.{Target}
 use Rattle.wb_syntax_resolved.specs.declared.equation.Target.TheVariants as target
 use Rattle.wb_syntax_resolved.specs.declared.production.Local.{Local}
 use Rattle.wb_syntax_resolved.specs.declared.production.Production.{Production}
-use Rattle.wb_compose_theory_attributes.specs.Numbers.{NumberMap}
-use Rattle.wb_compose_theory_attributes.specs.Seen.{IsSeen}
+use Rattle.wb_compose_theory_attribute_order.specs.AttributeNumbers.{NumberMap}
+use Rattle.wb_compose_theory_attribute_order.specs.Seen.{IsSeen}
 
 -- the attribute that an equation is for
 abbrev pub attribute_of : Target → ℕ

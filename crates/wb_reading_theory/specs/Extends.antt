@@ -2,7 +2,7 @@
 use Rattle.std.specs.Prelude.{◌≡◌, ◌<◌, ℕ, Bool, List, length}
 use Rattle.wb_scan_theory.specs.Languages.{LanguageView}
 use Rattle.wb_syntax_resolved.specs.declared.attribution.AttributionParts.{AttributionParts}
-use Rattle.wb_compose_theory_attributes.specs.Numbers.{NumberMap}
+use Rattle.wb_compose_theory_attribute_order.specs.AttributeNumbers.{NumberMap}
 use Rattle.wb_reading_theory.specs.Attributions.{ExtendsAttribution}
 use Rattle.wb_reading_theory.specs.Languages.{ExtendsLanguage}
 

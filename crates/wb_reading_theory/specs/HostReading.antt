@@ -6,7 +6,7 @@ use Rattle.wb_scan_theory.specs.Shown.{Shows}
 use Rattle.wb_scan_theory.specs.Texts.{ParsesTo}
 use Rattle.wb_operations.specs.Operations.{Operations}
 use Rattle.wb_syntax_resolved.specs.declared.attribution.AttributionParts.{AttributionParts}
-use Rattle.wb_compose_theory_attributes.specs.Numbers.{NumberMap}
+use Rattle.wb_compose_theory_attribute_order.specs.AttributeNumbers.{NumberMap}
 use Rattle.wb_values.specs.Tree.{Tree}
 use Rattle.wb_reading_theory.specs.Attributes.{HasSameAttributes}
 use Rattle.wb_reading_theory.specs.Laws.{ReadsAlike}

@@ -4,7 +4,7 @@ use Rattle.wb_base.specs.Different.{Differ}
 use Rattle.wb_automata.specs.Automata.{IsMatch}
 use Rattle.wb_scan_theory.specs.declared.form.Form.{Form}
 use Rattle.wb_scan_theory.specs.Languages.{LanguageView}
-use Rattle.wb_compose_theory_order.specs.Languages.{IsPreferred}
+use Rattle.wb_compose_theory_attribute_order.specs.OrderedLanguages.{IsPreferred}
 use Rattle.wb_reading_theory.specs.Grammars.{ExtendsGrammar, KeepsValid}
 
 module _ (h u : LanguageView) where

@@ -17,11 +17,11 @@ pub mod HostReading
 -- the markers of the union of a host and extensions
 pub mod MarkingTerminals
 -- words of `wb_compose_theory_order` that callers speak of
-pub use Rattle.wb_compose_theory_order.specs.Answers as OrderedAnswers
-pub use Rattle.wb_compose_theory_order.specs.Languages as OrderedLanguages
-pub use Rattle.wb_compose_theory_order.specs.Laws as OrderLaws
-pub use Rattle.wb_compose_theory_order.specs.Names as OrderedNames
-pub use Rattle.wb_compose_theory_order.specs.Orders
-pub use Rattle.wb_compose_theory_order.specs.Unions as OrderedUnions
+pub use Rattle.wb_compose_theory_attribute_order.specs.OrderedAnswers
+pub use Rattle.wb_compose_theory_attribute_order.specs.OrderedLanguages
+pub use Rattle.wb_compose_theory_attribute_order.specs.LanguageOrderLaws as OrderLaws
+pub use Rattle.wb_compose_theory_attribute_order.specs.OrderedNames
+pub use Rattle.wb_compose_theory_attribute_order.specs.LanguageOrders as Orders
+pub use Rattle.wb_compose_theory_attribute_order.specs.OrderedUnions
 -- words of `wb_compose_theory_attribute_order` that callers speak of
 pub use Rattle.wb_compose_theory_attribute_order.specs.Values as OrderedValues
