@@ -18,13 +18,13 @@ use Rattle.wb_parser_states.specs.declared.chains.RuleAction.{RuleAction}
 use Rattle.wb_parser_states.specs.declared.chains.RuleAction.TheVariants as shown
 use Rattle.wb_parser_states.specs.declared.kept.Kept.{Kept}
 use Rattle.wb_parser_states.specs.declared.rules.Rule.{Rule}
-use Rattle.wb_parser_states.specs.Chains.{IsChain, IsMoveEnd, IsRuleAction, link, nothing}
-use Rattle.wb_parser_states.specs.Kept.{AreKept, end_of, key_of}
-use Rattle.wb_parser_states.specs.Inner.Followed.{IsChainEnd, IsChainOf, IsKey}
+use Rattle.wb_parser_states.specs.Chains.{IsChain, IsChainEnd, IsMoveEnd, IsRuleAction, link, nothing}
+use Rattle.wb_parser_states.specs.Kept.{end_of, key_of}
+use Rattle.wb_parser_states.specs.Inner.Followed.{IsChainOf, IsKey}
 use Rattle.wb_parser_states.specs.Rules.{IsRule}
 use Rattle.wb_parser_states.specs.Stacks.{IsMoved, last_or}
 use Rattle.wb_parser_states.specs.Inner.Carried.{CarryOver}
-use Rattle.wb_parser_states.proofs.StateLemmas.{top_pushed}
+use Rattle.wb_parser_states.proofs.StateLemmas.{last_back, top_pushed}
 use Rattle.wb_parser_states.proofs.StepLemmas.{goto_there, reduce_case}
 use Rattle.wb_parser_states.proofs.TableLemmas.{IsActionBelow, action_below, goto_below}
 
@@ -145,15 +145,15 @@ move_ends g tables start target end leads is = record {
   ends = is.ends;
 }
 
--- so what is kept are ends of chains after that too
-pub kept_after : (g : GrammarView) (tables : TablesView) (old new : List Kept) (key : Key) (end : ChainEnd) →
+-- so what holds of all that is kept holds of it after one more is kept too
+pub kept_after : (P : Key → ChainEnd → Type 0) (old new : List Kept) (key : Key) (end : ChainEnd) →
     ((place : ℕ) (kept : Kept) → slice_get new place ≡ Some kept →
-    (slice_get old place ≡ Some kept) ⊎ ((key_of kept ≡ key) × (end_of kept ≡ end))) → AreKept g tables old → IsMoveEnd g tables key end →
-    AreKept g tables new
-kept_after g tables old new key end each are is place kept at = elim (each place kept at) [
+    (slice_get old place ≡ Some kept) ⊎ ((key_of kept ≡ key) × (end_of kept ≡ end))) →
+    ((place : ℕ) (kept : Kept) → slice_get old place ≡ Some kept → P (key_of kept) (end_of kept)) → P key end →
+    (place : ℕ) (kept : Kept) → slice_get new place ≡ Some kept → P (key_of kept) (end_of kept)
+kept_after P old new key end each are is place kept at = elim (each place kept at) [
   | inl before ↦ are place kept before
-  | inr (key_is, end_is) ↦
-      subst (λ z. IsMoveEnd g tables z (end_of kept)) (sym key_is) (subst (λ z. IsMoveEnd g tables key z) (sym end_is) is)
+  | inr (key_is, end_is) ↦ subst (λ z. P z (end_of kept)) (sym key_is) (subst (λ z. P key z) (sym end_is) is)
 ]
 
 -- nothing is at a place of an empty list
@@ -170,7 +170,20 @@ all_more list kept before place other at = elim (at_push list kept other place a
 ]
 
 -- what was found at a place
-pub kept_found : (g : GrammarView) (tables : TablesView) (list : List Kept) (place : ℕ) (kept : Kept) (key : Key) (end : ChainEnd) →
-    AreKept g tables list → slice_get list place ≡ Some kept → key_of kept ≡ key → end ≡ end_of kept → IsMoveEnd g tables key end
-kept_found g tables list place kept key end are at key_is end_is =
-    subst (λ z. IsMoveEnd g tables key z) (sym end_is) (subst (λ z. IsMoveEnd g tables z (end_of kept)) key_is (are place kept at))
+pub kept_found : (P : Key → ChainEnd → Type 0) (list : List Kept) (place : ℕ) (kept : Kept) (key : Key) (end : ChainEnd) →
+    ((place : ℕ) (kept : Kept) → slice_get list place ≡ Some kept → P (key_of kept) (end_of kept)) →
+    slice_get list place ≡ Some kept → key_of kept ≡ key → end ≡ end_of kept → P key end
+kept_found P list place kept key end are at key_is end_is =
+    subst (λ z. P key z) (sym end_is) (subst (λ z. P z (end_of kept)) key_is (are place kept at))
+
+-- the state on top made way for the end of the chain that begins with it
+pub top_carries : (parts : LanguageParts) → IsLanguage parts.language → AreTablesOf parts.language.grammar parts.tables → (t : ℕ) →
+    t ≤ parts.language.grammar.terminals → (states : List ℕ) (key : Key) (end : ChainEnd) → 1 ≤ length states →
+    IsChainEnd parts.language.grammar parts.tables key end → key.terminal ≡ t → key.from ≡ last_or 0 states →
+    key.below ≡ last_or 0 (take (length states - 1) states) →
+    CarryOver parts t states (take (length states - 1) states ++ end.target ∷ [])
+top_carries parts ok of t le states key end some is terminal_is from_is below_is =
+    let xs = take (length states - 1) states in
+    subst (λ z. CarryOver parts t z (xs ++ end.target ∷ [])) (ap (λ z. xs ++ z ∷ []) from_is ∙ last_back states some)
+    (chain_carries parts ok of t le (subst (λ z. IsChain parts.language.grammar parts.tables key.below z key.from is.productions end.target)
+    terminal_is is.is) xs below_is)

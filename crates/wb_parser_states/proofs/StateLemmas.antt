@@ -166,3 +166,12 @@ top_moved tables states left len below target some len_is below_is next = record
       (sym (below_is ∙ ap (λ k. last_or 0 (take (k - 1) states)) len_is)) e);
   states_are = top_set states len target some len_is;
 }
+
+-- states are those below the last, and the last
+pub last_back : (states : List ℕ) → 1 ≤ length states → take (length states - 1) states ++ last_or 0 states ∷ [] ≡ states
+last_back [] some = absurd (omega arith)
+last_back (x ∷ xs) some = back x xs 0
+  where
+    back : (x : ℕ) (xs : List ℕ) (s : ℕ) → take (length xs) (x ∷ xs) ++ last_or s (x ∷ xs) ∷ [] ≡ x ∷ xs
+    back x [] s = refl
+    back x (y ∷ ys) s = ap (λ z. x ∷ z) (back y ys x)

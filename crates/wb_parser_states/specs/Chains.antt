@@ -38,3 +38,9 @@ pub record IsMoveEnd (g : GrammarView) (tables : TablesView) (key : Key) (end : 
   pub is : (next : ℕ) → goto_of tables key.below key.from ≡ Some next →
       (productions : List ℕ) × IsChain g tables key.below key.terminal next productions end.target
   pub ends : IsEnd g tables key.terminal end
+
+-- some chain leads there from the state
+pub record IsChainEnd (g : GrammarView) (tables : TablesView) (key : Key) (end : ChainEnd) : Type 0 where
+  pub productions : List ℕ
+  pub is : IsChain g tables key.below key.terminal key.from productions end.target
+  pub ends : IsEnd g tables key.terminal end

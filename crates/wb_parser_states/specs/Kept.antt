@@ -8,7 +8,7 @@ use Rattle.wb_parser_states.specs.declared.chains.RuleAction.{RuleAction}
 use Rattle.wb_parser_states.specs.declared.chains.RuleAction.TheVariants as shown
 use Rattle.wb_parser_states.specs.declared.kept.Kept.{Kept}
 use Rattle.wb_parser_states.specs.declared.reductions.Reductions.{Reductions}
-use Rattle.wb_parser_states.specs.Chains.{IsMoveEnd}
+use Rattle.wb_parser_states.specs.Chains.{IsChainEnd, IsMoveEnd}
 use Rattle.wb_parser_states.specs.Rules.{AreRules}
 
 -- the action of a kind with a number: a state; or a left side below 2^20, with the width above it
@@ -37,7 +37,12 @@ end_of kept = record { target = kept.target; action = action_in kept.action }
 abbrev pub AreKept : GrammarView → TablesView → List Kept → Type 0
 AreKept g tables list = (place : ℕ) (kept : Kept) → slice_get list place ≡ Some kept → IsMoveEnd g tables (key_of kept) (end_of kept)
 
+-- each end that is kept is that of the chain from the state of its key, which has its number in the place of a left side's
+abbrev pub AreKeptAt : GrammarView → TablesView → List Kept → Type 0
+AreKeptAt g tables list = (place : ℕ) (kept : Kept) → slice_get list place ≡ Some kept → IsChainEnd g tables (key_of kept) (end_of kept)
+
 -- the left sides and widths are those of the grammar's productions, and the ends of chains are those of its tables
 pub record AreReductions (g : GrammarView) (tables : TablesView) (reductions : Reductions) : Type 0 where
   pub rules : AreRules g reductions.rules.items
   pub ends : AreKept g tables reductions.ends.items
+  pub tops : AreKeptAt g tables reductions.tops.items

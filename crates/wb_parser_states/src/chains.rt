@@ -6,8 +6,8 @@ ghost use Rattle.std.specs.Prelude.{◌≡◌, ◌<◌, ◌≤◌, ℕ, IfSome, 
 ghost use Rattle.wb_base.specs.Grammar.{GrammarView};
 ghost use Rattle.wb_lookahead.specs.declared.action.Action.TheVariants.{Reduce};
 ghost use Rattle.wb_lookahead.specs.Contents.{action_of, size_of};
-ghost use Rattle.wb_parser_states.specs.Chains.{IsMoveEnd, IsRuleAction};
-ghost use Rattle.wb_parser_states.specs.Inner.Followed.{IsChainEnd, IsChainOf, IsKey, IsMoveKey};
+ghost use Rattle.wb_parser_states.specs.Chains.{IsChainEnd, IsMoveEnd, IsRuleAction};
+ghost use Rattle.wb_parser_states.specs.Inner.Followed.{IsChainOf, IsKey, IsMoveKey};
 ghost use Rattle.wb_parser_states.specs.Rules.{AreRules};
 
 use crate::moves::target_of;
@@ -62,7 +62,7 @@ pub(crate) fn move_end(language: &Language, rules: &[Rule], start: Key) -> Chain
 }
 
 // The end of the chain that begins with a state.
-fn chain_end(language: &Language, rules: &[Rule], start: Key) -> ChainEnd
+pub(crate) fn chain_end(language: &Language, rules: &[Rule], start: Key) -> ChainEnd
     requires start { IsKey language.now.language.grammar language.now.tables start }
     requires rules { AreRules language.now.language.grammar rules.now }
     ensures { IsChainEnd language.now.language.grammar language.now.tables start result }

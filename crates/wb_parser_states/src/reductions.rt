@@ -4,28 +4,30 @@
 //! What is kept is justified by the tables alone, so a parser that builds trees may use it too.
 
 ghost use Rattle.std.specs.Prelude.{◌≡◌, ◌⊎◌, ℕ, IfOk, Some, slice_get};
-ghost use Rattle.wb_parser_states.specs.Chains.{IsMoveEnd};
-ghost use Rattle.wb_parser_states.specs.Inner.Followed.{IsMoveKey};
+ghost use Rattle.wb_parser_states.specs.Chains.{IsChainEnd, IsMoveEnd};
+ghost use Rattle.wb_parser_states.specs.Inner.Followed.{IsKey, IsMoveKey};
 ghost use Rattle.wb_parser_states.specs.Kept.{AreReductions, end_of, key_of};
 
-use crate::chains::{ChainEnd, Key, move_end};
+use crate::chains::{ChainEnd, Key, chain_end, move_end};
 use crate::kept::{Kept, end_in, filled, is_kept, kept_of, place_of};
 use crate::rules::{Rule, rules_of};
 use std::alloc::{AllocError, Global};
 use wb_scan::Language;
 
-/// What the reductions of a grammar are made by: the left sides and widths of its productions, and ends of chains that were met. These
-/// begin with the state after a left side.
+/// What the reductions of a grammar are made by: the left sides and widths of its productions, and ends of chains that were met. Some
+/// begin with the state after a left side, and others with the state on top.
 pub struct Reductions {
     pub(crate) rules: Vec<Rule>,
     pub(crate) ends: Vec<Kept>,
+    pub(crate) tops: Vec<Kept>,
 }
 
 impl Drop for Reductions {
     fn drop(self) {
-        let Reductions { rules, ends } = self;
+        let Reductions { rules, ends, tops } = self;
         drop(rules);
         drop(ends);
+        drop(tops);
     }
 }
 
@@ -36,7 +38,8 @@ pub fn reductions_of(alloc: Global, language: &Language) -> Result<Reductions, A
 {
     let rules = rules_of(alloc, language.grammar())?;
     let ends = Vec::new(alloc);
-    Ok(Reductions { rules, ends })
+    let tops = Vec::new(alloc);
+    Ok(Reductions { rules, ends, tops })
 }
 
 // The end of the chain that begins with the state after a left side: the one that is kept, or the one that is followed and kept then.
@@ -67,6 +70,37 @@ fn new_end(language: &Language, reductions: &mut Reductions, key: Key) -> ChainE
 {
     let end = move_end(language, &reductions.rules, key);
     keep(&mut reductions.ends, key, end);
+    end
+}
+
+// The end of the chain that begins with the state on top: the one that is kept, or the one that is followed and kept then.
+#[inline]
+pub(crate) fn end_at(language: &Language, reductions: &mut Reductions, key: Key) -> ChainEnd
+    requires key { IsKey language.now.language.grammar language.now.tables key }
+    requires reductions { AreReductions language.now.language.grammar language.now.tables reductions.old }
+    ensures end { IsChainEnd language.now.language.grammar language.now.tables key result }
+    ensures reductions { AreReductions language.now.language.grammar language.now.tables reductions.new }
+{
+    let place = place_of(key);
+    if place < reductions.tops.len() {
+        let kept = &reductions.tops[place];
+        if is_kept(kept, key) {
+            return end_in(kept);
+        }
+    }
+    new_top(language, reductions, key)
+}
+
+// The one that is followed, and kept at its place, where there is one.
+#[inline(never)]
+fn new_top(language: &Language, reductions: &mut Reductions, key: Key) -> ChainEnd
+    requires key { IsKey language.now.language.grammar language.now.tables key }
+    requires reductions { AreReductions language.now.language.grammar language.now.tables reductions.old }
+    ensures end { IsChainEnd language.now.language.grammar language.now.tables key result }
+    ensures reductions { AreReductions language.now.language.grammar language.now.tables reductions.new }
+{
+    let end = chain_end(language, &reductions.rules, key);
+    keep(&mut reductions.tops, key, end);
     end
 }
 

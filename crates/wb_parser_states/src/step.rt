@@ -1,6 +1,7 @@
 //! What do the states become on the terminal that is ahead? Reductions are made until it can be shifted, accepted, or nothing is left to do.
 //!
-//! The table is asked first, since a third of all leaves are shifted at once. After each reduction the end of its chain is asked.
+//! The end of the chain from the state on top is asked first, which is that state where a leaf is shifted at once. After each further reduction
+//! the end of its chain is asked.
 
 ghost use Rattle.std.specs.Prelude.{◌<◌, ◌≤◌, All, IfOk};
 ghost use Rattle.wb_lookahead.specs.Contents.{action_of, size_of};
@@ -14,7 +15,7 @@ ghost use Rattle.wb_parser_states.specs.Inner.Carried.{CarryOver};
 
 use crate::Outcome;
 use crate::chains::{Key, RuleAction, action_at};
-use crate::reductions::{Reductions, end_from};
+use crate::reductions::{Reductions, end_at, end_from};
 use crate::rules::Rule;
 use crate::stack::top;
 use std::alloc::AllocError;
@@ -40,7 +41,7 @@ pub fn reduce_states(
     ensures reductions { AreReductions language.now.language.grammar language.now.tables reductions.new }
 {
     let _tables = language.tables();
-    let mut action = action_at(language, &reductions.rules, top(states), terminal);
+    let mut action = top_action(language, reductions, states, terminal);
     'reductions: for _ in 0..usize::MAX {
         match action {
             RuleAction::Shift(target) => return Ok(Outcome::Shifts(target)),
@@ -52,6 +53,40 @@ pub fn reduce_states(
         }
     }
     Err(AllocError)
+}
+
+// Makes the reductions of one symbol each that come first. Answers the action after them.
+#[inline]
+fn top_action(
+    language: &Language,
+    reductions: &mut Reductions,
+    states: &mut Vec<usize>,
+    terminal: usize,
+) -> RuleAction
+    requires language { IsLanguage language.now.language }
+    requires of_grammar { AreTablesOf language.now.language.grammar language.now.tables }
+    requires reductions { AreReductions language.now.language.grammar language.now.tables reductions.old }
+    requires terminal { terminal ≤ language.now.language.grammar.terminals }
+    requires states { All (λ s. s < size_of language.now.tables) states.old.items }
+    ensures action { IsRuleAction language.now.language.grammar (action_of language.now.tables (last_or 0 states.new.items) terminal) result }
+    ensures carries { CarryOver language.now terminal states.old.items states.new.items }
+    ensures states { All (λ s. s < size_of language.now.tables) states.new.items }
+    ensures reductions { AreReductions language.now.language.grammar language.now.tables reductions.new }
+{
+    if states.is_empty() {
+        return action_at(language, &reductions.rules, 0, terminal);
+    }
+    let place = states.len() - 1;
+    let below = top(&states[..place]);
+    let from = top(states);
+    let key = Key {
+        below,
+        from,
+        terminal,
+    };
+    let end = end_at(language, reductions, key);
+    states[place] = end.target;
+    end.action
 }
 
 // Makes a reduction of that rule, and then those of one symbol each that follow. Answers the action after them.

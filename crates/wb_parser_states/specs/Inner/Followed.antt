@@ -4,9 +4,8 @@ use Rattle.wb_base.specs.Grammar.{GrammarView}
 use Rattle.wb_lookahead.specs.declared.action.Action.TheVariants.{Reduce}
 use Rattle.wb_lookahead.specs.Contents.{TablesView, action_of, size_of}
 use Rattle.wb_parser_states.specs.declared.chains.Chain.{Chain}
-use Rattle.wb_parser_states.specs.declared.chains.ChainEnd.{ChainEnd}
 use Rattle.wb_parser_states.specs.declared.chains.Key.{Key}
-use Rattle.wb_parser_states.specs.Chains.{IsChain, IsEnd}
+use Rattle.wb_parser_states.specs.Chains.{IsChain}
 
 -- states of the tables, and a terminal of the grammar or the end of a text
 pub record IsKey (g : GrammarView) (tables : TablesView) (key : Key) : Type 0 where
@@ -27,9 +26,3 @@ pub record IsChainOf (g : GrammarView) (tables : TablesView) (chain : Chain) : T
   pub target : chain.target < size_of tables
   pub action : chain.action ≡ action_of tables chain.target chain.start.terminal
   pub within : (production : ℕ) → chain.action ≡ Reduce production → production < length g.productions
-
--- some chain leads from the state to the end
-pub record IsChainEnd (g : GrammarView) (tables : TablesView) (key : Key) (end : ChainEnd) : Type 0 where
-  pub productions : List ℕ
-  pub is : IsChain g tables key.below key.terminal key.from productions end.target
-  pub ends : IsEnd g tables key.terminal end

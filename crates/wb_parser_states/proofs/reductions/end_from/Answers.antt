@@ -1,12 +1,13 @@
 use Rattle.std.proofs.Common.{◌∙◌, ap, arith, sym}
 use Rattle.std.specs.Prelude.{Some}
 use Rattle.std.proofs.lemmas.Option.{slice_get-get_or}
+use Rattle.wb_parser_states.specs.Chains.{IsMoveEnd}
 use Rattle.wb_parser_states.proofs.ChainLemmas.{kept_found}
 use Rattle.wb_parser_states.proofs.reductions.end_from.Goals as goal
 
 pub returns-then-is_kept-clause-end : goal.returns-then-is_kept-clause-end
 returns-then-is_kept-clause-end c =
-    kept_found c.args.language.now.language.grammar c.args.language.now.tables c.args.reductions.now.ends.items
+    kept_found (IsMoveEnd c.args.language.now.language.grammar c.args.language.now.tables) c.args.reductions.now.ends.items
     c.place_of-place.result c.index-kept.result.now c.args.key c.end_in.result c.requires.reductions.ends
     (slice_get-get_or c.args.reductions.now.ends.items c.place_of-place.result c.index-kept.result.now
     (omega (arith, c.if-place-len.true, c.len.ensures)) ∙ ap Some (sym c.index-kept.ensures))

@@ -1,4 +1,5 @@
 use Rattle.std.proofs.Common.{subst, sym}
+use Rattle.wb_parser_states.specs.Chains.{IsMoveEnd}
 use Rattle.wb_parser_states.specs.Rules.{AreRules}
 use Rattle.wb_parser_states.proofs.ChainLemmas.{kept_after}
 use Rattle.wb_parser_states.proofs.reductions.new_end.Goals as goal
@@ -10,6 +11,7 @@ move_end-end-requires-clause-rules c =
 pub returns-clause-reductions : goal.returns-clause-reductions
 returns-clause-reductions c = record {
   rules = c.requires.reductions.rules;
-  ends = kept_after c.args.language.now.language.grammar c.args.language.now.tables c.args.reductions.now.ends.items _ c.args.key
+  ends = kept_after (IsMoveEnd c.args.language.now.language.grammar c.args.language.now.tables) c.args.reductions.now.ends.items _ c.args.key
       c.move_end-end.result c.keep.ensures c.requires.reductions.ends c.move_end-end.ensures;
+  tops = c.requires.reductions.tops;
 }

@@ -10,23 +10,12 @@ use Rattle.wb_parser_states.proofs.TableLemmas.{zero_below}
 use Rattle.wb_parser_states.proofs.StepLemmas.{accept_case, act_below, shift_case, stuck_case}
 use Rattle.wb_parser_states.proofs.step.reduce_states.Goals as goal
 
-pub action_at-action-requires-clause-state : goal.action_at-action-requires-clause-state
-action_at-action-requires-clause-state c =
-    let n = size_of c.args.language.now.tables in
-    subst (λ z. z < n) (sym (c.top.ensures ∙ ap (last_or 0) c.deref-2.ensures.value))
-    (last_below n 0 c.args.states.now.items (zero_below c.tables-tables.ensures.of_grammar) c.requires.states)
-
-pub action_at-action-requires-clause-rules : goal.action_at-action-requires-clause-rules
-action_at-action-requires-clause-rules c =
-    subst (AreRules c.args.language.now.language.grammar) (sym c.deref.ensures.value) c.requires.reductions.rules
-
 pub reductions-init : goal.reductions-init
 reductions-init c = record {
-  below = c.requires.states;
-  action = subst (λ z. IsRuleAction c.args.language.now.language.grammar (action_of c.args.language.now.tables z c.args.terminal)
-      c.action_at-action.result) (c.top.ensures ∙ ap (last_or 0) c.deref-2.ensures.value) c.action_at-action.ensures;
-  carries = λ text read prefix at place next n gives are. are;
-  kept = c.requires.reductions;
+  below = c.top_action-action.ensures.states;
+  action = c.top_action-action.ensures.action;
+  carries = c.top_action-action.ensures.carries;
+  kept = c.top_action-action.ensures.reductions;
 }
 
 pub returns-in-Shift-clause-target : goal.returns-in-Shift-clause-target

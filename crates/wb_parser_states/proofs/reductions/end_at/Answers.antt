@@ -1,0 +1,14 @@
+use Rattle.std.proofs.Common.{◌∙◌, ap, arith, sym}
+use Rattle.std.specs.Prelude.{Some}
+use Rattle.std.proofs.lemmas.Option.{slice_get-get_or}
+use Rattle.wb_parser_states.specs.Chains.{IsChainEnd}
+use Rattle.wb_parser_states.proofs.ChainLemmas.{kept_found}
+use Rattle.wb_parser_states.proofs.reductions.end_at.Goals as goal
+
+pub returns-then-is_kept-clause-end : goal.returns-then-is_kept-clause-end
+returns-then-is_kept-clause-end c =
+    kept_found (IsChainEnd c.args.language.now.language.grammar c.args.language.now.tables) c.args.reductions.now.tops.items
+    c.place_of-place.result c.index-kept.result.now c.args.key c.end_in.result c.requires.reductions.tops
+    (slice_get-get_or c.args.reductions.now.tops.items c.place_of-place.result c.index-kept.result.now
+    (omega (arith, c.if-place-len.true, c.len.ensures)) ∙ ap Some (sym c.index-kept.ensures))
+    (c.is_kept.ensures c.if-is_kept.true) c.end_in.ensures
