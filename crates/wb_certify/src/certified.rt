@@ -6,6 +6,7 @@ ghost use Rattle.wb_certify.specs.Extensions.{IsCertifiedBeside, IsOneExtension}
 ghost use Rattle.wb_certify.specs.Kept.{Extends};
 
 use std::marker::Model;
+use wb_determinism_beside::NewParts;
 use wb_operations::OperationSignatures;
 use wb_syntax_resolved::Resolved;
 
@@ -17,6 +18,7 @@ pub struct CertifiedExtension {
     pub(crate) host: Resolved,
     pub(crate) resolved: Resolved,
     pub(crate) operations: OperationSignatures,
+    pub(crate) found: Option<NewParts>,
 }
 
 impl Model for CertifiedExtension {
@@ -71,6 +73,11 @@ impl CertifiedExtension {
         &self.operations
     }
 
+    /// What the extension adds to its host, where it was certified by that.
+    pub fn found(&self) -> Option<&NewParts> {
+        self.found.as_ref()
+    }
+
     /// Lets go of the extension. A crate that calls this proves no drop of what it holds.
     pub fn release(self) {
         drop(self);
@@ -84,7 +91,9 @@ impl Drop for CertifiedExtension {
             host,
             resolved,
             operations,
+            found,
         } = self;
+        drop(found);
         host.release();
         resolved.release();
         operations.release();

@@ -11,7 +11,7 @@ ghost use Rattle.wb_certify.specs.Inner.Tests.{AreClearBeside, IsOfHost, IsReaso
 use crate::marks::test_marks;
 use std::alloc::Global;
 use wb_determinism::extension_determinism;
-use wb_determinism_beside::is_deterministic_beside;
+use wb_determinism_beside::{NewParts, new_parts_beside};
 use wb_determinism_host::{DeterminismRefusal, HostParts};
 use wb_syntax_resolved::Resolved;
 
@@ -20,7 +20,7 @@ pub(crate) fn determinism_beside(
     alloc: Global,
     host: &HostParts,
     resolved: &Resolved,
-) -> Result<(), DeterminismRefusal>
+) -> Result<Option<NewParts>, DeterminismRefusal>
     requires grammar { IsSome resolved.now.grammar }
     requires host { IfSome resolved.now.grammar (λ g. IsHostBeside resolved.now g host.now) }
     requires of_host { IsOfHost resolved.now host.now }
@@ -28,11 +28,12 @@ pub(crate) fn determinism_beside(
     ensures refused { IfErr result (IsReasonBeside resolved.now host.now.grammar) }
 {
     test_marks(alloc, resolved)?;
-    let seen = is_deterministic_beside(alloc, host, resolved)?;
-    if seen {
-        return Ok(());
+    let seen = new_parts_beside(alloc, host, resolved)?;
+    if let Some(parts) = seen {
+        return Ok(Some(parts));
     }
-    test_whole(alloc, host, resolved)
+    test_whole(alloc, host, resolved)?;
+    Ok(None)
 }
 
 // Whether the extension is deterministic, by the host with the extension as a whole.

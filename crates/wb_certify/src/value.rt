@@ -16,6 +16,7 @@ use crate::attributes::test_attributes;
 use crate::determinism::determinism_beside;
 use std::alloc::{AllocError, Global};
 use wb_certify_host::{CertifiedHost, CertifyRefusal};
+use wb_determinism_beside::NewParts;
 use wb_determinism_host::DeterminismRefusal;
 use wb_flow::AttributeRefusal;
 use wb_operations::{Meaning, OperationSignatures, OperationTable};
@@ -42,12 +43,13 @@ pub fn certify_beside<M: Meaning>(
     ensures certified { IfOk result (λ extension. IsCertifiedBeside host.now.resolved resolved.now host.now.operations) }
     ensures refused { IfErr result (IsBesideRefusal host.now.resolved resolved.now host.now.operations) }
 {
-    test_beside(alloc, host, resolved, operations)?;
+    let found = test_beside(alloc, host, resolved, operations)?;
     match copies_of(host, resolved) {
         Ok((base, copied, signatures)) => Ok(CertifiedExtension {
             host: base,
             resolved: copied,
             operations: signatures,
+            found,
         }),
         Err(error) => Err(CertifyRefusal::NoMemory(error)),
     }
@@ -86,15 +88,15 @@ fn test_beside<M: Meaning>(
     host: &CertifiedHost,
     resolved: &Resolved,
     operations: &OperationTable<M>,
-) -> Result<(), CertifyRefusal>
+) -> Result<Option<NewParts>, CertifyRefusal>
     requires { Extends host.now.resolved resolved.now }
     ensures ok { IfOk result (λ done. IsMadeCertified host.now resolved.now operations.now.signatures) }
     ensures refused { IfErr result (IsBesideRefusal host.now.resolved resolved.now operations.now.signatures) }
 {
     check_kinds(alloc, resolved, operations)?;
-    check_determinism(alloc, host, resolved)?;
+    let found = check_determinism(alloc, host, resolved)?;
     match check_attributes(alloc, resolved) {
-        Ok(()) => Ok(()),
+        Ok(()) => Ok(found),
         Err(refusal) => Err(refusal),
     }
 }
@@ -120,7 +122,7 @@ fn check_determinism(
     alloc: Global,
     host: &CertifiedHost,
     resolved: &Resolved,
-) -> Result<(), CertifyRefusal>
+) -> Result<Option<NewParts>, CertifyRefusal>
     requires { Extends host.now.resolved resolved.now }
     ensures ok { IfOk result (λ done. IsMade host.now resolved.now) }
     ensures refused { IfErr result (IsLaterRefusal host.now.resolved resolved.now) }
@@ -128,7 +130,7 @@ fn check_determinism(
     // The specification is resolved.
     resolved.parts();
     match determinism_beside(alloc, host.parts(), resolved) {
-        Ok(()) => Ok(()),
+        Ok(found) => Ok(found),
         Err(DeterminismRefusal::NoMemory(..)) => Err(CertifyRefusal::NoMemory(AllocError)),
         Err(refusal) => Err(CertifyRefusal::Determinism(refusal)),
     }

@@ -3,14 +3,15 @@
 ghost use Rattle.std.specs.Prelude.{◌≡◌, [], All, IfOk, IsSome, map};
 ghost use Rattle.wb_base.specs.Different.{Differ};
 ghost use Rattle.wb_compose.specs.Composed.{IsComposed, IsWith, name_of};
-ghost use Rattle.wb_compose.specs.Local.{HasLocalLookaheads};
 ghost use Rattle.wb_syntax_resolved.specs.Resolved.{IsResolved};
 ghost use Rattle.wb_compose.specs.Inner.Lending.{IsLentHost};
 
 use crate::additions::additions_of;
 use std::alloc::{AllocError, Global};
-use wb_certify::{CertifiedExtension, CertifiedHost};
-use wb_compose_language::{Addition, Lent, united_language};
+use wb_certify::CertifiedExtension;
+use wb_certify_host::CertifiedHost;
+use crate::splicing::tables_by_parts;
+use wb_compose_language::{Addition, Lent, language_by, united_grammar, united_language};
 use wb_scan::Language;
 use wb_syntax_resolved::Resolved;
 
@@ -44,24 +45,8 @@ impl Composed {
 
 /// The language of a host and of extensions, each certified with this host over the same operations.
 ///
-/// Terminals are numbered by the host, then by each extension, and then comes the host's layout. The lookaheads of an item are those that it
-/// has in the host by itself, or in the host with one of the extensions, with all markers in the place of each hole. No clause bounds the
-/// time.
+/// Terminals are numbered by the host, then by each extension, and then comes the host's layout. No clause bounds the time.
 pub fn compose(
-    alloc: Global,
-    host: &CertifiedHost,
-    extensions: &[CertifiedExtension],
-) -> Result<Composed, AllocError>
-    requires each { All (IsWith host.now) extensions.now }
-    requires names { Differ (map name_of extensions.now) }
-    ensures composed { IfOk result (λ made. IsComposed host.now extensions.now made.language.language made.withdrawn.items) }
-    ensures local { IfOk result (λ made. HasLocalLookaheads host.now extensions.now made.language.language) }
-{
-    by_union(alloc, host, extensions)
-}
-
-// The language, by the kernels and lookaheads of the union's grammar.
-fn by_union(
     alloc: Global,
     host: &CertifiedHost,
     extensions: &[CertifiedExtension],
@@ -72,7 +57,11 @@ fn by_union(
 {
     let additions = additions_of(alloc, extensions)?;
     let lent = lent_of(host.resolved(), &additions);
-    let made = united_language(alloc, &lent)?;
+    let union = united_grammar(alloc, lent.grammar, lent.extensions)?;
+    let made = match tables_by_parts(alloc, host, extensions, &union)? {
+        Some(tables) => language_by(alloc, &lent, union, tables)?,
+        None => united_language(alloc, &lent)?,
+    };
     Ok(Composed {
         language: made.language,
         withdrawn: made.withdrawn,

@@ -12,7 +12,7 @@ mod composition;
 mod cuts;
 pub mod laws;
 mod rows;
+mod splicing;
 
 pub use attributes::composed_attributes;
 pub use composition::{Composed, compose, compose_host};
-pub use wb_certify::{CertifiedExtension, CertifiedHost};

@@ -19,9 +19,11 @@ mod part_blocks;
 mod sets;
 mod splice;
 mod states;
+mod tables;
 mod targets;
 
 pub use kernels::spliced_kernels;
 pub use lookaheads::spliced_lookaheads;
 pub use sets::Sets;
 pub use splice::{Part, Splice};
+pub use tables::spliced_tables;

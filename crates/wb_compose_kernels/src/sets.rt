@@ -7,5 +7,5 @@ use wb_items::Lookaheads;
 #[derive(Clone, Copy)]
 pub struct Sets<'a> {
     pub host: &'a Lookaheads,
-    pub new: &'a [NewLookaheads],
+    pub new: &'a [&'a NewLookaheads],
 }

@@ -20,7 +20,7 @@ fn new_sets<'a>(filling: &Filling<'a>, part: usize) -> &'a NewLookaheads
     requires { part < length filling.now.sets.now.new.now }
     ensures { slice_get filling.now.sets.now.new.now part ≡ Some result.now }
 {
-    &filling.sets.new[part]
+    filling.sets.new[part]
 }
 
 // How many items of a new kernel have a set.

@@ -42,13 +42,24 @@ pub fn united_language(alloc: Global, lent: &Lent) -> Result<UnitedLanguage, All
     ensures withdrawn { IfOk result (λ made. HasWithdrawn lent.now made.withdrawn.items) }
 {
     let grammar = united_grammar(alloc, lent.grammar, lent.extensions)?;
-    let made = made_of(alloc, lent, &grammar)?;
-    let rows = made.rows;
-    let scanned = made.scanned;
+    let tables = tables_of(alloc, &grammar)?;
+    language_by(alloc, lent, grammar, tables)
+}
+
+/// Like `united_language`, where these are the grammar and its tables.
+pub fn language_by(
+    alloc: Global,
+    lent: &Lent,
+    grammar: Grammar,
+    tables: Tables,
+) -> Result<UnitedLanguage, AllocError> {
+    let written = written_by(alloc, lent, &grammar, &tables)?;
+    let rows = written.rows;
+    let scanned = written.scanned;
     Ok(UnitedLanguage {
         language: Language::new(
             grammar,
-            made.tables,
+            tables,
             scanned.automaton,
             scanned.forms,
             rows.layout,
@@ -56,14 +67,6 @@ pub fn united_language(alloc: Global, lent: &Lent) -> Result<UnitedLanguage, All
         ),
         withdrawn: scanned.withdrawn,
     })
-}
-
-// What is made of a union beside its grammar.
-#[derive(Drop)]
-struct Made {
-    tables: Tables,
-    rows: Rows,
-    scanned: Scanned,
 }
 
 // How it is written.
@@ -86,21 +89,6 @@ struct Scanned {
     automaton: Automaton,
     forms: Vec<Form>,
     withdrawn: Vec<usize>,
-}
-
-// All parts of the language beside its grammar.
-fn made_of(alloc: Global, lent: &Lent, grammar: &Grammar) -> Result<Made, AllocError>
-    requires unitable { IsUnitable lent.now }
-    requires grammar { grammar.now ≡ grammar_of lent.now }
-    ensures { IfOk result (IsMade lent.now grammar.now) }
-{
-    let tables = tables_of(alloc, grammar)?;
-    let written = written_by(alloc, lent, grammar, &tables)?;
-    Ok(Made {
-        tables,
-        rows: written.rows,
-        scanned: written.scanned,
-    })
 }
 
 // How the union is written, with what is considered at each state of these tables.

@@ -12,6 +12,7 @@ ghost use Rattle.wb_determinism_beside.specs.Asked.{IsAskedBeside};
 ghost use Rattle.wb_determinism_beside.specs.Inner.Asking.{Answer, IsAsked};
 
 use crate::asked::{Asked, Fit};
+use crate::new_parts::{FoundParts, Kept, NewParts};
 use crate::numbered::with_numbers;
 use std::alloc::{AllocError, Global};
 use wb_base::Grammar;
@@ -24,11 +25,11 @@ use wb_syntax_resolved::Resolved;
 ///
 /// The specification is that of the host with the one extension, and the parts are those of the host alone. Nothing is made for a kernel of
 /// the host. The only error is out of memory. No clause bounds the time.
-pub fn is_deterministic_beside(
+pub fn new_parts_beside(
     alloc: Global,
     host: &HostParts,
     resolved: &Resolved,
-) -> Result<bool, AllocError>
+) -> Result<Option<NewParts>, AllocError>
     requires grammar { IsSome resolved.now.grammar }
     requires asked { IfSome resolved.now.grammar (λ g. IsAskedBeside resolved.now g host.now) }
     ensures { IfOk result (λ answer. IsTrue answer → IfSome resolved.now.grammar (λ g. IsDeterministicExtension resolved.now g host.now.grammar)) }
@@ -47,28 +48,40 @@ pub fn is_deterministic_beside(
 }
 
 // Like `is_deterministic_beside`, with the grammar.
-fn with_grammar(alloc: Global, asked: &Asked) -> Result<bool, AllocError>
+fn with_grammar(alloc: Global, asked: &Asked) -> Result<Option<NewParts>, AllocError>
     requires { IsAsked asked.now }
     ensures { IfOk result (λ answer. IsTrue answer → Answer asked.now) }
 {
     if !is_reduced(alloc, asked.grammar)? {
-        return Ok(false);
+        return Ok(None);
     }
     let holes = with_holes(alloc, asked.resolved)?;
-    let answer = by_holes(alloc, asked, &holes);
-    drop(holes);
-    answer
+    match by_holes(alloc, asked, &holes) {
+        Ok(Some(found)) => {
+            let FoundParts { numbers, images, prefixes, kept } = found;
+            let Kept { new, sets } = kept;
+            Ok(Some(NewParts { grammar: holes, numbers, images, prefixes, new, sets }))
+        }
+        Ok(None) => {
+            drop(holes);
+            Ok(None)
+        }
+        Err(error) => {
+            drop(holes);
+            Err(error)
+        }
+    }
 }
 
 // Like `with_grammar`, where the grammar is reduced, with the grammar with holes.
-fn by_holes(alloc: Global, asked: &Asked, holes: &Grammar) -> Result<bool, AllocError>
+fn by_holes(alloc: Global, asked: &Asked, holes: &Grammar) -> Result<Option<FoundParts>, AllocError>
     requires asked { IsAsked asked.now }
     requires reduced { IsReduced asked.now.grammar.now }
     requires holes { holes.now ≡ with_holes_of asked.now.grammar.now asked.now.resolved.now.extensible }
     ensures { IfOk result (λ answer. IsTrue answer → Answer asked.now) }
 {
     let Some(facts) = facts_of(alloc, holes)? else {
-        return Ok(false);
+        return Ok(None);
     };
     let answer = with_numbers(
         alloc,

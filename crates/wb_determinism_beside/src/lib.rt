@@ -15,9 +15,11 @@ mod found;
 mod images;
 mod laws;
 mod layout;
+mod new_parts;
 mod numbered;
 mod rows;
 mod valid;
 
-pub use deterministic::is_deterministic_beside;
+pub use deterministic::new_parts_beside;
+pub use new_parts::NewParts;
 pub use laws::{given_law, pieces_law, scanned_law};

@@ -12,6 +12,7 @@ use crate::clear::is_clear;
 use crate::foreign::are_foreign;
 use crate::found::Found;
 use crate::images::images_of;
+use crate::new_parts::{FoundParts, Kept, prefixes_of};
 use std::alloc::{AllocError, Global};
 use wb_base::Grammar;
 use wb_determinism_kernels::{Added, Beside, NewKernels, Numbers};
@@ -19,9 +20,9 @@ use wb_determinism_lookaheads::NewLookaheads;
 use wb_items::{Numbers as Productions, production_numbers};
 
 // Whether the extension is deterministic, by its new kernels.
-pub(crate) fn with_numbers(alloc: Global, fit: &Fit) -> Result<bool, AllocError>
+pub(crate) fn with_numbers(alloc: Global, fit: &Fit) -> Result<Option<FoundParts>, AllocError>
     requires { IsFit fit.now }
-    ensures { IfOk result (λ answer. IsTrue answer → Answer (asked_in fit.now)) }
+    ensures { IfOk result (λ found. IfSome found (λ kept. Answer (asked_in fit.now))) }
 {
     let parts = fit.asked.resolved.parts();
     let moved = numbers_of(&fit.asked.host.grammar, fit.holes, parts.extensible.len());
@@ -38,8 +39,25 @@ pub(crate) fn with_numbers(alloc: Global, fit: &Fit) -> Result<bool, AllocError>
             images: &images,
         },
     );
-    drop(images);
-    answer
+    match answer {
+        Ok(Some(kept)) => {
+            let prefixes = prefixes_of(alloc, &fit.asked.host.kernels)?;
+            Ok(Some(FoundParts {
+                numbers: moved,
+                images,
+                prefixes,
+                kept,
+            }))
+        }
+        Ok(None) => {
+            drop(images);
+            Ok(None)
+        }
+        Err(error) => {
+            drop(images);
+            Err(error)
+        }
+    }
 }
 
 // The numbers of a host's grammar in that of the host with an extension, each with so many holes.
@@ -65,10 +83,10 @@ fn numbers_of(host: &Grammar, both: &Grammar, holes: usize) -> Numbers
 }
 
 // Like `with_numbers`, where new kernels are found by what is given.
-fn with_beside(alloc: Global, fit: &Fit, beside: &Beside) -> Result<bool, AllocError>
+fn with_beside(alloc: Global, fit: &Fit, beside: &Beside) -> Result<Option<Kept>, AllocError>
     requires fit { IsFit fit.now }
     requires beside { IsBesideOf fit.now beside.now }
-    ensures { IfOk result (λ answer. IsTrue answer → Answer (asked_in fit.now)) }
+    ensures { IfOk result (λ found. IfSome found (λ kept. Answer (asked_in fit.now))) }
 {
     let rules = production_numbers(alloc, beside.grammar)?;
     let answer = with_rules(alloc, fit, beside, &rules);
@@ -82,16 +100,24 @@ fn with_rules(
     fit: &Fit,
     beside: &Beside,
     rules: &[Productions],
-) -> Result<bool, AllocError>
+) -> Result<Option<Kept>, AllocError>
     requires fit { IsFit fit.now }
     requires beside { IsBesideOf fit.now beside.now }
     requires rules { AreProductions beside.now.grammar.now rules.now }
-    ensures { IfOk result (λ answer. IsTrue answer → Answer (asked_in fit.now)) }
+    ensures { IfOk result (λ found. IfSome found (λ kept. Answer (asked_in fit.now))) }
 {
     let new = NewKernels::find(alloc, beside, rules)?;
-    let answer = with_new(alloc, fit, beside, rules, &new);
-    drop(new);
-    answer
+    match with_new(alloc, fit, beside, rules, &new) {
+        Ok(Some(sets)) => Ok(Some(Kept { new, sets })),
+        Ok(None) => {
+            drop(new);
+            Ok(None)
+        }
+        Err(error) => {
+            drop(new);
+            Err(error)
+        }
+    }
 }
 
 // Like `with_rules`, with the new kernels.
@@ -101,16 +127,16 @@ fn with_new(
     beside: &Beside,
     rules: &[Productions],
     new: &NewKernels,
-) -> Result<bool, AllocError>
+) -> Result<Option<NewLookaheads>, AllocError>
     requires fit { IsFit fit.now }
     requires beside { IsBesideOf fit.now beside.now }
     requires rules { AreProductions beside.now.grammar.now rules.now }
     requires new { AreNewKernels beside.now.host.now beside.now.grammar.now beside.now.numbers.now beside.now.images.now new.now }
-    ensures { IfOk result (λ answer. IsTrue answer → Answer (asked_in fit.now)) }
+    ensures { IfOk result (λ found. IfSome found (λ kept. Answer (asked_in fit.now))) }
 {
     let known = &fit.asked.host.lookaheads;
     let Some(sets) = NewLookaheads::find(alloc, beside, fit.facts, rules, known, new)? else {
-        return Ok(false);
+        return Ok(None);
     };
     let answer = with_found(
         alloc,
@@ -121,15 +147,24 @@ fn with_new(
             sets: &sets,
         },
     );
-    drop(sets);
-    answer
+    match answer {
+        Ok(true) => Ok(Some(sets)),
+        Ok(false) => {
+            drop(sets);
+            Ok(None)
+        }
+        Err(error) => {
+            drop(sets);
+            Err(error)
+        }
+    }
 }
 
 // Whether the extension is deterministic, where these are the new kernels with their lookaheads.
 fn with_found(alloc: Global, fit: &Fit, found: &Found) -> Result<bool, AllocError>
     requires fit { IsFit fit.now }
     requires found { IsFoundOf fit.now found.now }
-    ensures { IfOk result (λ answer. IsTrue answer → Answer (asked_in fit.now)) }
+    ensures { IfOk result (λ found. IfSome found (λ kept. Answer (asked_in fit.now))) }
 {
     if !are_foreign(found) {
         return Ok(false);
