@@ -1,6 +1,7 @@
 //! What is the answer to a command?
 //!
-//! Each command has a file for its answer, but those that are asked of a text alone share `texts`.
+//! Each command has a file for its answer, but those that are asked of a text alone share `texts`, and those that ask for an attribute at the
+//! root of a text share `source`.
 
 ghost use Rattle.wb_operations.specs.Kept.{IsKept};
 ghost use Rattle.wb_program_words.specs.Asked.{asked_by};
@@ -15,25 +16,22 @@ mod certify;
 mod check;
 mod compose;
 mod edit;
-mod generate;
 pub(crate) mod reading;
 mod recheck;
-mod run;
 mod show;
 pub(crate) mod tree;
 mod value;
 
 use crate::answer::Answer;
 use crate::files::ReadFailure;
+use crate::source::{Source, answer_source};
 use crate::texts::{OfText, answer_of_text};
 use certificate::answer_certificate;
 use certify::answer_certify;
 use check::answer_check;
 use compose::answer_compose;
 use edit::answer_edit;
-use generate::answer_generate;
 use recheck::answer_recheck;
-use run::answer_run;
 use show::answer_show;
 use std::alloc::Global;
 use value::answer_value;
@@ -114,18 +112,24 @@ fn answer_on_text<S: Shelf, M: Meaning>(
             steps,
             host,
             extensions,
-        } => answer_run(
-            alloc, shelf, text, attribute, steps, host, extensions, operations,
-        ),
+        } => {
+            let source = Source::File { file: text, steps };
+            answer_source(
+                alloc, shelf, source, attribute, host, extensions, operations,
+            )
+        }
         Command::Generate {
             number,
             size,
             attribute,
             host,
             extensions,
-        } => answer_generate(
-            alloc, shelf, number, size, attribute, host, extensions, operations,
-        ),
+        } => {
+            let source = Source::Number { number, size };
+            answer_source(
+                alloc, shelf, source, attribute, host, extensions, operations,
+            )
+        }
         Command::Edit {
             text,
             edits,

@@ -91,55 +91,27 @@ pub(crate) fn row_of(verb: Verb) -> Row
     ensures few { length result.options.now ≤ 3 }
 {
     match verb {
-        Verb::Value => Row {
-            options: &NONE,
-            words: Count::Exactly(3),
-        },
-        Verb::Show => Row {
-            options: &NONE,
-            words: Count::Exactly(1),
-        },
-        Verb::Check => Row {
-            options: &NONE,
-            words: Count::Exactly(1),
-        },
-        Verb::Certify => Row {
-            options: &NONE,
-            words: Count::From(1),
-        },
-        Verb::Compose => Row {
-            options: &NONE,
-            words: Count::From(1),
-        },
-        Verb::Tree => Row {
-            options: &OF_TEXT,
-            words: Count::From(1),
-        },
-        Verb::Run => Row {
-            options: &OF_RUN,
-            words: Count::From(1),
-        },
-        Verb::Generate => Row {
-            options: &OF_GENERATE,
-            words: Count::From(1),
-        },
-        Verb::Certificate => Row {
-            options: &NONE,
-            words: Count::Either(1, 2),
-        },
-        Verb::Recheck => Row {
-            options: &NONE,
-            words: Count::Either(2, 4),
-        },
-        Verb::Edit => Row {
-            options: &OF_EDIT,
-            words: Count::From(1),
-        },
-        Verb::Reading => Row {
-            options: &OF_TEXT,
-            words: Count::From(1),
-        },
+        Verb::Value => row_with(&NONE, Count::Exactly(3)),
+        Verb::Show => row_with(&NONE, Count::Exactly(1)),
+        Verb::Check => row_with(&NONE, Count::Exactly(1)),
+        Verb::Certify => row_with(&NONE, Count::From(1)),
+        Verb::Compose => row_with(&NONE, Count::From(1)),
+        Verb::Tree => row_with(&OF_TEXT, Count::From(1)),
+        Verb::Run => row_with(&OF_RUN, Count::From(1)),
+        Verb::Generate => row_with(&OF_GENERATE, Count::From(1)),
+        Verb::Certificate => row_with(&NONE, Count::Either(1, 2)),
+        Verb::Recheck => row_with(&NONE, Count::Either(2, 4)),
+        Verb::Edit => row_with(&OF_EDIT, Count::From(1)),
+        Verb::Reading => row_with(&OF_TEXT, Count::From(1)),
     }
+}
+
+// A row of its parts.
+fn row_with(options: &'static [OptionName], words: Count) -> Row
+    ensures options { result.options.now ≡ options.now }
+    ensures words { result.words ≡ words }
+{
+    Row { options, words }
 }
 
 // The verb that a word is.

@@ -11,23 +11,24 @@ use wb_program::{Status, workbench};
 use wb_world::{FileShelf, OutputSink};
 
 fn main(rt: HostRuntime) -> ExitCode {
-    ExitCode::from(run(rt).number())
-}
-
-// A word that isn't UTF-8 is no word of a command, so that the words are then none.
-fn run(rt: HostRuntime) -> Status {
     let alloc = rt.alloc();
+    // A word that isn't UTF-8 is no word of a command, so that the words are then none.
     let words = match words_of(&rt) {
         Ok(words) => words,
-        Err(error) if error.kind() == io::ErrorKind::OutOfMemory => return Status::NoMemory,
+        Err(error) if error.kind() == io::ErrorKind::OutOfMemory => return no_memory(),
         Err(_) => Vec::new(alloc),
     };
     let Ok(operations) = standard_table(alloc) else {
-        return Status::NoMemory;
+        return no_memory();
     };
     let mut shelf = FileShelf::new(alloc, rt);
     let mut sink = OutputSink::new(rt);
-    workbench(alloc, &words, &mut shelf, &mut sink, &operations)
+    let status = workbench(alloc, &words, &mut shelf, &mut sink, &operations);
+    ExitCode::from(status.number())
+}
+
+fn no_memory() -> ExitCode {
+    ExitCode::from(Status::NoMemory.number())
 }
 
 // The words of the command line, without the program's name.

@@ -13,17 +13,17 @@ returns-in-Tree g c =
 pub returns-in-Run : goal.returns-in-Run
 returns-in-Run g c =
     let operations : Operations = record { signatures = c.args.operations.now.signatures; meaning = g.M.Meaning.meaning } in
-    of_command operations c.answer_run.result c.args.command c.in-Run.is c.answer_run.ensures
+    of_command operations c.answer_source.result c.args.command c.in-Run.is c.answer_source.ensures
 
-pub answer_generate-requires-clause-size : goal.answer_generate-requires-clause-size
-answer_generate-requires-clause-size g c =
+pub answer_source-in-Generate-requires-clause-size : goal.answer_source-in-Generate-requires-clause-size
+answer_source-in-Generate-requires-clause-size g c =
     let x = c.in-Generate in
     c.requires.leaves x.number x.size x.attribute.now x.host.now (texts x.extensions.now) (ap asked_by x.is)
 
 pub returns-in-Generate : goal.returns-in-Generate
 returns-in-Generate g c =
     let operations : Operations = record { signatures = c.args.operations.now.signatures; meaning = g.M.Meaning.meaning } in
-    of_command operations c.answer_generate.result c.args.command c.in-Generate.is c.answer_generate.ensures
+    of_command operations c.answer_source-in-Generate.result c.args.command c.in-Generate.is c.answer_source-in-Generate.ensures
 
 pub returns-in-Edit : goal.returns-in-Edit
 returns-in-Edit g c =
