@@ -83,7 +83,8 @@ impl Drop for TextLanguage {
 impl TextLanguage {
     /// The language of a certified host with extensions. The only error is out of memory. No clause bounds the time.
     pub fn of(alloc: Global, certified: Certified) -> Result<TextLanguage, AllocError>
-        ensures { IfOk result (λ made. made.certified ≡ certified) }
+        ensures of { IfOk result (λ made. made.certified ≡ certified) }
+        ensures is { IfOk result IsTextLanguage }
     {
         match shown_of(alloc, &certified) {
             Ok(shown) => with_shown(alloc, certified, shown),
@@ -144,7 +145,8 @@ impl TextLanguage {
 fn with_shown(alloc: Global, certified: Certified, shown: Shown) -> Result<TextLanguage, AllocError>
     requires signatures { AreSignatures certified shown.signatures }
     requires terminals { AreTerminals certified shown.terminals }
-    ensures { IfOk result (λ made. made.certified ≡ certified) }
+    ensures of { IfOk result (λ made. made.certified ≡ certified) }
+    ensures is { IfOk result IsTextLanguage }
 {
     match composed_of(alloc, &certified) {
         Ok(composed) => shared(
@@ -166,7 +168,8 @@ fn with_shown(alloc: Global, certified: Certified, shown: Shown) -> Result<TextL
 // The language of these fields.
 fn shared(alloc: Global, fields: Fields) -> Result<TextLanguage, AllocError>
     requires { IsTextLanguage (parts_of fields) }
-    ensures { IfOk result (λ made. made ≡ parts_of fields) }
+    ensures of { IfOk result (λ made. made ≡ parts_of fields) }
+    ensures is { IfOk result IsTextLanguage }
 {
     Ok(TextLanguage {
         fields: Rc::new(alloc, fields)?,

@@ -13,3 +13,5 @@ mod value;
 pub use certified::Certified;
 pub use language::TextLanguage;
 pub use refusal::NextRefusal;
+pub use wb_certify_files::{FileRefusal, HostRefusal};
+pub use wb_compose_texts::{TextValue, TreeValue};

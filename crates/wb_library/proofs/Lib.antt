@@ -1,0 +1,2 @@
+-- the machine value of a pointer to a workbench
+pub mod PointerValues
