@@ -68,7 +68,7 @@ module _ (parts : LanguageParts) (ok : IsLanguage parts.language) (source : List
       (lexeme : List ℕ) (link target : ℕ) → here + length lexeme ≡ next.at → (k : IsKept parts source roots places point) →
       Scans parts.language source (symbols k.stack) e point.at (token begin t lexeme next.at) →
       IsSettled parts t roots point.link mid link (Shifts target) → length mid.values ≡ length mid.entries →
-      after_roots.entries ≡ mid.entries ++ (record { state = target; below = link }) ∷ [] →
+      after_roots.entries ≡ mid.entries ++ (record { state = target; below = link; tree = 0 }) ∷ [] →
       after_roots.values ≡ mid.values ++ stored.Text lexeme ∷ [] → after_roots.trees ≡ mid.trees → next.link ≡ length mid.entries + 1 →
       point.reach ≤ next.reach → e ≤ next.reach → next.at ≤ next.reach → next.at ≤ length source →
       IsKept parts source after_roots (places ++ (record { terminal = t; begin = begin; lexeme = here; end = next.at }) ∷ []) next
@@ -81,7 +81,7 @@ module _ (parts : LanguageParts) (ok : IsLanguage parts.language) (source : List
       let new : Forest = joined reduced (leaf t lexeme nothing) in
       let last : Leaf = leaf_of reduced t lexeme in
       let place : LeafPlace = record { terminal = t; begin = begin; lexeme = here; end = next.at } in
-      let x : Entry = record { state = target; below = link } in
+      let x : Entry = record { state = target; below = link; tree = 0 } in
       let up : suc (length mid.entries) ≡ next.link = omega (arith, link_is) in
       record {
         stack = new;

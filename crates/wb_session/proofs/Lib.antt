@@ -5,3 +5,8 @@ pub mod PlaceLemmas
 pub mod LeafLemmas
 pub mod KeptLemmas
 pub mod VersionLemmas
+pub mod NodeLemmas
+pub mod StandingLemmas
+pub mod KnownLemmas
+pub mod StoodLemmas
+pub mod PastLemmas

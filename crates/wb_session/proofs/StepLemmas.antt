@@ -1,5 +1,5 @@
 -- What reductions make of the stacks to which links lead.
-use Rattle.std.proofs.Common.{◌≡◌, ◌<◌, ◌≤◌, ◌+◌, ◌-◌, ◌^◌, ℕ, suc, List, [], ◌∷◌, ◌++◌, length, take, drop, refl, sym, ◌∙◌, ap}
+use Rattle.std.proofs.Common.{◌≡◌, ◌≤◌, ◌+◌, ◌-◌, ℕ, suc, List, [], ◌∷◌, ◌++◌, length, take, drop, refl, sym, ◌∙◌, ap}
 use Rattle.std.proofs.Common.{subst, inl, inr, arith, length-append}
 use Rattle.std.specs.Prelude.{All, Some, min}
 use Rattle.wb_lemmas.proofs.Parts.{take_append, drop_append}
@@ -14,12 +14,10 @@ use Rattle.wb_lookahead.specs.declared.action.Action.TheVariants.{Shift, Reduce,
 use Rattle.wb_lookahead.specs.Contents.{action_of, goto_of}
 use Rattle.wb_values.specs.Tree.{Tree, empty, more, tree}
 use Rattle.wb_values.specs.Tree as values
-use Rattle.wb_values.specs.ValuesIn.{tree_in, value_in, values_in, IsIn, last}
+use Rattle.wb_values.specs.ValuesIn.{value_in, values_in, IsIn, last}
 use Rattle.wb_values.specs.declared.value.TreeId.{TreeId}
 use Rattle.wb_values.specs.declared.value.Value.{Value}
 use Rattle.wb_values.specs.declared.value.Value.TheVariants as stored
-use Rattle.wb_values.proofs.CallerLemmas.{tree_in_push}
-use Rattle.wb_values.proofs.Grown.{values-stable}
 use Rattle.wb_scan_theory.specs.Facts.{IsLanguage}
 use Rattle.wb_scan_theory.specs.Shown.{values_of}
 use Rattle.wb_scan_theory.specs.Parts.{AreTablesOf}
@@ -31,24 +29,25 @@ use Rattle.wb_parser_states.specs.declared.outcome.Outcome.TheVariants.{Shifts, 
 use Rattle.wb_parser_states.specs.Rules.{IsRule}
 use Rattle.wb_parser_states.specs.Stacks.{last_or}
 use Rattle.wb_parser_states.proofs.StepLemmas.{acts, accepted, moved_states, reduction}
-use Rattle.wb_parser.specs.Inner.Stacks.{IsReduction}
+use Rattle.wb_parser.specs.Parses.{Extends}
 use Rattle.wb_parser.proofs.ValueLemmas.{appended, values_in_append, values_of_joined, values_split}
 use Rattle.wb_session_theory.specs.Runs.{Reduces, rests, reduces}
 use Rattle.wb_session.specs.declared.stacks.Entry.{Entry}
 use Rattle.wb_session.specs.Stacks.{Roots, LeadsTo, bottom, above, IsStack, IsSound, state_in}
 use Rattle.wb_session.specs.Inner.Gathered.{AreParted, AreGathered}
-use Rattle.wb_session.specs.Inner.Steps.{IsMade, AreMade, IsSettled}
-use Rattle.wb_session.proofs.StackLemmas.{leads_state, leads_push, leads_inside}
+use Rattle.wb_session.specs.Inner.Nodes.{IsNode}
+use Rattle.wb_session.specs.Inner.Steps.{IsReduced, IsMade, AreMade, IsSettled}
+use Rattle.wb_session.proofs.StackLemmas.{leads_state, leads_push, leads_inside, values_extend}
 
 -- what a reduction's code does is a reduction
 pub made : (parts : LanguageParts) (p : ℕ) (rule : Rule) (roots roots' : Roots) (link link' : ℕ) (x : Entry) (id : TreeId)
     (children : List Value) → IsRule parts.language.grammar p rule → length roots.values ≡ length roots.entries →
     AreGathered roots.entries roots.values link rule.width x.below children →
     ((next : ℕ) → goto_of parts.tables (state_in roots.entries x.below) rule.left ≡ Some next → x.state ≡ next) →
-    id.0 ≡ length roots.trees → id.0 < 2 ^ 64 → roots'.trees ≡ roots.trees ++ values.node p (values_in roots.trees children) ∷ [] →
+    IsNode roots'.trees p (values_in roots.trees children) id.0 → Extends roots.trees roots'.trees →
     roots'.entries ≡ roots.entries ++ x ∷ [] → roots'.values ≡ roots.values ++ stored.Tree id ∷ [] → link' ≡ length roots.entries + 1 →
     IsMade parts p roots link roots' link'
-made parts p rule roots roots' link link' x id children is same are goes id_is fits trees_are es ws link_is states vs leads =
+made parts p rule roots roots' link link' x id children is same are goes node_is extends es ws link_is states vs leads =
     let q = are.parts states vs leads in
     let width : length children ≡ min (length is.right) (length vs) = width_is q in
     let upper_size : length q.upper ≡ length children = q.size in
@@ -80,10 +79,9 @@ made parts p rule roots roots' link link' x id children is same are goes id_is f
           states_are = ap (λ z. z ++ x.state ∷ []) (sym lower);
         };
         id = id;
-        id_is = id_is;
-        fits = fits;
+        node = subst (λ z. IsNode roots'.trees p (values_in roots.trees z) id.0) (sym above_them) node_is;
         values_are = ap (λ z. z ++ stored.Tree id ∷ []) (sym under);
-        trees_are = trees_are ∙ ap (λ z. roots.trees ++ values.node p (values_in roots.trees z) ∷ []) (sym above_them);
+        trees_are = extends;
       },
     )
   where
@@ -117,7 +115,7 @@ module _ (parts : LanguageParts) (ok : IsLanguage parts.language) (of : AreTable
     where
       go : CanReduce parts.language.grammar (symbols stack) p t → Reduced parts.language.grammar stack p → (states' : List ℕ)
           (vs' : List Value) → LeadsTo roots'.entries roots'.values link' states' vs' →
-          IsReduction parts p is.states is.vs roots.trees states' vs' roots'.trees →
+          IsReduced parts p is.states is.vs roots.trees states' vs' roots'.trees →
           (reduced : Forest) × Reduces parts.language.grammar [] t stack reduced × IsStack parts roots' link' reduced
       go can r states' vs' leads made_here =
           let g = parts.language.grammar in
@@ -137,18 +135,17 @@ module _ (parts : LanguageParts) (ok : IsLanguage parts.language) (of : AreTable
           let upper : last made_here.width vs ≡ vp.right =
           ap (λ k. drop k vs) kept ∙ (ap (drop (length vp.left)) vp.is ∙ drop_append (length vp.left) vp.left vp.right refl) in
           let new : Forest = joined r.below (node p r.left r.children nothing) in
+          let trees' = roots'.trees in
           let built : Tree = values.node p (values_of r.children) in
           let built_is : values.node p (values_in trees (last made_here.width vs)) ≡ built =
           ap (values.node p) (ap (values_in trees) upper ∙ vp.of_right) in
-          let trees_is : roots'.trees ≡ trees ++ built ∷ [] = made_here.trees_are ∙ ap (λ z. trees ++ z ∷ []) built_is in
           let inside : All (IsIn (length trees)) vp.left = all_left (IsIn (length trees)) vp.left vp.right
           (subst (All (IsIn (length trees))) vp.is (leads_inside (length trees) sound.inside is.leads)) in
-          let same_left : values_in (trees ++ built ∷ []) vp.left ≡ values_of r.below =
-          values-stable trees (built ∷ []) vp.left inside ∙ vp.of_left in
-          let last_is : value_in (trees ++ built ∷ []) (stored.Tree made_here.id) ≡ tree built =
-          ap tree (ap (tree_in (trees ++ built ∷ [])) made_here.id_is ∙ tree_in_push trees [] built) in
-          let pushed : values_in (trees ++ built ∷ []) (vp.left ++ stored.Tree made_here.id ∷ []) ≡ values_of new =
-          values_in_append (trees ++ built ∷ []) vp.left (stored.Tree made_here.id ∷ [])
+          let same_left : values_in trees' vp.left ≡ values_of r.below =
+          values_extend trees trees' vp.left made_here.trees_are inside ∙ vp.of_left in
+          let last_is : value_in trees' (stored.Tree made_here.id) ≡ tree built = ap tree (made_here.node.is ∙ built_is) in
+          let pushed : values_in trees' (vp.left ++ stored.Tree made_here.id ∷ []) ≡ values_of new =
+          values_in_append trees' vp.left (stored.Tree made_here.id ∷ [])
           ∙ ((λ k. appended (same_left k) (more (last_is k) empty))
           ∙ sym (values_of_joined r.below (node p r.left r.children nothing))) in (
             new,
@@ -159,9 +156,7 @@ module _ (parts : LanguageParts) (ok : IsLanguage parts.language) (of : AreTable
               leads = leads;
               states_are = moved_states of ok.deterministic.in_range is.states stack is.states_are p r made_here.width made_here.left
                   states' made_here.moved width left_is;
-              values_are = subst (λ z. values_in z vs' ≡ values_of new) (sym trees_is)
-                  (ap (values_in (trees ++ built ∷ []))
-                  (made_here.values_are ∙ ap (λ z. z ++ stored.Tree made_here.id ∷ []) lower) ∙ pushed);
+              values_are = ap (values_in trees') (made_here.values_are ∙ ap (λ z. z ++ stored.Tree made_here.id ∷ []) lower) ∙ pushed;
             },
           )
 

@@ -30,6 +30,16 @@ common_after xs ys zs n k within is begins k_is =
     let size : length ys ≡ n = ap length is ∙ length-take-le n xs within in
     ap (λ j. take j zs) (k_is ∙ sym size) ∙ (begins ∙ is) ∙ ap (λ j. take j xs) (sym k_is)
 
+-- the list and what was made of it turned around
+pub common_turned : {X : Type 0} (xs ys : List X) (n k : ℕ) → ys ≡ take n xs → k ≡ n → take k xs ≡ take k ys
+common_turned xs ys n k is k_is =
+    ap (λ j. take j xs) k_is ∙ sym (take-take n n xs (omega arith)) ∙ sym (ap (take n) is) ∙ sym (ap (λ j. take j ys) k_is)
+
+-- what is added to a list leaves what it has in common with another
+pub common_more : {X : Type 0} (xs xs' ys : List X) (k : ℕ) → k ≤ length xs → take (length xs) xs' ≡ xs → take k ys ≡ take k xs →
+    take k ys ≡ take k xs'
+common_more xs xs' ys k within begins same = same ∙ ap (take k) (sym begins) ∙ take-take k (length xs) xs' within
+
 -- nothing is in common at first
 pub none_common : {X : Type 0} (xs ys : List X) (k : ℕ) → k ≡ 0 → take k ys ≡ take k xs
 none_common xs ys k none = ap (λ j. take j ys) none ∙ sym (ap (λ j. take j xs) none)

@@ -6,3 +6,9 @@ pub mod Steps
 pub mod Rounds
 -- a memory before its text is read
 pub mod Memories
+-- nodes over children
+pub mod Nodes
+-- where the parser stands beside an older run
+pub mod Standing
+-- the run of an older text
+pub mod Older

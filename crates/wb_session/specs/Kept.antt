@@ -11,7 +11,9 @@ use Rattle.wb_parser_states.specs.Rules.{AreRules}
 use Rattle.wb_session_theory.specs.Runs.{Reads}
 use Rattle.wb_session.specs.declared.checkpoint.Checkpoint.{Checkpoint}
 use Rattle.wb_session.specs.declared.memory.Memory.{Memory}
+use Rattle.wb_session.specs.declared.past.Past.{Past}
 use Rattle.wb_session.specs.declared.place.LeafPlace.{LeafPlace}
+use Rattle.wb_session.specs.declared.stacks.Entry.{Entry}
 use Rattle.wb_session.specs.Places.{HasPlaces}
 use Rattle.wb_session.specs.Stacks.{Roots, roots_of, IsStack, IsSound}
 
@@ -59,7 +61,15 @@ pub record IsMemory (parts : LanguageParts) (memory : Memory) : Type 0 where
   pub kept : AreCheckpoints parts memory.text.items (roots_of memory.stacks) memory.places.items memory.checkpoints.items
   pub placed : HasPlaces parts.language memory.text.items memory.places.items
 
+-- the lists of the run before begin as those that are there
+pub record IsPast (points : List Checkpoint) (now : List Entry) (past : Past) : Type 0 where
+  pub checkpoints : take past.common past.checkpoints.items ≡ take past.common points
+  pub few : past.common ≤ length points
+  pub entries : take past.common_entries past.entries.items ≡ take past.common_entries now
+  pub few_entries : past.common_entries ≤ length now
+
 -- the room for the next text and its places begins as what is there does
 pub record AreCommon (memory : Memory) : Type 0 where
+  pub past : IsPast memory.checkpoints.items memory.stacks.entries.items memory.past
   pub bytes : take memory.common memory.spare.items ≡ take memory.common memory.text.items
   pub places : take memory.common_places memory.spare_places.items ≡ take memory.common_places memory.places.items

@@ -49,7 +49,7 @@ pub record IsSound (parts : LanguageParts) (roots : Roots) : Type 0 where
 
 -- what is past the end of a list
 abbrev pub no_entry : Entry
-no_entry = record { state = 0; below = 0 }
+no_entry = record { state = 0; below = 0; tree = 0 }
 
 -- the state of the link's entry, and 0 at the bottom
 abbrev pub state_in : List Entry → ℕ → ℕ

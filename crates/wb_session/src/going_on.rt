@@ -1,20 +1,19 @@
 //! How does the parser go on from the last checkpoint? Leaf after leaf is taken until the text is read or stops, and the stack before each is
-//! kept.
+//! kept. Where the parser stands as an older run stood, that run's leaves are known.
 
-ghost use Rattle.std.specs.Prelude.{◌≡◌, ◌<◌, ◌≤◌, ◌+◌, ℕ, List, Some, IfOk, OnErr, OnOk, length, slice_get, take};
-ghost use Rattle.wb_scan.specs.Views.{LanguageParts};
+ghost use Rattle.std.specs.Prelude.{◌≡◌, ◌≤◌, ◌+◌, IfOk, OnErr, OnOk, length, take};
 ghost use Rattle.wb_parser.specs.Parses.{IsParsed};
 ghost use Rattle.wb_parser_states.specs.Rules.{AreRules};
-ghost use Rattle.wb_session.specs.declared.checkpoint.Checkpoint.{Checkpoint as Point};
-ghost use Rattle.wb_session.specs.declared.place.LeafPlace.{LeafPlace as Place};
 ghost use Rattle.wb_session.specs.Places.{HasPlaces};
 ghost use Rattle.wb_session.specs.Stacks.{roots_of, IsSound};
 ghost use Rattle.wb_session.specs.Kept.{AreCheckpoints};
+ghost use Rattle.wb_session.specs.Inner.Older.{IsOlder, Shares};
 ghost use Rattle.wb_session.specs.Inner.Steps.{Grows};
 
 use crate::LeafPlace;
-use crate::checkpoint::{Checkpoint, last_before};
-use crate::leaf::{Round, take_leaf};
+use crate::checkpoint::Checkpoint;
+use crate::leaf::{Round, take_beside};
+use crate::older::{Ahead, Older, Standing, stand};
 use crate::stacks::Stacks;
 use std::alloc::AllocError;
 use wb_base::push;
@@ -22,33 +21,15 @@ use wb_parser::Parsed;
 use wb_parser_states::Rule;
 use wb_scan::Language;
 
-// Goes back to the last checkpoint up to which nothing from a place of the text on was looked at, and answers it. Later ones are dropped,
-// and the entries of their stacks.
-pub(crate) fn go_back(
-    checkpoints: &mut Vec<Checkpoint>,
-    stacks: &mut Stacks,
-    from: usize,
-) -> Checkpoint
-    requires kept { (parts : LanguageParts) × (text : List ℕ) × (places : List Place) × AreCheckpoints parts text (roots_of stacks.old) places checkpoints.old.items }
-    requires same { length stacks.old.values ≡ length stacks.old.entries.items }
-    ensures kept { (parts : LanguageParts) (text : List ℕ) (places : List Place) → AreCheckpoints parts text (roots_of stacks.old) places checkpoints.old.items → AreCheckpoints parts text (roots_of stacks.new) places checkpoints.new.items }
-    ensures sound { (parts : LanguageParts) → IsSound parts (roots_of stacks.old) → IsSound parts (roots_of stacks.new) }
-    ensures before { (i : ℕ) (point : Point) → slice_get checkpoints.new.items i ≡ Some point → point.reach ≤ from }
-    ensures at { result.at ≤ from }
-    ensures some { 0 < length checkpoints.new.items }
-    ensures few { length checkpoints.new.items ≤ length checkpoints.old.items }
-    ensures store { stacks.new.store ≡ stacks.old.store }
-{
-    let place = last_before(checkpoints, from);
-    let point = checkpoints[place];
-    checkpoints.truncate(place + 1);
-    stacks.entries.truncate(point.link);
-    stacks.values.truncate(point.link);
-    point
+// An answer, and how many leaves up to it were known from an older run, one after another.
+#[derive(Clone, Copy)]
+pub(crate) struct Read {
+    pub(crate) parsed: Parsed,
+    pub(crate) known: usize,
 }
 
-// Goes on from the last checkpoint to the answer of the text, and adds the places of the leaves that are read. If memory runs out, there are
-// as many checkpoints as before.
+// Goes on from the last checkpoint to the answer of the text, beside the run of an older text, and adds the places of the leaves. If memory
+// runs out, there are as many checkpoints as before.
 pub(crate) fn go_on(
     language: &Language,
     rules: &[Rule],
@@ -56,23 +37,28 @@ pub(crate) fn go_on(
     checkpoints: &mut Vec<Checkpoint>,
     stacks: &mut Stacks,
     places: &mut Vec<LeafPlace>,
-) -> Result<Parsed, AllocError>
+    older: &Older,
+) -> Result<Read, AllocError>
     requires rules { AreRules language.now.language.grammar rules.now }
     requires sound { IsSound language.now (roots_of stacks.old) }
     requires kept { AreCheckpoints language.now text.now (roots_of stacks.old) places.old.items checkpoints.old.items }
     requires all { length places.old.items + 1 ≡ length checkpoints.old.items }
-    ensures parsed { IfOk result (IsParsed language.now.language text.now stacks.new.store) }
+    requires older { IsOlder language.now text.now older.now }
+    requires shares { Shares stacks.old.entries.items older.now }
+    ensures parsed { IfOk result (λ read. IsParsed language.now.language text.now stacks.new.store read.parsed) }
+    ensures known { IfOk result (λ read. length places.old.items + read.known ≤ length places.new.items) }
     ensures kept { OnOk result (AreCheckpoints language.now text.now (roots_of stacks.new) places.new.items checkpoints.new.items) }
     ensures placed { OnOk result (HasPlaces language.now.language text.now places.new.items) }
     ensures all { OnOk result (length places.new.items + 1 ≡ length checkpoints.new.items) }
     ensures first { take (length places.old.items) places.new.items ≡ places.old.items }
     ensures more { OnOk result (length checkpoints.old.items ≤ length checkpoints.new.items) }
     ensures grows { Grows language.now (roots_of stacks.old) (roots_of stacks.new) }
+    ensures begins { OnOk result (take (length checkpoints.old.items) checkpoints.new.items ≡ checkpoints.old.items) }
     ensures err { OnErr result (checkpoints.new.items ≡ checkpoints.old.items) }
 {
     let count = checkpoints.len();
-    match read_on(language, rules, text, checkpoints, stacks, places) {
-        Ok(parsed) => Ok(parsed),
+    match read_on(language, rules, text, checkpoints, stacks, places, older) {
+        Ok(read) => Ok(read),
         Err(error) => {
             checkpoints.truncate(count);
             Err(error)
@@ -88,12 +74,16 @@ fn read_on(
     checkpoints: &mut Vec<Checkpoint>,
     stacks: &mut Stacks,
     places: &mut Vec<LeafPlace>,
-) -> Result<Parsed, AllocError>
+    older: &Older,
+) -> Result<Read, AllocError>
     requires rules { AreRules language.now.language.grammar rules.now }
     requires sound { IsSound language.now (roots_of stacks.old) }
     requires kept { AreCheckpoints language.now text.now (roots_of stacks.old) places.old.items checkpoints.old.items }
     requires all { length places.old.items + 1 ≡ length checkpoints.old.items }
-    ensures parsed { IfOk result (IsParsed language.now.language text.now stacks.new.store) }
+    requires older { IsOlder language.now text.now older.now }
+    requires shares { Shares stacks.old.entries.items older.now }
+    ensures parsed { IfOk result (λ read. IsParsed language.now.language text.now stacks.new.store read.parsed) }
+    ensures known { IfOk result (λ read. length places.old.items + read.known ≤ length places.new.items) }
     ensures kept { OnOk result (AreCheckpoints language.now text.now (roots_of stacks.new) places.new.items checkpoints.new.items) }
     ensures placed { OnOk result (HasPlaces language.now.language text.now places.new.items) }
     ensures all { OnOk result (length places.new.items + 1 ≡ length checkpoints.new.items) }
@@ -102,15 +92,43 @@ fn read_on(
     ensures grows { Grows language.now (roots_of stacks.old) (roots_of stacks.new) }
     ensures begins { take (length checkpoints.old.items) checkpoints.new.items ≡ checkpoints.old.items }
 {
-    let mut from = checkpoints[checkpoints.len() - 1];
+    let number = checkpoints.len() - 1;
+    let mut from = checkpoints[number];
+    let start = Standing {
+        number,
+        ahead: None,
+        rest: 0,
+    };
+    let mut standing = stand(older, &stacks.entries, from, start);
+    let mut known: usize = 0;
     'leaves: loop {
-        match take_leaf(language, rules, text, stacks, from)? {
+        match take_beside(
+            language,
+            rules,
+            text,
+            stacks,
+            from,
+            standing.ahead,
+            older.entries,
+        )? {
             Round::Goes(next, place) => {
                 push(places, place)?;
                 push(checkpoints, next)?;
                 from = next;
+                known = known_after(known, standing.ahead);
+                standing = stand(older, &stacks.entries, next, standing);
             }
-            Round::Done(parsed) => return Ok(parsed),
+            Round::Done(parsed) => return Ok(Read { parsed, known }),
         }
+    }
+}
+
+// How many leaves one after another are known, after one more.
+fn known_after(known: usize, ahead: Option<Ahead>) -> usize
+    ensures { result ≤ known + 1 }
+{
+    match ahead {
+        Some(_) => known.saturating_add(1),
+        None => 0,
     }
 }

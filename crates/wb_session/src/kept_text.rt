@@ -71,8 +71,9 @@ impl KeptText {
         ensures err_places { OnErr result (places_of self.new ≡ places_of self.old) }
         ensures store { Extends (store_of self.old) (store_of self.new) }
         ensures built { IfOk result (λ done. length (store_of self.new) ≡ length (store_of self.old) + done.built) }
-        ensures from { IfOk result (λ done. (done.from ≤ from) × (done.to ≡ length (text_of self.new))) }
+        ensures from { IfOk result (λ done. (done.from ≤ from) × (done.to ≤ length (text_of self.new))) }
         ensures kept { IfOk result (λ done. KeepsPlaces done.kept (places_of self.old) (places_of self.new)) }
+        ensures scanned { IfOk result (λ done. done.scanned + done.kept + done.known ≡ length (places_of self.new) + 1) }
     {
         if from > to || to > self.memory.text.len() {
             return Err(EditRefusal::OutOfRange);

@@ -1,7 +1,7 @@
-//! How is the leaf at a checkpoint taken? As the parser takes it: it is scanned at the state on top, and shifted after the reductions that it
-//! asks for.
+//! How is the leaf at a checkpoint taken? As the parser takes it: it is scanned at the state on top, where it isn't known, and shifted after
+//! the reductions that it asks for.
 
-ghost use Rattle.std.specs.Prelude.{◌≡◌, ◌<◌, ◌≤◌, ◌-◌, ℕ, List, [], IfOk, Some, length, slice_get};
+ghost use Rattle.std.specs.Prelude.{◌≡◌, ◌<◌, ◌≤◌, ◌-◌, ℕ, List, [], IfOk, IfSome, Some, length, slice_get};
 ghost use Rattle.wb_scan_theory.specs.Tokens.{over};
 ghost use Rattle.wb_scan_theory.specs.Examined.{Scans};
 ghost use Rattle.wb_grammar_theory.specs.Trees.{Forest, leaves, nothing, symbols};
@@ -16,11 +16,12 @@ ghost use Rattle.wb_session.specs.Places.{HasPlaces};
 ghost use Rattle.wb_session.specs.Stacks.{roots_of, IsSound, IsStack};
 ghost use Rattle.wb_session.specs.Kept.{AreScanned, IsKept};
 ghost use Rattle.wb_session.specs.Inner.Steps.{Grows};
-ghost use Rattle.wb_session.specs.Inner.Rounds.{IsRound, GoesFurther};
+ghost use Rattle.wb_session.specs.Inner.Rounds.{IsRound, IsTokenAt, IsWithin, GoesFurther};
 
 use crate::LeafPlace;
 use crate::checkpoint::Checkpoint;
-use crate::stacks::{Entry, Stacks, push_lexeme, state_at};
+use crate::older::Ahead;
+use crate::stacks::{Entry, Likely, Stacks, push_lexeme, state_at};
 use crate::step::reduce_all;
 use std::alloc::AllocError;
 use wb_parser::{Parsed, StopKind};
@@ -36,8 +37,43 @@ pub(crate) enum Round {
     Done(Parsed),
 }
 
+// Takes the leaf at a checkpoint, which is this one where it is known.
+pub(crate) fn take_beside(
+    language: &Language,
+    rules: &[Rule],
+    text: &[u8],
+    stacks: &mut Stacks,
+    from: Checkpoint,
+    ahead: Option<Ahead>,
+    older: &[Entry],
+) -> Result<Round, AllocError>
+    requires rules { AreRules language.now.language.grammar rules.now }
+    requires sound { IsSound language.now (roots_of stacks.old) }
+    requires link { from.link ≤ length stacks.old.entries.items }
+    requires at { from.at ≤ length text.now }
+    requires fits { IfSome ahead (IsWithin language.now.language text.now from.at) }
+    ensures round { IfOk result (λ round. (places : List Place) (k : IsKept language.now text.now (roots_of stacks.old) places from) → IfSome ahead (IsTokenAt language.now.language text.now (symbols k.stack) from.at) → IsRound language.now text.now (roots_of stacks.new) places round) }
+    ensures grows { Grows language.now (roots_of stacks.old) (roots_of stacks.new) }
+    ensures further { IfOk result (GoesFurther from) }
+{
+    match ahead {
+        Some(token) => {
+            let likely = Likely {
+                entries: older,
+                first: token.entry,
+            };
+            let round = take_token(language, rules, text, stacks, from, token, likely)?;
+            Ok(round)
+        }
+        None => {
+            let round = take_leaf(language, rules, text, stacks, from)?;
+            Ok(round)
+        }
+    }
+}
+
 // Takes the leaf at a checkpoint.
-pub(crate) fn take_leaf(
+fn take_leaf(
     language: &Language,
     rules: &[Rule],
     text: &[u8],
@@ -59,7 +95,6 @@ pub(crate) fn take_leaf(
         text,
         from.at,
     );
-    let reach = later(from.reach, ahead.examined);
     match ahead.scanned {
         Scanned::NoToken { at } => Ok(Round::Done(Parsed::Stopped {
             at,
@@ -75,31 +110,68 @@ pub(crate) fn take_leaf(
             lexeme,
             end,
         } => {
-            let settled = reduce_all(language, rules, stacks, from.link, terminal)?;
-            match settled.outcome {
-                Outcome::Shifts(state) => {
-                    let below = settled.link;
-                    let link = push_lexeme(stacks, Entry { state, below }, &text[lexeme..end])?;
-                    let further = later(reach, end);
-                    let next = Checkpoint {
-                        at: end,
-                        reach: further,
-                        link,
-                    };
-                    let place = LeafPlace {
-                        terminal,
-                        begin: at,
-                        lexeme,
-                        end,
-                    };
-                    Ok(Round::Goes(next, place))
-                }
-                _ => Ok(Round::Done(Parsed::Stopped {
-                    at,
-                    kind: StopKind::Unexpected(terminal),
-                })),
-            }
+            let token = Ahead {
+                place: LeafPlace {
+                    terminal,
+                    begin: at,
+                    lexeme,
+                    end,
+                },
+                reach: ahead.examined,
+                entry: 0,
+            };
+            let likely = Likely {
+                entries: &[],
+                first: 0,
+            };
+            let round = take_token(language, rules, text, stacks, from, token, likely)?;
+            Ok(round)
         }
+    }
+}
+
+// Takes a token that is next at a checkpoint.
+fn take_token(
+    language: &Language,
+    rules: &[Rule],
+    text: &[u8],
+    stacks: &mut Stacks,
+    from: Checkpoint,
+    token: Ahead,
+    likely: Likely,
+) -> Result<Round, AllocError>
+    requires rules { AreRules language.now.language.grammar rules.now }
+    requires sound { IsSound language.now (roots_of stacks.old) }
+    requires link { from.link ≤ length stacks.old.entries.items }
+    requires fits { IsWithin language.now.language text.now from.at token }
+    ensures round { IfOk result (λ round. (places : List Place) (k : IsKept language.now text.now (roots_of stacks.old) places from) → IsTokenAt language.now.language text.now (symbols k.stack) from.at token → IsRound language.now text.now (roots_of stacks.new) places round) }
+    ensures grows { Grows language.now (roots_of stacks.old) (roots_of stacks.new) }
+    ensures further { IfOk result (GoesFurther from) }
+{
+    let _tables = language.tables();
+    let place = token.place;
+    let settled = reduce_all(language, rules, stacks, from.link, place.terminal, likely)?;
+    match settled.outcome {
+        Outcome::Shifts(state) => {
+            let entry = Entry {
+                state,
+                below: settled.link,
+                tree: 0,
+            };
+            let link = push_lexeme(stacks, entry, &text[place.lexeme..place.end])?;
+            let reach = later(from.reach, token.reach);
+            let further = later(reach, place.end);
+            let next = Checkpoint {
+                at: place.end,
+                reach: further,
+                link,
+            };
+            Ok(Round::Goes(next, place))
+        }
+        _ => Ok(Round::Done(Parsed::Stopped {
+            at: place.begin,
+            kind: StopKind::Unexpected(place.terminal),
+        })),
     }
 }
 
@@ -127,7 +199,11 @@ fn finish(
     ensures grows { Grows language.now (roots_of stacks.old) (roots_of stacks.new) }
 {
     let end = language.grammar().terminals();
-    let settled = reduce_all(language, rules, stacks, link, end)?;
+    let likely = Likely {
+        entries: &[],
+        first: 0,
+    };
+    let settled = reduce_all(language, rules, stacks, link, end, likely)?;
     let stopped = Parsed::Stopped {
         at: place,
         kind: StopKind::Unexpected(end),

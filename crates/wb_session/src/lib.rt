@@ -1,7 +1,8 @@
 //! Editing sessions: a text is kept with its answer while it is edited.
 //!
 //! The parser's stack before each token is kept. After an edit the parser goes on before the first token for which what was edited was
-//! looked at. Why such a stack is that of the new text, too, is in `wb_session_theory`.
+//! looked at, until it stands before a token of the text before as it stood there. Why such a stack is that of the new text, too, and why
+//! the further tokens are known, is in `wb_session_theory`.
 #![tactic(auto)]
 
 mod checkpoint;
@@ -10,6 +11,9 @@ mod going_on;
 mod kept_text;
 mod leaf;
 mod memory;
+mod node;
+mod older;
+mod past;
 mod place;
 mod reduce;
 mod refusal;

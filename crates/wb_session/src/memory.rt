@@ -10,7 +10,9 @@ ghost use Rattle.wb_session.specs.Inner.Memories.{IsNew};
 
 use crate::checkpoint::Checkpoint;
 use crate::edited_text::{add_rest, take_first};
-use crate::going_on::{go_back, go_on};
+use crate::going_on::go_on;
+use crate::older::Older;
+use crate::past::{Past, go_back};
 use crate::stacks::Stacks;
 use crate::{Edited, LeafPlace};
 use std::alloc::{AllocError, Global};
@@ -20,8 +22,8 @@ use wb_parser::Parsed;
 use wb_parser_states::{Rule, rules_of};
 use wb_scan::Language;
 
-// The left sides and widths of productions; a text with the places of its leaves, and room for the next one with its, each with how many of
-// the first elements are there already; and checkpoints with their stacks.
+// The left sides and widths of productions; a text with the places of its leaves and checkpoints with their stacks; and of each list another,
+// where the next version is made, with how many of the first elements are there already.
 pub(crate) struct Memory {
     pub(crate) rules: Vec<Rule>,
     pub(crate) text: Vec<u8>,
@@ -32,6 +34,7 @@ pub(crate) struct Memory {
     pub(crate) common_places: usize,
     pub(crate) checkpoints: Vec<Checkpoint>,
     pub(crate) stacks: Stacks,
+    pub(crate) past: Past,
 }
 
 impl Drop for Memory {
@@ -46,6 +49,7 @@ impl Drop for Memory {
             common_places: _,
             checkpoints,
             stacks,
+            past,
         } = self;
         drop(rules);
         drop(text);
@@ -54,6 +58,7 @@ impl Drop for Memory {
         drop(spare_places);
         drop(checkpoints);
         drop(stacks);
+        drop(past);
     }
 }
 
@@ -72,6 +77,7 @@ impl Memory {
             common_places: 0,
             checkpoints: Vec::new(alloc),
             stacks: Stacks::new(alloc),
+            past: Past::new(alloc),
         }
     }
 }
@@ -100,14 +106,26 @@ pub(crate) fn read_text(
             link: 0,
         },
     )?;
-    go_on(
+    let older = Older {
+        checkpoints: &[],
+        places: &[],
+        entries: &[],
+        shared: 0,
+        to: 0,
+        moved: 0,
+        limit: memory.text.len(),
+        terminals: language.grammar().terminals(),
+    };
+    let read = go_on(
         language,
         &memory.rules,
         &memory.text,
         &mut memory.checkpoints,
         &mut memory.stacks,
         &mut memory.places,
-    )
+        &older,
+    )?;
+    Ok(read.parsed)
 }
 
 // The answer after an edit, and what was done for it.
@@ -138,14 +156,19 @@ pub(crate) fn reread_text(
     ensures parsed { IfOk result (λ reread. IsParsed language.now.language memory.new.text.items memory.new.stacks.store reread.parsed) }
     ensures store { Extends memory.old.stacks.store memory.new.stacks.store }
     ensures built { IfOk result (λ reread. length memory.new.stacks.store ≡ length memory.old.stacks.store + reread.edited.built) }
-    ensures from { IfOk result (λ reread. (reread.edited.from ≤ from) × (reread.edited.to ≡ length memory.new.text.items)) }
+    ensures from { IfOk result (λ reread. (reread.edited.from ≤ from) × (reread.edited.to ≤ length memory.new.text.items)) }
     ensures kept { IfOk result (λ reread. KeepsPlaces reread.edited.kept memory.old.places.items memory.new.places.items) }
-    ensures scanned { IfOk result (λ reread. reread.edited.scanned + reread.edited.kept ≡ length memory.new.places.items + 1) }
+    ensures scanned { IfOk result (λ reread. reread.edited.scanned + reread.edited.kept + reread.edited.known ≡ length memory.new.places.items + 1) }
 {
     take_first(&memory.text, &mut memory.spare, &mut memory.common, from)?;
-    add_rest(&memory.text, &mut memory.spare, with, to)?;
+    let moved = add_rest(&memory.text, &mut memory.spare, with, to)?;
     let before = memory.stacks.store.len();
-    let point = go_back(&mut memory.checkpoints, &mut memory.stacks, from);
+    let point = go_back(
+        &mut memory.checkpoints,
+        &mut memory.stacks,
+        &mut memory.past,
+        from,
+    )?;
     let kept = memory.checkpoints.len() - 1;
     take_first(
         &memory.places,
@@ -153,22 +176,49 @@ pub(crate) fn reread_text(
         &mut memory.common_places,
         kept,
     )?;
-    let parsed = go_on(
+    let older = Older {
+        checkpoints: &memory.past.checkpoints,
+        places: &memory.places,
+        entries: &memory.past.entries,
+        shared: memory.past.common_entries,
+        to,
+        moved,
+        limit: memory.spare.len(),
+        terminals: language.grammar().terminals(),
+    };
+    let read = go_on(
         language,
         &memory.rules,
         &memory.spare,
         &mut memory.checkpoints,
         &mut memory.stacks,
         &mut memory.spare_places,
+        &older,
     )?;
     swap(&mut memory.text, &mut memory.spare);
     swap(&mut memory.places, &mut memory.spare_places);
     let edited = Edited {
         from: point.at,
-        to: memory.text.len(),
-        scanned: memory.checkpoints.len() - kept,
+        to: met_at(&memory.checkpoints, read.known, memory.text.len()),
+        scanned: memory.checkpoints.len() - kept - read.known,
         built: memory.stacks.store.len() - before,
         kept,
+        known: read.known,
     };
-    Ok(Reread { parsed, edited })
+    Ok(Reread {
+        parsed: read.parsed,
+        edited,
+    })
+}
+
+// Where the last leaves, so many of them, begin: at the checkpoint before them; and the end of the text, where there are none.
+fn met_at(checkpoints: &[Checkpoint], known: usize, limit: usize) -> usize
+    ensures { result ≤ limit }
+{
+    let count = checkpoints.len();
+    if known == 0 || known >= count {
+        return limit;
+    }
+    let at = checkpoints[count - 1 - known].at;
+    if at < limit { at } else { limit }
 }

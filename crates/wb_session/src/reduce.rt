@@ -6,18 +6,20 @@ ghost use Rattle.wb_parser_states.specs.Rules.{AreRules};
 ghost use Rattle.wb_session.specs.Stacks.{roots_of, state_in, IsSound};
 ghost use Rattle.wb_session.specs.Inner.Steps.{Grows, IsMade};
 
+use crate::node::node_of;
 use crate::stacks::{Entry, Stacks, gather, push_tree, state_at};
 use std::alloc::AllocError;
 use wb_parser_states::Rule;
 use wb_scan::Language;
 
-// Reduces a stack by a production. Answers the link of the stack that it becomes.
+// Reduces a stack by a production, whose tree is likely to be this one. Answers the link of the stack that it becomes.
 pub(crate) fn reduce(
     language: &Language,
     rules: &[Rule],
     stacks: &mut Stacks,
     link: usize,
     production: usize,
+    likely: usize,
 ) -> Result<usize, AllocError>
     requires rules { AreRules language.now.language.grammar rules.now }
     requires production { production < length language.now.language.grammar.productions }
@@ -26,7 +28,7 @@ pub(crate) fn reduce(
     ensures made { IfOk result (IsMade language.now production (roots_of stacks.old) link (roots_of stacks.new)) }
     ensures grows { Grows language.now (roots_of stacks.old) (roots_of stacks.new) }
     ensures link { IfOk result (λ made. made ≤ length stacks.new.entries.items) }
-    ensures longer { OnOk result ((length stacks.old.store < 2 ^ 64) × (length stacks.old.store < length stacks.new.store)) }
+    ensures longer { OnOk result ((length stacks.old.entries.items < 2 ^ 64) × (length stacks.old.entries.items < length stacks.new.entries.items)) }
 {
     let _tables = language.tables();
     let rule = rules[production];
@@ -38,11 +40,13 @@ pub(crate) fn reduce(
         rule.width,
     )?;
     let state = state_after(language, &stacks.entries, below, rule.left);
-    let count = stacks.children.len();
-    let tree = stacks
-        .store
-        .build_from(production, &mut stacks.children, count)?;
-    let made = push_tree(stacks, Entry { state, below }, tree)?;
+    let tree = node_of(&mut stacks.store, &mut stacks.children, production, likely)?;
+    let entry = Entry {
+        state,
+        below,
+        tree: tree.0,
+    };
+    let made = push_tree(stacks, entry, tree)?;
     Ok(made)
 }
 

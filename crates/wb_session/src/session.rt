@@ -20,8 +20,8 @@ const LIMIT: usize = 1_048_576;
 /// A text in a language, with its answer: its one tree, or its one stop. The tree is in the session's store, and so are those of all texts
 /// before.
 ///
-/// The text has at most 1,048,576 bytes. Beside it and the store, 24 bytes are kept for each token, 32 for its place, and 24 for each token
-/// and each node that was made since, and room for a second text with its places.
+/// The text has at most 1,048,576 bytes. Beside it and the store, 24 bytes are kept for each token, 32 for its place, and 32 for each token
+/// and each node that was made since; after an edit, as much once more for the text before, but for 8 of the last 32.
 pub struct Session<'a> {
     language: &'a Language,
     memory: Memory,
@@ -60,7 +60,7 @@ impl<'a> Drop for Session<'a> {
 pub struct Edited {
     /// The place in the new text from which it was read anew.
     pub from: usize,
-    /// The place up to which it was.
+    /// The place in it up to which it was: where the parser stood as it stood before the edit, or the end of the text.
     pub to: usize,
     /// How often the scanner was asked.
     pub scanned: usize,
@@ -68,6 +68,8 @@ pub struct Edited {
     pub built: usize,
     /// How many leaves were not read anew. They are the first, and lie where they lay.
     pub kept: usize,
+    /// How many leaves behind it were known from the text before, and not scanned.
+    pub known: usize,
 }
 
 impl<'a> Session<'a> {
@@ -97,8 +99,9 @@ impl<'a> Session<'a> {
 
     /// Puts these bytes in the place of those from `from` to before `to`, places that are counted from 0.
     ///
-    /// The text is read from the last token on before which nothing that is edited was looked at. After each refusal the text and the answer
-    /// are as before. The store begins with what it held before, also after a refusal.
+    /// The text is read from the last token on before which nothing that is edited was looked at, up to where the parser stands behind the
+    /// edit as it stood there before. From there on the leaves are known, and no node is built whose children are the same as before. After
+    /// each refusal the text and the answer are as before. The store begins with what it held before, also after a refusal.
     pub fn edit(&mut self, from: usize, to: usize, with: &[u8]) -> Result<Edited, EditRefusal>
         ensures ok { OnOk result (MakesText self.old.text from to with.now self.new.text) }
         ensures refusal { IfErr result (HasCause self.old.text from to with.now) }
@@ -106,9 +109,9 @@ impl<'a> Session<'a> {
         ensures err_places { OnErr result (self.new.places ≡ self.old.places) }
         ensures store { Extends self.old.store self.new.store }
         ensures built { IfOk result (λ done. length self.new.store ≡ length self.old.store + done.built) }
-        ensures from { IfOk result (λ done. (done.from ≤ from) × (done.to ≡ length self.new.text)) }
+        ensures from { IfOk result (λ done. (done.from ≤ from) × (done.to ≤ length self.new.text)) }
         ensures kept { IfOk result (λ done. KeepsPlaces done.kept self.old.places self.new.places) }
-        ensures scanned { IfOk result (λ done. done.scanned + done.kept ≡ length self.new.places + 1) }
+        ensures scanned { IfOk result (λ done. done.scanned + done.kept + done.known ≡ length self.new.places + 1) }
         ensures language { self.new.language ≡ self.old.language }
     {
         if from > to || to > self.memory.text.len() {

@@ -12,11 +12,31 @@ use std::alloc::{AllocError, Global};
 use wb_base::push;
 use wb_values::{PackedValues, TreeId, TreeStore, Value};
 
-// The state of a root, and the link of the stack below it.
+// The state of a root, the link of the stack below it, and the number of its tree, or 0 where it is a leaf.
 #[derive(Clone, Copy)]
 pub(crate) struct Entry {
     pub(crate) state: usize,
     pub(crate) below: usize,
+    pub(crate) tree: usize,
+}
+
+// Entries of an older run, from one of them on. Their trees are likely to be made again.
+#[derive(Clone, Copy)]
+pub(crate) struct Likely<'a> {
+    pub(crate) entries: &'a [Entry],
+    pub(crate) first: usize,
+}
+
+impl<'a> Likely<'a> {
+    // The tree of the entry of this number, counted from the first on. Any number may be given.
+    pub(crate) fn tree(&self, number: usize) -> usize {
+        let place = self.first.saturating_add(number);
+        if place < self.entries.len() {
+            self.entries[place].tree
+        } else {
+            usize::MAX
+        }
+    }
 }
 
 // Entries with the values of their roots, by number; the store of the values' trees; and room for the children of a node.

@@ -9,7 +9,7 @@ ghost use Rattle.wb_session.specs.Stacks.{roots_of, IsSound};
 ghost use Rattle.wb_session.specs.Inner.Steps.{Grows, IsSettled};
 
 use crate::reduce::reduce;
-use crate::stacks::{Stacks, state_at};
+use crate::stacks::{Likely, Stacks, state_at};
 use std::alloc::AllocError;
 use wb_lookahead::Action;
 use wb_parser_states::{Outcome, Rule};
@@ -22,13 +22,14 @@ pub(crate) struct Settled {
     pub(crate) outcome: Outcome,
 }
 
-// Reduces a stack while that is the action on the terminal, or on the end of the text.
+// Reduces a stack while that is the action on the terminal, or on the end of the text. The trees of these reductions are likely to be these.
 pub(crate) fn reduce_all(
     language: &Language,
     rules: &[Rule],
     stacks: &mut Stacks,
     from: usize,
     terminal: usize,
+    likely: Likely,
 ) -> Result<Settled, AllocError>
     requires rules { AreRules language.now.language.grammar rules.now }
     requires terminal { terminal ≤ language.now.language.grammar.terminals }
@@ -41,6 +42,7 @@ pub(crate) fn reduce_all(
 {
     let tables = language.tables();
     let mut link = from;
+    let mut number: usize = 0;
     'reductions: loop {
         match tables.action(state_at(&stacks.entries, link), terminal) {
             Action::Shift(target) => {
@@ -62,7 +64,9 @@ pub(crate) fn reduce_all(
                 });
             }
             Action::Reduce(production) => {
-                link = reduce(language, rules, stacks, link, production)?;
+                let tree = likely.tree(number);
+                link = reduce(language, rules, stacks, link, production, tree)?;
+                number = number.saturating_add(1);
             }
         }
     }

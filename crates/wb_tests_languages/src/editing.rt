@@ -347,3 +347,42 @@ fn releases(alloc: Global, sample: &Sample) -> bool {
 fn a_release_drops_the_trees_of_earlier_texts(rt: HostRuntime) {
     assert!(rt; releases(rt.alloc(), &LISTS));
 }
+
+// Whether an edit at the beginning of a list of statements builds the nodes above it anew and leaves those behind it.
+fn saves_in(alloc: Global, language: &Language, signatures: &Signatures) -> bool {
+    let text =
+        "let x = 2 + 3; print x; let y = 4; print (y * 2) + x; let z = 5 * 6; print z; print 7 + 8 + 9; print x * y * z;";
+    match Session::open(alloc, language, text.as_bytes()) {
+        Ok(mut session) => match session.edit(8, 9, b"1") {
+            Ok(done) => {
+                // the number, its factor, term and expression, the sum, the statement, and eight lists of statements
+                done.built <= 15
+                    && done.scanned == 2
+                    && done.known > 30
+                    && agrees(alloc, language, signatures, &session)
+            }
+            Err(_) => false,
+        },
+        Err(_) => false,
+    }
+}
+
+fn saves(alloc: Global, sample: &Sample) -> bool {
+    let mut signatures = Signatures::new(alloc);
+    if !add_signatures(alloc, sample.rules, &mut signatures) {
+        return false;
+    }
+    match language(alloc, sample) {
+        Ok(language) => {
+            let saves = saves_in(alloc, &language, &signatures);
+            language.release();
+            saves
+        }
+        Err(_) => false,
+    }
+}
+
+#[test]
+fn an_edit_leaves_the_nodes_behind_it(rt: HostRuntime) {
+    assert!(rt; saves(rt.alloc(), &STATEMENTS));
+}

@@ -10,5 +10,7 @@ pub record IsNew (memory : Memory) : Type 0 where
   pub common_places : memory.common_places ≡ 0
   pub checkpoints : memory.checkpoints.items ≡ []
   pub entries : memory.stacks.entries.items ≡ []
+  pub past : memory.past.common ≡ 0
+  pub past_entries : memory.past.common_entries ≡ 0
   pub values : memory.stacks.values ≡ []
   pub store : memory.stacks.store ≡ []

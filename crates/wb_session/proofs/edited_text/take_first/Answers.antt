@@ -8,8 +8,8 @@ returns-clause-common g c =
     let n = c.args.count in
     let xs = c.args.list.now in
     let shared = c.earlier-shared.result in
-    let made = taken_first xs c.args.other.now.items c.extend_from_slice.new.self.items c.args.common.now shared n c.earlier-shared.ensures.one
-    c.earlier-shared.ensures.other c.requires.count c.requires.common
+    let made = taken_first xs c.args.other.now.items c.extend_from_slice.new.self.items c.args.common.now shared n
+    c.earlier-shared.ensures.one c.earlier-shared.ensures.other c.requires.count c.requires.common
     (c.in_ok-extend_from_slice.ensures.items ∙ ap (λ z. z ++ take (n - shared) (drop shared xs)) c.truncate.ensures.items) in
     ap (take n) made ∙ take-take n n xs (omega arith)
 

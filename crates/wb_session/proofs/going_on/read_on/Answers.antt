@@ -1,73 +1,139 @@
-use Rattle.std.proofs.Common.{◌<◌, ◌≤◌, ◌++◌, ◌∙◌, ap, arith, length, length-append, refl, subst, take, [], ◌∷◌}
+use Rattle.std.proofs.Common.{◌≡◌, ◌<◌, ◌≤◌, ◌-◌, ◌++◌, ◌∙◌, ap, arith, length, length-append, refl, rules, subst, sym, take, [], ◌∷◌, Some}
+use Rattle.std.specs.Prelude.{IfSome, None, slice_get}
+use Rattle.std.proofs.lemmas.List.{take_all}
+use Rattle.std.proofs.lemmas.Option.{slice_get-get_or}
 use Rattle.wb_lemmas.proofs.Parts.{take_append}
 use Rattle.wb_session.specs.Stacks.{roots_of}
 use Rattle.wb_session.specs.Kept.{IsKept}
 use Rattle.wb_session.specs.Inner.Rounds.{IsRound, GoesFurther}
+use Rattle.wb_session.specs.Inner.Standing.{Follows, IsAhead, IsAt}
 use Rattle.wb_session.proofs.KeptLemmas.{checkpoints_more, checkpoints_push, kept_within, last_kept, last_pushed}
-use Rattle.wb_session.proofs.StackLemmas.{begins_then, grows_then}
+use Rattle.wb_session.proofs.PastLemmas.{shares_more}
+use Rattle.wb_session.proofs.StackLemmas.{begins_then, grows_none, grows_then}
+use Rattle.wb_session.proofs.StoodLemmas.{known_if, stood_first, stood_next, within_if}
 use Rattle.wb_session.proofs.going_on.read_on.Goals as goal
 
-pub take_leaf-requires-clause-link : goal.take_leaf-requires-clause-link
-take_leaf-requires-clause-link c =
+pub leaves-init : goal.leaves-init
+leaves-init c =
+    let parts = c.args.language.now in
+    let source = c.args.text.now in
+    let points = c.args.checkpoints.now.items in
+    let from = c.index-from.result.now in
+    let older = c.args.older.now in
+    let some = c.requires.kept.begins.some in
+    let size : c.len-number.result ≡ length points = search rules in
+    let here : slice_get points (length points - 1) ≡ Some from = subst (λ n. slice_get points (n - 1) ≡ Some from) size
+    (slice_get-get_or points (c.len-number.result - 1) from (omega (arith, size, some)) ∙ ap Some (sym c.index-from.ensures)) in
+    let stands = subst (λ z. IfSome c.stand-standing.result.ahead (λ ahead. IsAhead older from c.stand-standing.result.number ahead ×
+    IsAt older c.stand-standing.result.number from.at × Follows older z from.link None (c.len-number.result - 1)
+    c.stand-standing.result.number)) c.deref.ensures.value c.stand-standing.ensures in
+    record {
+      kept = c.requires.kept;
+      all = c.requires.all;
+      grows = grows_none parts c.requires.sound;
+      begins = take_all (length points) points (omega arith);
+      first = take_all (length c.args.places.now.items) c.args.places.now.items (omega arith);
+      more = omega arith;
+      last = here;
+      stood = stood_first parts c.requires.older.language source c.args.older.now (roots_of c.args.stacks.now) c.args.places.now.items
+          from (c.len-number.result - 1) c.stand-standing.result.number c.stand-standing.result.ahead
+          (last_kept parts source (roots_of c.args.stacks.now) c.args.places.now.items points from c.requires.all here c.requires.kept)
+          c.requires.shares.same stands;
+      known = omega arith;
+    }
+
+pub take_beside-requires-clause-link : goal.take_beside-requires-clause-link
+take_beside-requires-clause-link c =
     kept_within c.args.language.now c.args.text.now (last_kept c.args.language.now c.args.text.now (roots_of c.leaves.stacks)
     c.leaves.places.items c.leaves.checkpoints.items c.leaves.from c.leaves.invariant.all c.leaves.invariant.last
     c.leaves.invariant.kept)
 
-pub take_leaf-requires-clause-at : goal.take_leaf-requires-clause-at
-take_leaf-requires-clause-at c =
+pub take_beside-requires-clause-at : goal.take_beside-requires-clause-at
+take_beside-requires-clause-at c =
     (last_kept c.args.language.now c.args.text.now (roots_of c.leaves.stacks)
     c.leaves.places.items c.leaves.checkpoints.items c.leaves.from c.leaves.invariant.all c.leaves.invariant.last
     c.leaves.invariant.kept).within
+
+pub take_beside-requires-clause-fits : goal.take_beside-requires-clause-fits
+take_beside-requires-clause-fits c =
+    within_if c.args.language.now c.requires.older.language c.args.text.now c.args.older.now c.requires.older (roots_of c.leaves.stacks)
+    c.leaves.places.items c.leaves.from c.leaves.standing.number c.leaves.standing.ahead c.leaves.invariant.stood
 
 pub leaves-preserved : goal.leaves-preserved
 leaves-preserved c =
     let parts = c.args.language.now in
     let source = c.args.text.now in
     let points = c.leaves.checkpoints.items in
-    let roots' = roots_of c.take_leaf.new.stacks in
+    let roots = roots_of c.leaves.stacks in
+    let roots' = roots_of c.take_beside.new.stacks in
+    let places = c.leaves.places.items in
     let further = subst (GoesFurther c.leaves.from) c.in-Goes.is c.in_ok-next.ensures.further in
-    let here = last_kept parts source (roots_of c.leaves.stacks) c.leaves.places.items points c.leaves.from c.leaves.invariant.all
-    c.leaves.invariant.last c.leaves.invariant.kept in
+    let here = last_kept parts source roots places points c.leaves.from c.leaves.invariant.all c.leaves.invariant.last
+    c.leaves.invariant.kept in
     let placed = c.in_ok-push-in-Goes.ensures.ok in
     let is = c.in_ok-push-in-Goes-2.ensures.ok in
+    let next : IsKept parts source roots' (places ++ c.in-Goes.place ∷ []) c.in-Goes.next =
+    subst (IsRound parts source roots' places) c.in-Goes.is (c.in_ok-next.ensures.round places here
+    (known_if parts c.requires.older.language source c.args.older.now c.requires.older roots places c.leaves.from c.leaves.standing.number
+    c.leaves.standing.ahead here c.leaves.invariant.stood)) in
     record {
       kept = checkpoints_push parts source c.in-Goes.place c.leaves.from c.in-Goes.next placed is c.leaves.invariant.all
-          c.leaves.invariant.last further.1 further.2
-          (subst (IsRound parts source roots' c.leaves.places.items) c.in-Goes.is (c.in_ok-next.ensures.round c.leaves.places.items here))
+          c.leaves.invariant.last further.1 further.2 next
           (checkpoints_more parts source c.leaves.invariant.grows.sound c.in_ok-next.ensures.grows c.leaves.invariant.kept);
       grows = grows_then parts c.leaves.invariant.grows c.in_ok-next.ensures.grows;
       begins = begins_then c.args.checkpoints.now.items points c.push-in-Goes.new.list.items c.leaves.invariant.begins
           (ap (take (length points)) is ∙ take_append (length points) points (c.in-Goes.next ∷ []) refl);
-      first = begins_then c.args.places.now.items c.leaves.places.items c.push.new.list.items c.leaves.invariant.first
-          (ap (take (length c.leaves.places.items)) placed
-          ∙ take_append (length c.leaves.places.items) c.leaves.places.items (c.in-Goes.place ∷ []) refl);
+      first = begins_then c.args.places.now.items places c.push.new.list.items c.leaves.invariant.first
+          (ap (take (length places)) placed ∙ take_append (length places) places (c.in-Goes.place ∷ []) refl);
       all = omega (
         arith,
         ap length placed,
         ap length is,
-        length-append c.leaves.places.items (c.in-Goes.place ∷ []),
+        length-append places (c.in-Goes.place ∷ []),
         length-append points (c.in-Goes.next ∷ []),
         c.leaves.invariant.all,
       );
       more = omega (arith, ap length is, length-append points (c.in-Goes.next ∷ []), c.leaves.invariant.more);
       last = last_pushed points c.push-in-Goes.new.list.items c.in-Goes.next is;
+      stood = stood_next parts c.requires.older.language source c.args.older.now roots roots' places c.push.new.list.items c.leaves.from
+          c.in-Goes.next c.leaves.standing.number c.stand-standing-in-Goes.result.number c.leaves.standing.ahead
+          c.stand-standing-in-Goes.result.ahead further.0
+          (subst (λ z. IsKept parts source roots' z c.in-Goes.next) (sym placed) next)
+          (shares_more c.args.stacks.now.entries.items roots'.entries c.args.older.now
+          (grows_then parts c.leaves.invariant.grows c.in_ok-next.ensures.grows).entries c.requires.shares) c.leaves.invariant.stood
+          (subst (λ z. IfSome c.stand-standing-in-Goes.result.ahead (λ ahead.
+          IsAhead c.args.older.now c.in-Goes.next c.stand-standing-in-Goes.result.number ahead ×
+          IsAt c.args.older.now c.stand-standing-in-Goes.result.number c.in-Goes.next.at ×
+          Follows c.args.older.now z c.in-Goes.next.link c.leaves.standing.ahead c.leaves.standing.number
+          c.stand-standing-in-Goes.result.number)) c.deref-in-Goes.ensures.value c.stand-standing-in-Goes.ensures);
+      known = omega (
+        arith,
+        ap length placed,
+        length-append places (c.in-Goes.place ∷ []),
+        c.leaves.invariant.known,
+        c.known_after-known.ensures,
+      );
     }
 
 pub returns-in-Done-clause-kept : goal.returns-in-Done-clause-kept
 returns-in-Done-clause-kept c =
-    checkpoints_more c.args.language.now c.args.text.now c.leaves.invariant.grows.sound c.in_ok-next.ensures.grows c.leaves.invariant.kept
+    checkpoints_more c.args.language.now c.args.text.now c.leaves.invariant.grows.sound c.in_ok-next.ensures.grows
+    c.leaves.invariant.kept
 
 pub leaves-smaller : goal.leaves-smaller
 leaves-smaller c =
     let parts = c.args.language.now in
     let source = c.args.text.now in
-    let roots' = roots_of c.take_leaf.new.stacks in
+    let roots = roots_of c.leaves.stacks in
+    let roots' = roots_of c.take_beside.new.stacks in
     let places = c.leaves.places.items in
     let further = subst (GoesFurther c.leaves.from) c.in-Goes.is c.in_ok-next.ensures.further in
-    let here = last_kept parts source (roots_of c.leaves.stacks) places c.leaves.checkpoints.items c.leaves.from c.leaves.invariant.all
+    let here = last_kept parts source roots places c.leaves.checkpoints.items c.leaves.from c.leaves.invariant.all
     c.leaves.invariant.last c.leaves.invariant.kept in
     let next : IsKept parts source roots' (places ++ c.in-Goes.place ∷ []) c.in-Goes.next =
-    subst (IsRound parts source roots' places) c.in-Goes.is (c.in_ok-next.ensures.round places here) in
+    subst (IsRound parts source roots' places) c.in-Goes.is (c.in_ok-next.ensures.round places here
+    (known_if parts c.requires.older.language source c.args.older.now c.requires.older roots places c.leaves.from c.leaves.standing.number
+    c.leaves.standing.ahead here c.leaves.invariant.stood)) in
     let on : c.leaves.from.at < c.in-Goes.next.at = further.0 in
     let within : c.in-Goes.next.at ≤ length source = next.within in omega (arith, on, within)
 
@@ -75,16 +141,22 @@ pub returns-in-Done-clause-parsed : goal.returns-in-Done-clause-parsed
 returns-in-Done-clause-parsed c =
     let parts = c.args.language.now in
     let source = c.args.text.now in
+    let roots = roots_of c.leaves.stacks in
     let places = c.leaves.places.items in
-    let here = last_kept parts source (roots_of c.leaves.stacks) places c.leaves.checkpoints.items c.leaves.from c.leaves.invariant.all
+    let here = last_kept parts source roots places c.leaves.checkpoints.items c.leaves.from c.leaves.invariant.all
     c.leaves.invariant.last c.leaves.invariant.kept in
-    (subst (IsRound parts source (roots_of c.take_leaf.new.stacks) places) c.in-Done.is (c.in_ok-next.ensures.round places here)).0
+    (subst (IsRound parts source (roots_of c.take_beside.new.stacks) places) c.in-Done.is (c.in_ok-next.ensures.round places here
+    (known_if parts c.requires.older.language source c.args.older.now c.requires.older roots places c.leaves.from c.leaves.standing.number
+    c.leaves.standing.ahead here c.leaves.invariant.stood))).0
 
 pub returns-in-Done-clause-placed : goal.returns-in-Done-clause-placed
 returns-in-Done-clause-placed c =
     let parts = c.args.language.now in
     let source = c.args.text.now in
+    let roots = roots_of c.leaves.stacks in
     let places = c.leaves.places.items in
-    let here = last_kept parts source (roots_of c.leaves.stacks) places c.leaves.checkpoints.items c.leaves.from c.leaves.invariant.all
+    let here = last_kept parts source roots places c.leaves.checkpoints.items c.leaves.from c.leaves.invariant.all
     c.leaves.invariant.last c.leaves.invariant.kept in
-    (subst (IsRound parts source (roots_of c.take_leaf.new.stacks) places) c.in-Done.is (c.in_ok-next.ensures.round places here)).1
+    (subst (IsRound parts source (roots_of c.take_beside.new.stacks) places) c.in-Done.is (c.in_ok-next.ensures.round places here
+    (known_if parts c.requires.older.language source c.args.older.now c.requires.older roots places c.leaves.from c.leaves.standing.number
+    c.leaves.standing.ahead here c.leaves.invariant.stood))).1

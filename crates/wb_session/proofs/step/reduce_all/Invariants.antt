@@ -11,4 +11,4 @@ invariant-reductions l = record {
 }
 
 abbrev pub decreases-reductions : goal.decreases-reductions
-decreases-reductions l = 2 ^ 64 - length l.stacks.store
+decreases-reductions l = 2 ^ 64 - length l.stacks.entries.items

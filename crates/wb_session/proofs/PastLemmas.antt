@@ -1,0 +1,103 @@
+-- What the run before has in common with the one that is there.
+use Rattle.std.proofs.Common.{◌≡◌, ◌≤◌, ◌+◌, ℕ, List, [], length, take, drop, sym, ◌∙◌, ap, subst, arith}
+use Rattle.std.specs.Prelude.{Some, slice_get}
+use Rattle.wb_lemmas.proofs.Places.{nothing_at}
+use Rattle.wb_scan_theory.specs.Facts.{IsLanguage}
+use Rattle.wb_scan.specs.Views.{LanguageParts}
+use Rattle.wb_session_theory.specs.Edits.{edited}
+use Rattle.wb_session_theory.specs.Rests.{SameRest}
+use Rattle.wb_session_theory.proofs.SessionLemmas.{edit_behind}
+use Rattle.wb_session.specs.declared.checkpoint.Checkpoint.{Checkpoint}
+use Rattle.wb_session.specs.declared.older.Older.{Older}
+use Rattle.wb_session.specs.declared.past.Past.{Past}
+use Rattle.wb_session.specs.declared.place.LeafPlace.{LeafPlace}
+use Rattle.wb_session.specs.declared.stacks.Entry.{Entry}
+use Rattle.wb_session.specs.Stacks.{Roots}
+use Rattle.wb_session.specs.Kept.{AreCheckpoints, IsKept, IsPast}
+use Rattle.wb_session.specs.Inner.Older.{IsOlder, Shares}
+use Rattle.wb_session.proofs.KeptLemmas.{roots_with}
+use Rattle.wb_session.proofs.VersionLemmas.{common_more, none_common}
+
+-- more checkpoints and entries
+pub past_more : (points points' : List Checkpoint) (es es' : List Entry) (past : Past) → take (length points) points' ≡ points →
+    take (length es) es' ≡ es → IsPast points es past → IsPast points' es' past
+past_more points points' es es' past more more_entries is =
+    let few : past.common ≤ length points = is.few in
+    let few_entries : past.common_entries ≤ length es = is.few_entries in
+    record {
+      checkpoints = common_more points points' past.checkpoints.items past.common few more is.checkpoints;
+      few = let h = Rattle.wb_session.proofs.StackLemmas.length_begins points points' more in omega (arith, h, few);
+      entries = common_more es es' past.entries.items past.common_entries few_entries more_entries is.entries;
+      few_entries = let h = Rattle.wb_session.proofs.StackLemmas.length_begins es es' more_entries in omega (arith, h, few_entries);
+    }
+
+-- there was none
+pub past_none : (points : List Checkpoint) (es : List Entry) (past : Past) → past.common ≡ 0 → past.common_entries ≡ 0 →
+    IsPast points es past
+past_none points es past none none_entries = record {
+  checkpoints = none_common points past.checkpoints.items past.common none;
+  few = omega (arith, none);
+  entries = none_common es past.entries.items past.common_entries none_entries;
+  few_entries = omega (arith, none_entries);
+}
+
+-- no run is an older one
+pub no_older : (parts : LanguageParts) (text : List ℕ) (older : Older) → IsLanguage parts.language → older.checkpoints.now ≡ [] →
+    older.to ≡ 0 → older.moved ≡ 0 → older.limit ≡ length text → older.terminals ≡ parts.language.grammar.terminals →
+    IsOlder parts text older
+no_older parts text older ok none to_is moved_is limit terminals = record {
+  language = ok;
+  old = text;
+  roots = roots_with older.entries.now [] [];
+  entries = Rattle.std.proofs.Common.refl;
+  each = λ i point at. absurd (nothing_at point i (subst (λ z. slice_get z i ≡ Some point) none at));
+  rest = record {
+    one = omega (arith, to_is);
+    other = omega (arith, moved_is);
+    same = ap (λ n. drop n text) (to_is ∙ sym moved_is);
+  };
+  limit = limit;
+  terminals = terminals;
+}
+
+-- the run before an edit
+pub edit_older : (parts : LanguageParts) (text bytes made : List ℕ) (from to : ℕ) → from ≤ to → to ≤ length text → (roots : Roots)
+    (places : List LeafPlace) (points : List Checkpoint) (older : Older) → IsLanguage parts.language →
+    AreCheckpoints parts text roots places points → older.checkpoints.now ≡ points → older.places.now ≡ places →
+    older.entries.now ≡ roots.entries → older.to ≡ to → older.moved ≡ from + length bytes → made ≡ edited text from to bytes →
+    older.limit ≡ length made → older.terminals ≡ parts.language.grammar.terminals → IsOlder parts made older
+edit_older parts text bytes made from to order within roots places points older ok are points_are places_are entries_are to_is moved_is
+    made_is limit terminals = record {
+      language = ok;
+      old = text;
+      roots = roots;
+      entries = sym entries_are;
+      each = λ i point at. subst (λ z. IsKept parts text roots (take i z) point) (sym places_are)
+          (are.each i point (subst (λ z. slice_get z i ≡ Some point) points_are at));
+      rest = subst (λ z. SameRest text older.to z older.moved) (sym made_is)
+          (subst (λ n. SameRest text n (edited text from to bytes) older.moved) (sym to_is)
+          (subst (λ n. SameRest text to (edited text from to bytes) n) (sym moved_is) (edit_behind text bytes from to order within)));
+      limit = limit;
+      terminals = terminals;
+    }
+
+-- the entries that are shared stay so among more
+pub shares_more : (es es' : List Entry) (older : Older) → take (length es) es' ≡ es → Shares es older →
+    take older.shared es' ≡ take older.shared older.entries.now
+shares_more es es' older begins is = sym (common_more es es' older.entries.now older.shared is.few begins (sym is.same))
+
+-- so many are shared as the run before has in common
+pub shares_past : (points : List Checkpoint) (es : List Entry) (past : Past) (older : Older) → IsPast points es past →
+    older.entries.now ≡ past.entries.items → older.shared ≡ past.common_entries → Shares es older
+shares_past points es past older is entries_are shared_is = record {
+  few = let few = is.few_entries in omega (arith, few, shared_is);
+  same = ap (λ n. take n es) shared_is ∙ sym is.entries ∙ ap (take past.common_entries) (sym entries_are)
+      ∙ ap (λ n. take n older.entries.now) (sym shared_is);
+}
+
+-- no entry is
+pub shares_none : (es : List Entry) (older : Older) → older.shared ≡ 0 → Shares es older
+shares_none es older none = record {
+  few = omega (arith, none);
+  same = ap (λ n. take n es) none ∙ sym (ap (λ n. take n older.entries.now) none);
+}
