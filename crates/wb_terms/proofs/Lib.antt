@@ -15,4 +15,5 @@ pub mod PrintedLemmas
 pub mod ReadLemmas
 pub mod ReadingLemmas
 pub mod Sound
+pub mod StepLemmas
 pub mod TreeLemmas

@@ -1,7 +1,7 @@
 use Rattle.std.proofs.Common.{◌++◌, ◌∷◌, [], List, ℕ, ap, ◌∙◌}
 use Rattle.std.proofs.lemmas.Result.{on_ok_weaker}
 use Rattle.wb_terms.proofs.PlainLemmas.{plain_text}
-use Rattle.wb_terms.proofs.print.print_plain_text.Goals as goal
+use Rattle.wb_terms.proofs.leaf.print_plain_text.Goals as goal
 
 pub returns : goal.returns
 returns c =

@@ -1,6 +1,6 @@
 use Rattle.std.proofs.Common.{arith}
 use Rattle.wb_terms.proofs.PlainLemmas.{plain_all, plain_more}
-use Rattle.wb_terms.proofs.print.is_plain.Goals as goal
+use Rattle.wb_terms.proofs.leaf.is_plain.Goals as goal
 
 pub bytes-preserved : goal.bytes-preserved
 bytes-preserved c =
