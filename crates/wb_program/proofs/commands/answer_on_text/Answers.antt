@@ -15,8 +15,8 @@ returns-in-Run g c =
     let operations : Operations = record { signatures = c.args.operations.now.signatures; meaning = g.M.Meaning.meaning } in
     of_command operations c.answer_source.result c.args.command c.in-Run.is c.answer_source.ensures
 
-pub answer_source-in-Generate-requires-clause-size : goal.answer_source-in-Generate-requires-clause-size
-answer_source-in-Generate-requires-clause-size g c =
+pub answer_source-requires-in-Generate-clause-size : goal.answer_source-requires-in-Generate-clause-size
+answer_source-requires-in-Generate-clause-size g c =
     let x = c.in-Generate in
     c.requires.leaves x.number x.size x.attribute.now x.host.now (texts x.extensions.now) (ap asked_by x.is)
 
