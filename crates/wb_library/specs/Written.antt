@@ -17,9 +17,9 @@ child_of child.Leaf = record { kind = 1; node = 0 }
 abbrev pub place_of : LeafPlace → PlaceOut
 place_of place = record { terminal = place.terminal; begin = place.begin; lexeme = place.lexeme; end = place.end }
 
--- what an edit took; no leaf behind it is known
+-- what an edit took
 abbrev pub edit_of : Edited → EditOut
-edit_of done = record { from = done.from; to = done.to; scanned = done.scanned; built = done.built; kept = done.kept; known = 0 }
+edit_of done = record { from = done.from; to = done.to; scanned = done.scanned; built = done.built; kept = done.kept; known = done.known }
 
 -- so many bytes of the text from the place on are in the buffer from its beginning, as many as there are and fit; what was after them stays
 pub record IsCopied (text : List ℕ) (from : ℕ) (old new : List ℕ) (count : ℕ) : Type 0 where

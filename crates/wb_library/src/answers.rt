@@ -69,6 +69,6 @@ pub(crate) fn edit_out(done: Edited) -> EditOut
         scanned: done.scanned,
         built: done.built,
         kept: done.kept,
-        known: 0,
+        known: done.known,
     }
 }

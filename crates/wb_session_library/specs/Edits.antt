@@ -6,6 +6,7 @@ use Rattle.wb_session.specs.Sessions.{Fits, IsSameAnswer, MakesText}
 use Rattle.wb_session.specs.declared.place.LeafPlace.{LeafPlace}
 use Rattle.wb_session.specs.declared.session.Edited.{Edited}
 use Rattle.wb_session.specs.Edits.{edited}
+use Rattle.wb_session_library.specs.Places.{counts}
 use Rattle.wb_session_library.specs.Views.{TextView}
 use Rattle.wb_session_library.specs.declared.refusal.CallRefusal.{CallRefusal}
 use Rattle.wb_session_library.specs.declared.refusal.CallRefusal.TheVariants as c
@@ -15,7 +16,8 @@ abbrev pub KeepSome : ℕ → (old new : Option (List LeafPlace)) → Type 0
 KeepSome count (Some old) (Some new) = KeepsPlaces count old new
 KeepSome count old new = ⊥
 
--- the one text is made of the other by the edit, in the same language, and so many nodes were built for it
+-- the one text is made of the other by the edit, in the same language; so many nodes were built for it, and of its leaves and what is behind
+-- them each was scanned, or kept, or known
 pub record IsEdited (old : TextView) (from to : ℕ) (bytes : List ℕ) (new : TextView) (done : Edited) : Type 0 where
   pub text : MakesText old.text from to bytes new.text
   pub language : new.language ≡ old.language
@@ -24,6 +26,7 @@ pub record IsEdited (old : TextView) (from to : ℕ) (bytes : List ℕ) (new : T
   pub begins : done.from ≤ from
   pub ends : done.to ≤ length new.text
   pub kept : KeepSome done.kept old.places new.places
+  pub scanned : done.scanned + done.kept + done.known ≡ counts new.places + 1
 
 -- nothing is another but that the store may have more
 pub record StaysText (old new : TextView) : Type 0 where

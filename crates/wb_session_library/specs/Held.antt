@@ -59,4 +59,4 @@ held_view l held = record { language = l; text = text_in held; answer = answer_i
 -- the language is composed of its host and extensions, and the answer is that of the text in it
 pub record IsTextIn (l : TextLanguageParts) (held : Held) : Type 0 where
   pub composed : IsTextLanguage l
-  pub held : IsHeldIn l.language held
+  pub answered : IsHeldIn l.language held

@@ -8,6 +8,6 @@ returns-in-Err-clause-refused c =
     let host = c.in-Some.taken in
     let contents = c.args.contents.now in
     refused_value c.args.self.now.hosts.slots.items c.args.host host
-    (IsExtensionRefused contents c.args.name.now c.note_extension.new.note.items c.next_reason.result) c.note_extension.result
+    (IsExtensionRefused contents c.args.name.now c.note_extension.new.note.items c.next_reason-self.result) c.note_extension.result
     c.in-Some.ensures.value (λ never. never)
-    (c.note_extension.ensures host contents c.next_reason.result c.in-Err.ensures.refused c.next_reason.ensures)
+    (c.note_extension.ensures host contents c.next_reason-self.result c.in-Err.ensures.refused c.next_reason-self.ensures)

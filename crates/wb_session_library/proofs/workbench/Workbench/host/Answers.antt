@@ -12,4 +12,4 @@ returns-in-Ok-clause-ok c =
 
 pub returns-in-Err-clause-refused : goal.returns-in-Err-clause-refused
 returns-in-Err-clause-refused c =
-    c.note_host.ensures c.args.contents.now c.host_reason.result c.in-Err.ensures.refused c.host_reason.ensures
+    c.note_host.ensures c.args.contents.now c.host_reason-self.result c.in-Err.ensures.refused c.host_reason-self.ensures
