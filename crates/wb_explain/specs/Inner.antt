@@ -1,0 +1,2 @@
+-- what is added to a page, and how a run ends that writes it
+pub mod Ends

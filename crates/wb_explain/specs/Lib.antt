@@ -1,0 +1,3 @@
+-- what is written
+pub mod Explained
+pub mod Inner

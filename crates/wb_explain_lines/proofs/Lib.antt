@@ -1,0 +1,4 @@
+pub mod KeepLemmas
+mod Known
+mod LineLemmas
+mod ReservedLemmas
