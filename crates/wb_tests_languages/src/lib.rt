@@ -2,6 +2,7 @@
 #![tactic(auto)]
 
 mod editing;
+mod expecting;
 mod generating;
 mod long_editing;
 mod parsing;

@@ -1,0 +1,6 @@
+mod MachineLemmas
+mod TrialLemmas
+mod StopLemmas
+mod WalkLemmas
+mod EachLemmas
+mod WordLemmas

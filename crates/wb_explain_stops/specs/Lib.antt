@@ -1,0 +1,2 @@
+-- what is said of a stop
+pub mod Said
