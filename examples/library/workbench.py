@@ -150,10 +150,11 @@ class Workbench:
         return answer
 
     def reason(self):
-        """The code of the last refusal of contents, and its place, or None."""
+        """The code of the last refusal of contents, and its place; each is None where there is none."""
         found = ReasonOut()
         self.call("wb_reason", byref(found))
-        return chr(found.letter) + chr(found.digit), None if found.offset == NOWHERE else found.offset
+        code = chr(found.letter) + chr(found.digit) if found.letter else None
+        return code, None if found.offset == NOWHERE else found.offset
 
     def note(self):
         length = self.call("wb_note_length")
