@@ -90,7 +90,11 @@ fn stops_tell_what_could_come_and_what_is_there(rt: HostRuntime) {
     assert!(rt; all_stop(rt.alloc(), &STOPS));
 }
 
-static WHOLE: [(&'static Sample, &'static str); 3] = [(&KEYWORDS, "if x"), (&LISTS, ""), (&POINTERS, "*a=b")];
+static WHOLE: [(&'static Sample, &'static str); 3] = [
+    (&KEYWORDS, "if x"),
+    (&LISTS, ""),
+    (&POINTERS, "*a=b"),
+];
 
 fn is_whole(alloc: Global, sample: &Sample, text: &str) -> bool {
     match language(alloc, sample) {

@@ -17,7 +17,7 @@ returns-in-Ok-clause-ok c =
       made = c.in-Ok.made;
       adds = adds;
       of = c.in-Ok.ensures.of;
-      composed = c.in-Ok.ensures.is
+      composed = c.in-Ok.ensures.is;
     })
     c.added.ensures.ok
 
