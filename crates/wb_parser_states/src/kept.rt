@@ -22,9 +22,9 @@ const TERMINALS: usize = 16_777_216;
 // A key with its end, both as numbers.
 #[derive(Clone, Copy)]
 pub(crate) struct Kept {
-    key: u64,
-    target: u32,
-    action: u32,
+    pub(crate) key: u64,
+    pub(crate) target: u32,
+    pub(crate) action: u32,
 }
 
 // The place for a key. Keys that differ in their terminal alone are side by side, as those that are used in turn often do.
@@ -49,7 +49,7 @@ pub(crate) fn number_of(key: Key) -> Option<u64>
 
 // One number of two, of which the first is below 2^20 and the other below 2^44.
 #[inline]
-fn joined(low: u64, high: u64) -> u64
+pub(crate) fn joined(low: u64, high: u64) -> u64
     requires low { low < 1048576 }
     requires high { high < 17592186044416 }
     ensures low { result % 1048576 ≡ low }
@@ -164,4 +164,15 @@ pub(crate) fn filled(alloc: Global, kept: Kept) -> Vec<Kept>
         }
     }
     places
+}
+
+pub(crate) fn coded(action: RuleAction) -> u32 {
+    match action {
+        RuleAction::Accept => 4_294_967_292,
+        RuleAction::None => 4_294_967_294,
+        _ => match code_of(action) {
+            Some(code) => code,
+            None => 4_294_967_294
+        },
+    }
 }

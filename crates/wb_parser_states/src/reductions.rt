@@ -12,6 +12,7 @@ use crate::chains::{ChainEnd, Key, move_end};
 use crate::kept::{Kept, end_in, filled, is_kept, kept_of, place_of};
 use crate::rules::{Rule, rules_of};
 use std::alloc::{AllocError, Global};
+use wb_base::push;
 use wb_scan::Language;
 
 /// What the reductions of a grammar are made by: the left sides and widths of its productions, and ends of chains that were met. These
@@ -19,11 +20,19 @@ use wb_scan::Language;
 pub struct Reductions {
     pub(crate) rules: Vec<Rule>,
     pub(crate) ends: Vec<Kept>,
+    pub(crate) actions: Vec<u32>,
+    pub(crate) width: usize,
 }
 
 impl Drop for Reductions {
     fn drop(self) {
-        let Reductions { rules, ends } = self;
+        let Reductions {
+            rules,
+            ends,
+            actions,
+            width: _,
+        } = self;
+        drop(actions);
         drop(rules);
         drop(ends);
     }
@@ -36,7 +45,22 @@ pub fn reductions_of(alloc: Global, language: &Language) -> Result<Reductions, A
 {
     let rules = rules_of(alloc, language.grammar())?;
     let ends = Vec::new(alloc);
-    Ok(Reductions { rules, ends })
+    let mut actions = Vec::new(alloc);
+    let width = language.grammar().terminals() + 1;
+    for state in 0..language.tables().count() {
+        for terminal in 0..width {
+            push(
+                &mut actions,
+                crate::kept::coded(crate::chains::action_at(language, &rules, state, terminal)),
+            )?;
+        }
+    }
+    Ok(Reductions {
+        rules,
+        ends,
+        actions,
+        width,
+    })
 }
 
 // The end of the chain that begins with the state after a left side: the one that is kept, or the one that is followed and kept then.

@@ -14,6 +14,7 @@ ghost use Rattle.wb_parser_states.specs.Inner.Carried.{CarryOver};
 
 use crate::Outcome;
 use crate::chains::{Key, RuleAction, action_at};
+use crate::kept::place_of;
 use crate::reductions::{Reductions, end_from};
 use crate::rules::Rule;
 use crate::stack::top;
@@ -25,6 +26,7 @@ use wb_scan::Language;
 /// A terminal has its number in the grammar, and the end of the text is numbered after all terminals. `reductions` are those of the
 /// language, and chains that are met are kept there. The only error is out of memory. More than `usize::MAX` reductions on one terminal
 /// count as that, since no memory holds their tree.
+#[inline(always)]
 pub fn reduce_states(
     language: &Language,
     reductions: &mut Reductions,
@@ -39,19 +41,42 @@ pub fn reduce_states(
     ensures states { IfOk result (λ _. All (λ s. s < size_of language.now.tables) states.new.items) }
     ensures reductions { AreReductions language.now.language.grammar language.now.tables reductions.new }
 {
-    let _tables = language.tables();
-    let mut action = action_at(language, &reductions.rules, top(states), terminal);
-    'reductions: for _ in 0..usize::MAX {
-        match action {
-            RuleAction::Shift(target) => return Ok(Outcome::Shifts(target)),
-            RuleAction::Accept => return Ok(Outcome::Accepts),
-            RuleAction::None => return Ok(Outcome::Stops),
-            RuleAction::Reduce(rule) => action = reduce_top(
-                language, reductions, states, terminal, rule,
-            )?,
+    let state = top(states);
+    let mut code = reductions.actions[state * reductions.width + terminal];
+    'reductions: loop {
+        if code % 2 == 0 {
+            if code >= 4_294_967_292 {
+                return if code == 4_294_967_292 {
+                    Ok(Outcome::Accepts)
+                } else {
+                    Ok(Outcome::Stops)
+                };
+            }
+            return Ok(Outcome::Shifts((code / 2) as usize));
         }
+        let left = (code / 2) as usize % 1_048_576;
+        let width = (code / 2) as usize / 1_048_576;
+        let kept = states.len().saturating_sub(width);
+        states.truncate(kept);
+        let below = top(states);
+        let key = Key {
+            below,
+            from: left,
+            terminal,
+        };
+        let place = place_of(key);
+        if place < reductions.ends.len() {
+            let entry = reductions.ends[place];
+            if entry.key == (terminal as u64) << 40 | (left as u64) << 20 | below as u64 {
+                states.push(entry.target as usize)?;
+                code = entry.action;
+                continue 'reductions;
+            }
+        }
+        let end = end_from(language, reductions, key);
+        states.push(end.target)?;
+        code = crate::kept::coded(end.action);
     }
-    Err(AllocError)
 }
 
 // Makes a reduction of that rule, and then those of one symbol each that follow. Answers the action after them.
