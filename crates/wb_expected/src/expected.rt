@@ -3,7 +3,8 @@
 ghost use Rattle.std.specs.Prelude.{◌≡◌, [], ℕ, List, IfOk};
 ghost use Rattle.wb_parser_states.specs.Rules.{AreRules};
 ghost use Rattle.wb_expected.specs.Inner.Trials.{AreBelow, HasTables};
-ghost use Rattle.wb_expected.specs.Inner.Walks.{HasStopped, IsFound};
+ghost use Rattle.wb_expected.specs.Expected.{IsExpected};
+ghost use Rattle.wb_expected.specs.Inner.Walks.{HasStopped};
 
 use crate::each::terminals_after;
 use crate::leaf::{Round, take_leaf};
@@ -38,7 +39,7 @@ impl Drop for Stop {
 /// A stack of states, one for each root, and two numbers for each production are all that is kept; no tree is built. Each terminal costs the
 /// reductions that it asks for. The only error is out of memory.
 pub fn stop_of(alloc: Global, language: &Language, text: &[u8]) -> Result<Option<Stop>, AllocError>
-    ensures { IfOk result (IsFound language.now.language text.now) }
+    ensures { IfOk result (IsExpected language.now.language text.now) }
 {
     let rules = rules_of(alloc, language.grammar())?;
     let mut states = Vec::new(alloc);
@@ -58,7 +59,7 @@ fn read_all(
 ) -> Result<Option<Stop>, AllocError>
     requires rules { AreRules language.now.language.grammar rules.now }
     requires states { states.old.items ≡ [] }
-    ensures { IfOk result (IsFound language.now.language text.now) }
+    ensures { IfOk result (IsExpected language.now.language text.now) }
 {
     let mut extra = Vec::new(alloc);
     let found = read_with(alloc, language, rules, text, states, &mut extra);
@@ -77,7 +78,7 @@ fn read_with(
 ) -> Result<Option<Stop>, AllocError>
     requires rules { AreRules language.now.language.grammar rules.now }
     requires states { states.old.items ≡ [] }
-    ensures { IfOk result (IsFound language.now.language text.now) }
+    ensures { IfOk result (IsExpected language.now.language text.now) }
 {
     let _tables = language.tables();
     let mut at = 0;
@@ -105,7 +106,7 @@ fn halted(
     requires tables { HasTables language.now }
     requires rules { AreRules language.now.language.grammar rules.now }
     requires states { AreBelow language.now states.now }
-    ensures { (text : List ℕ) → HasStopped language.now text states.now place kind → IfOk result (IsFound language.now.language text) }
+    ensures { (text : List ℕ) → HasStopped language.now text states.now place kind → IfOk result (IsExpected language.now.language text) }
 {
     let terminals = terminals_after(alloc, language, rules, states, extra)?;
     Ok(Some(Stop {

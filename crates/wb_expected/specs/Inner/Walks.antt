@@ -1,8 +1,7 @@
 -- What a walk over a text keeps.
-use Rattle.std.specs.Prelude.{◌≡◌, ◌<◌, ◌≤◌, ◌↔◌, ◌++◌, ◌∷◌, ℕ, List, [], All, Contains, Option, Some, None}
+use Rattle.std.specs.Prelude.{◌≡◌, ◌<◌, ◌≤◌, ◌↔◌, ◌++◌, ◌∷◌, ℕ, List, [], All, Contains}
 use Rattle.wb_grammar_theory.specs.Trees.{Forest, leaves, symbols}
 use Rattle.wb_scan_theory.specs.declared.stop_kind.StopKind.{StopKind}
-use Rattle.wb_scan_theory.specs.Languages.{LanguageView}
 use Rattle.wb_scan_theory.specs.Machine.{Follows, Keeps}
 use Rattle.wb_scan_theory.specs.Readings.{Begins, terminals_of}
 use Rattle.wb_scan_theory.specs.Texts.{ParsesTo, StopsAt}
@@ -10,8 +9,6 @@ use Rattle.wb_scan_theory.specs.Tokens.{NextToken}
 use Rattle.wb_scan.specs.Views.{LanguageParts}
 use Rattle.wb_parser_states.specs.Stacks.{AreStates}
 use Rattle.wb_expected.specs.Inner.Trials.{Stands}
-use Rattle.wb_expected.specs.Expected.{AreExpected}
-use Rattle.wb_expected.specs.declared.expected.Stop.{Stop}
 use Rattle.wb_expected.specs.declared.leaf.Round.{Round}
 use Rattle.wb_expected.specs.declared.leaf.Round.TheVariants.{Goes, Whole, Halts}
 
@@ -47,8 +44,3 @@ pub record AreThoseBelow (parts : LanguageParts) (states : List ℕ) (count : �
   pub within : All (λ t. t < count) terminals
   pub each : (stack : Forest) → ((t : ℕ) → Stands parts.language.grammar parts.tables states stack t) → (t : ℕ) → t < count →
       Contains terminals t ↔ Begins parts.language.grammar (terminals_of (leaves [] stack) ++ t ∷ [])
-
--- what is found of a text: where it stops and what could come there, or that it has a tree
-abbrev pub IsFound : LanguageView → List ℕ → Option Stop → Type 0
-IsFound l text None = (tree : Forest) × ParsesTo l text tree
-IsFound l text (Some e) = AreExpected l text e.at e.kind e.terminals.items

@@ -1,0 +1,2 @@
+-- the language of files, and what is said of a stop in it
+pub mod Languages
