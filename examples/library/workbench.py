@@ -159,7 +159,8 @@ class Workbench:
     def note(self):
         length = self.call("wb_note_length")
         buffer = ctypes.create_string_buffer(length + 1)
-        return buffer.raw[: self.call("wb_note_copy", 0, buffer, length)]
+        count = self.call("wb_note_copy", 0, buffer, length)
+        return buffer.raw[:count]
 
     def noted(self, name, *words):
         """The note that a call makes."""
