@@ -107,8 +107,8 @@ uint32_t wb_parse(wb_workbench *workbench, wb_handle language, const char *text,
 uint32_t wb_open(wb_workbench *workbench, wb_handle language, const char *text, size_t length, wb_handle *out);
 
 /* Puts bytes in the place of those from `from` to before `to`. A node keeps its number; after a refusal the text, its answer and its
- * places are as before. Trees of earlier texts stay until wb_release. The first edit after
- * wb_open or wb_release copies what is kept once, some tens of milliseconds for 1 MB; an editor may make an empty one first. */
+ * places are as before. Trees of earlier texts stay until wb_release. The first edit after wb_open or wb_release copies what is kept once,
+ * in some tens of milliseconds for 1 MB; an editor may make an empty one first. */
 uint32_t wb_edit(wb_workbench *workbench, wb_handle text, size_t from, size_t to, const char *bytes, size_t length, wb_edit_t *out);
 
 /* Drops the trees of earlier texts of a text that was made by wb_open, by reading it once more. Nodes have other numbers then. */
