@@ -15,5 +15,4 @@ pub mod PrintedLemmas
 pub mod ReadLemmas
 pub mod ReadingLemmas
 pub mod Sound
-pub mod StepLemmas
 pub mod TreeLemmas

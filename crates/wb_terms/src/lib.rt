@@ -7,7 +7,6 @@ mod builder;
 mod event;
 mod events;
 mod kinds;
-mod leaf;
 mod name;
 mod print;
 mod read;

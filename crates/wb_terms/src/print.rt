@@ -1,42 +1,36 @@
 //! How is a value printed, however deep its trees are?
 //!
-//! A stack holds the children that are left, so nothing recurses. The last child of a tree takes over what closes the tree, so a chain of
-//! trees with one child each takes no room. A tree may be a shared graph whose text would be astronomic, so printing ends where the text
-//! gets too long.
+//! A stack holds the children that are left, so nothing recurses. A tree may be a shared graph whose text would be astronomic, so
+//! printing ends where the text gets too long.
 
-ghost use Rattle.std.specs.Prelude.{◌≡◌, ◌+◌, ◌<◌, ◌≤◌, ◌++◌, ◌∷◌, [], ℕ, List, Some, length, reverse, take, All, IfErr, IfOk, OnOk, slice_get};
+ghost use Rattle.std.specs.Prelude.{◌≡◌, ◌+◌, ◌<◌, ◌≤◌, ◌++◌, ◌∷◌, [], Some, length, reverse, take, true, false, All, IfErr, IfOk, IsTrue, OnOk, slice_get};
+ghost use Rattle.wb_text_tokens.specs.Printing.{printed_text};
 ghost use Rattle.wb_values.specs.declared.value.Value.{Value as Item};
-ghost use Rattle.wb_values.specs.Signature.{Signature as Header};
-ghost use Rattle.wb_values.specs.Tree.{Tree as Whole};
-ghost use Rattle.wb_values.specs.ValuesIn.{value_in, IsIn};
-ghost use Rattle.wb_terms.specs.Printed.{name_of, printed_value};
+ghost use Rattle.wb_values.specs.ValuesIn.{tree_in, value_in, IsIn};
+ghost use Rattle.wb_values.specs.Tree.{bool};
+ghost use Rattle.wb_terms.specs.Printed.{name_of, printed_plain, printed_tree, printed_value};
 ghost use Rattle.wb_terms.specs.Lengths.{IsTooLong};
-ghost use Rattle.wb_terms.specs.Inner.Pending.{closing, next_text, text_left, Appends, AreNested, ArePendingIn, IsNextIn, Steps, Takes};
+ghost use Rattle.wb_terms.specs.Inner.Plain.{ArePlain, IsPlain};
+ghost use Rattle.wb_terms.specs.Inner.Pending.{before, text_left, weight_left, tree_weight, value_weight, ArePendingIn};
 
-use crate::leaf::{LIMIT, print_plain, print_short};
 use crate::name::printed_name;
 use crate::refusal::PrintRefusal;
 use std::alloc::{AllocError, Global};
 use wb_base::push;
+use wb_text_tokens::{print_int, print_text};
 use wb_values::{PackedValues, Signatures, TreeId, TreeStore, Value};
 
-// A tree of whose children some are left: how many of the values that are left are none of them, and how many parentheses come after the
-// last one.
+// The most bytes that a value is printed in.
+const LIMIT: usize = 16_777_216;
+
+// A tree that is begun: how many of the values that are left are none of its children, and whether its first child is one that is left.
 #[derive(Clone, Copy)]
 struct Begun {
     below: usize,
-    closes: usize,
+    first: bool,
 }
 
-// A tree that comes next, and how many parentheses come after it.
-#[derive(Clone, Copy)]
-struct Next {
-    tree: TreeId,
-    closes: usize,
-}
-
-// What is left to be printed after what comes next: the children that are left of the trees that are begun, those of the last one on top,
-// the next one last.
+// What is left to be printed: the children that are left of the trees that are begun, those of the last one on top, the next one last.
 #[derive(Drop)]
 struct Pending {
     values: PackedValues,
@@ -55,126 +49,181 @@ fn print_name(
     push(out, b'(')
 }
 
-// Appends closing parentheses, so many of them.
-fn print_closes(out: &mut Vec<u8>, closes: usize) -> Result<(), AllocError>
-    ensures { OnOk result (out.new.items ≡ out.old.items ++ closing closes) }
+// Appends a truth value.
+fn print_bool(out: &mut Vec<u8>, truth: bool) -> Result<(), AllocError>
+    ensures { OnOk result (out.new.items ≡ out.old.items ++ printed_plain (bool truth)) }
 {
-    let mut done = 0;
-    'closes: while done < closes {
-        push(out, b')')?;
-        done += 1;
-    }
-    Ok(())
-}
-
-// Appends what comes between two children.
-fn print_separator(out: &mut Vec<u8>) -> Result<(), AllocError>
-    ensures { OnOk result (out.new.items ≡ out.old.items ++ 44 ∷ 32 ∷ []) }
-{
-    push(out, b',')?;
-    push(out, b' ')
-}
-
-// Appends the value at a place, if it is no tree. A tree is handed back, and nothing is appended.
-fn print_at(
-    out: &mut Vec<u8>,
-    values: &PackedValues,
-    place: usize,
-) -> Result<Option<TreeId>, PrintRefusal>
-    requires place { place < length values.now }
-    ensures ok { IfOk result (λ tree. (child : Item) → slice_get values.now place ≡ Some child → Appends out.old.items out.new.items child tree) }
-    ensures refused { (signatures : List Header) (trees : List Whole) → IfErr result (λ error. (child : Item) → slice_get values.now place ≡ Some child → IsTooLong (printed_value signatures (value_in trees child)) error) }
-{
-    if let Some(tree) = values.tree(place) {
-        return Ok(Some(tree));
-    }
-    if let Some(text) = values.text(place) {
-        print_short(out, text)?;
-        return Ok(None);
-    }
-    let value = values.get(place)?;
-    print_plain(out, &value)
-}
-
-// Appends so many parentheses, unless there is a tree that comes before them: then it comes next.
-fn close(out: &mut Vec<u8>, tree: Option<TreeId>, closes: usize) -> Result<Option<Next>, AllocError>
-    ensures { IfOk result (λ next. (before : List ℕ) (child : Item) → Appends before out.old.items child tree → Takes before out.new.items child closes next) }
-{
-    match tree {
-        Some(tree) => Ok(Some(Next { tree, closes })),
-        None => {
-            print_closes(out, closes)?;
-            Ok(None)
-        }
+    if truth {
+        out.extend_from_slice(b"true")
+    } else {
+        out.extend_from_slice(b"false")
     }
 }
 
-// Takes off the last of the values, after which so many parentheses come: it is appended with them, or comes next.
-fn take_last(
-    out: &mut Vec<u8>,
-    values: &mut PackedValues,
-    place: usize,
-    closes: usize,
-) -> Result<Option<Next>, PrintRefusal>
-    requires place { place + 1 ≡ length values.old }
-    ensures ok { IfOk result (λ next. (child : Item) → slice_get values.old place ≡ Some child → Takes out.old.items out.new.items child closes next) }
-    ensures values { OnOk result (values.new ≡ take place values.old) }
-    ensures refused { (signatures : List Header) (trees : List Whole) → IfErr result (λ error. (child : Item) → slice_get values.old place ≡ Some child → IsTooLong (printed_value signatures (value_in trees child)) error) }
+// Appends what comes before a child: nothing before the first one.
+fn print_separator(out: &mut Vec<u8>, first: bool) -> Result<(), AllocError>
+    ensures { OnOk result (out.new.items ≡ out.old.items ++ before first) }
 {
-    let tree = print_at(out, values, place)?;
-    values.truncate(place);
-    Ok(close(out, tree, closes)?)
+    if first {
+        Ok(())
+    } else {
+        out.extend_from_slice(b", ")
+    }
 }
 
-// Appends what comes before the children of a tree, and its first child, unless that is a tree: then it comes next.
-fn print_tree(
-    out: &mut Vec<u8>,
-    pending: &mut Pending,
-    next: Next,
-    signatures: &Signatures,
-    store: &TreeStore,
-) -> Result<Option<Next>, PrintRefusal>
-    requires within { next.tree.0 < length store.now }
-    requires pending { ArePendingIn (length store.now) pending.old.values (reverse pending.old.begun.items) }
-    ensures ok { IfOk result (Steps signatures.now store.now out.old.items out.new.items (Some next) pending.old.values pending.new.values (reverse pending.old.begun.items) (reverse pending.new.begun.items)) }
-    ensures refused { IfErr result (IsTooLong (next_text signatures.now store.now (Some next))) }
+// Appends a text as a string, unless the text alone is too long.
+fn print_short(out: &mut Vec<u8>, text: &[u8]) -> Result<(), PrintRefusal>
+    ensures ok { OnOk result (out.new.items ≡ out.old.items ++ printed_text text.now) }
+    ensures refused { IfErr result (IsTooLong (printed_text text.now)) }
 {
-    if next.closes > LIMIT {
+    if text.len() > LIMIT {
         return Err(PrintRefusal::TooLong);
     }
-    let closes = next.closes + 1;
-    print_name(out, signatures, store.production(next.tree))?;
-    let below = pending.values.len();
-    store.push_children(next.tree, &mut pending.values)?;
-    let left = pending.values.len();
-    if left <= below {
-        print_closes(out, closes)?;
-        return Ok(None);
+    if is_plain(text) {
+        Ok(print_plain_text(out, text)?)
+    } else {
+        Ok(print_text(out, text)?)
     }
-    if left - 1 > below {
-        push(&mut pending.begun, Begun { below, closes })?;
-        return take_last(out, &mut pending.values, left - 1, 0);
-    }
-    take_last(out, &mut pending.values, left - 1, closes)
 }
 
-// Appends the next child of the last tree that is begun, unless it is a tree: then it comes next.
+// Whether each byte stands for itself in a string.
+fn is_plain(text: &[u8]) -> bool
+    ensures { IsTrue result → ArePlain text.now }
+{
+    'bytes: for b in text {
+        if !is_plain_byte(*b) {
+            return false;
+        }
+    }
+    true
+}
+
+// Whether a byte stands for itself in a string.
+fn is_plain_byte(b: u8) -> bool
+    ensures { IsTrue result → IsPlain b }
+{
+    32 <= b && b <= 126 && b != b'"' && b != b'\\'
+}
+
+// Appends a text whose bytes stand for themselves as a string.
+fn print_plain_text(out: &mut Vec<u8>, text: &[u8]) -> Result<(), AllocError>
+    requires { ArePlain text.now }
+    ensures { OnOk result (out.new.items ≡ out.old.items ++ printed_text text.now) }
+{
+    push(out, b'"')?;
+    out.extend_from_slice(text)?;
+    push(out, b'"')
+}
+
+// Appends what comes before the children of a tree, which are then to be printed first.
+fn begin_tree(
+    out: &mut Vec<u8>,
+    pending: &mut Pending,
+    tree: TreeId,
+    signatures: &Signatures,
+    store: &TreeStore,
+) -> Result<(), AllocError>
+    requires within { tree.0 < length store.now }
+    requires pending { ArePendingIn (length store.now) pending.old.values (reverse pending.old.begun.items) }
+    ensures text { OnOk result (out.new.items ++ text_left signatures.now store.now pending.new.values (reverse pending.new.begun.items)
+        ≡ out.old.items ++ (printed_tree signatures.now (tree_in store.now tree.0) ++ text_left signatures.now store.now pending.old.values (reverse pending.old.begun.items))) }
+    ensures weight { OnOk result (weight_left store.now pending.new.values (reverse pending.new.begun.items)
+        ≡ tree_weight (tree_in store.now tree.0) + weight_left store.now pending.old.values (reverse pending.old.begun.items)) }
+    ensures pending { OnOk result (ArePendingIn (length store.now) pending.new.values (reverse pending.new.begun.items)) }
+{
+    print_name(out, signatures, store.production(tree))?;
+    let below = pending.values.len();
+    store.push_children(tree, &mut pending.values)?;
+    push(&mut pending.begun, Begun { below, first: true })
+}
+
+// Appends a plain value, or what comes before the children of a tree, which are then to be printed first.
+fn begin_value(
+    out: &mut Vec<u8>,
+    pending: &mut Pending,
+    value: &Value,
+    signatures: &Signatures,
+    store: &TreeStore,
+) -> Result<(), PrintRefusal>
+    requires within { IsIn (length store.now) value.now }
+    requires pending { ArePendingIn (length store.now) pending.old.values (reverse pending.old.begun.items) }
+    ensures text { OnOk result (out.new.items ++ text_left signatures.now store.now pending.new.values (reverse pending.new.begun.items)
+        ≡ out.old.items ++ (printed_value signatures.now (value_in store.now value.now) ++ text_left signatures.now store.now pending.old.values (reverse pending.old.begun.items))) }
+    ensures weight { OnOk result (weight_left store.now pending.new.values (reverse pending.new.begun.items)
+        ≡ value_weight (value_in store.now value.now) + weight_left store.now pending.old.values (reverse pending.old.begun.items)) }
+    ensures pending { OnOk result (ArePendingIn (length store.now) pending.new.values (reverse pending.new.begun.items)) }
+    ensures refused { IfErr result (IsTooLong (printed_value signatures.now (value_in store.now value.now))) }
+{
+    match value {
+        Value::Int(number) => Ok(print_int(out, *number)?),
+        Value::Bool(truth) => Ok(print_bool(out, *truth)?),
+        Value::Text(text) => print_short(out, text.as_slice()),
+        Value::Tree(tree) => Ok(begin_tree(out, pending, *tree, signatures, store)?),
+    }
+}
+
+// Like `begin_value`, of the last of the values that are left, which is taken off.
+fn begin_last(
+    out: &mut Vec<u8>,
+    pending: &mut Pending,
+    place: usize,
+    signatures: &Signatures,
+    store: &TreeStore,
+) -> Result<(), PrintRefusal>
+    requires place { place + 1 ≡ length pending.old.values }
+    requires within { All (IsIn (length store.now)) pending.old.values }
+    requires pending { ArePendingIn (length store.now) (take place pending.old.values) (reverse pending.old.begun.items) }
+    ensures text { OnOk result ((child : Item) → slice_get pending.old.values place ≡ Some child → out.new.items ++ text_left signatures.now store.now pending.new.values (reverse pending.new.begun.items)
+        ≡ out.old.items ++ (printed_value signatures.now (value_in store.now child) ++ text_left signatures.now store.now (take place pending.old.values) (reverse pending.old.begun.items))) }
+    ensures weight { OnOk result ((child : Item) → slice_get pending.old.values place ≡ Some child → weight_left store.now pending.new.values (reverse pending.new.begun.items)
+        ≡ value_weight (value_in store.now child) + weight_left store.now (take place pending.old.values) (reverse pending.old.begun.items)) }
+    ensures pending { OnOk result (ArePendingIn (length store.now) pending.new.values (reverse pending.new.begun.items)) }
+    ensures refused { IfErr result (λ error. (child : Item) → slice_get pending.old.values place ≡ Some child → IsTooLong (printed_value signatures.now (value_in store.now child)) error) }
+{
+    if let Some(tree) = pending.values.tree(place) {
+        pending.values.truncate(place);
+        return Ok(begin_tree(out, pending, tree, signatures, store)?);
+    }
+    if let Some(text) = pending.values.text(place) {
+        print_short(out, text)?;
+        pending.values.truncate(place);
+        return Ok(());
+    }
+    let value = pending.values.get(place)?;
+    pending.values.truncate(place);
+    begin_value(out, pending, &value, signatures, store)
+}
+
+// Appends the next child of the last tree that is begun, or its end.
 fn print_next(
     out: &mut Vec<u8>,
     pending: &mut Pending,
     begun: Begun,
-) -> Result<Option<Next>, PrintRefusal>
-    requires { AreNested (length pending.old.values) (begun ∷ reverse pending.old.begun.items) }
-    ensures ok { (signatures : List Header) (trees : List Whole) → All (IsIn (length trees)) pending.old.values → IfOk result (Steps signatures trees out.old.items out.new.items None pending.old.values pending.new.values (begun ∷ reverse pending.old.begun.items) (reverse pending.new.begun.items)) }
-    ensures refused { (signatures : List Header) (trees : List Whole) → IfErr result (IsTooLong (text_left signatures trees pending.old.values (begun ∷ reverse pending.old.begun.items))) }
+    signatures: &Signatures,
+    store: &TreeStore,
+) -> Result<(), PrintRefusal>
+    requires pending { ArePendingIn (length store.now) pending.old.values (begun ∷ reverse pending.old.begun.items) }
+    ensures text { OnOk result (out.new.items ++ text_left signatures.now store.now pending.new.values (reverse pending.new.begun.items)
+        ≡ out.old.items ++ text_left signatures.now store.now pending.old.values (begun ∷ reverse pending.old.begun.items)) }
+    ensures weight { OnOk result (weight_left store.now pending.new.values (reverse pending.new.begun.items)
+        < weight_left store.now pending.old.values (begun ∷ reverse pending.old.begun.items)) }
+    ensures pending { OnOk result (ArePendingIn (length store.now) pending.new.values (reverse pending.new.begun.items)) }
+    ensures refused { IfErr result (IsTooLong (text_left signatures.now store.now pending.old.values (begun ∷ reverse pending.old.begun.items))) }
 {
-    print_separator(out)?;
-    let place = pending.values.len() - 1;
-    if place > begun.below {
-        push(&mut pending.begun, begun)?;
-        return take_last(out, &mut pending.values, place, 0);
+    let Begun { below, first } = begun;
+    let left = pending.values.len();
+    if left <= below {
+        return Ok(push(out, b')')?);
     }
-    take_last(out, &mut pending.values, place, begun.closes)
+    print_separator(out, first)?;
+    push(
+        &mut pending.begun,
+        Begun {
+            below,
+            first: false,
+        },
+    )?;
+    begin_last(out, pending, left - 1, signatures, store)
 }
 
 /// The printed text of a value, whose trees are those of the store.
@@ -194,21 +243,16 @@ pub fn print_value(
     ensures refused { IfErr result (IsTooLong (printed_value signatures.now (value_in store.now value.now))) }
 {
     let mut out = Vec::new(alloc);
-    let tree = print_plain(&mut out, value)?;
-    let mut next = close(&mut out, tree, 0)?;
     let mut pending = Pending {
         values: PackedValues::new(alloc),
         begun: Vec::new(alloc),
     };
+    begin_value(&mut out, &mut pending, value, signatures, store)?;
     'print: while out.len() <= LIMIT {
-        if let Some(tree) = next {
-            next = print_tree(&mut out, &mut pending, tree, signatures, store)?;
-            continue 'print;
-        }
         let Some(begun) = pending.begun.pop() else {
             return Ok(out);
         };
-        next = print_next(&mut out, &mut pending, begun)?;
+        print_next(&mut out, &mut pending, begun, signatures, store)?;
     }
     Err(PrintRefusal::TooLong)
 }
