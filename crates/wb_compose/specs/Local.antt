@@ -1,4 +1,4 @@
--- Lookaheads of a composed language are local: those of the host by itself, or of the host with one of the extensions.
+-- Lookaheads of a composed language are local: at a kernel those of the host by itself and of the host with each extension that has it.
 use Rattle.std.specs.Prelude.{◌≡◌, List, Some}
 use Rattle.std.specs.List.{AllZip}
 use Rattle.wb_base.specs.Grammar.{GrammarView}

@@ -6,7 +6,7 @@ use Rattle.wb_grammar_theory.specs.Trees.{Forest}
 use Rattle.wb_scan_theory.specs.declared.stop_kind.StopKind.{StopKind}
 use Rattle.wb_scan_theory.specs.Languages.{LanguageView}
 use Rattle.wb_scan_theory.specs.Texts.{ParsesTo}
-use Rattle.wb_expected.specs.Expected.{AreExpected}
+use Rattle.wb_parser_expected.specs.Expected.{AreExpected}
 
 -- a name, and what the end of a text is called where there is none
 abbrev pub or_end : Option (List ℕ) → List ℕ

@@ -7,7 +7,7 @@ use crate::writing::push_text;
 use crate::written::colon_in;
 use std::alloc::{AllocError, Global};
 use wb_base::Bytes;
-use wb_expected::{Stop, stop_of};
+use wb_parser_expected::{Stop, stop_of};
 
 // The most terminals whose extensions are tried.
 const MOST: usize = 40;

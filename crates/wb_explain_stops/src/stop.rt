@@ -9,7 +9,7 @@ use crate::there::push_there;
 use crate::writing::{push_number, push_text};
 use std::alloc::{AllocError, Global};
 use wb_base::Bytes;
-use wb_expected::{Stop, stop_of};
+use wb_parser_expected::{Stop, stop_of};
 use wb_scan::Language;
 
 // The most terminals that are named.

@@ -4,7 +4,7 @@ use crate::stop::Shown;
 use crate::writing::{push_text, push_word};
 use std::alloc::AllocError;
 use wb_base::Bytes;
-use wb_expected::{Stop, StopKind, Word, word_at};
+use wb_parser_expected::{Stop, StopKind, Word, word_at};
 
 // Appends what is at a stop.
 pub(crate) fn push_there(

@@ -12,7 +12,7 @@ use wb_syntax_resolved::Resolved;
 
 /// A host that is certified over operations of these signatures, by a certificate.
 ///
-/// What is known of it is what is known of a `CertifiedHost`. Its kernels and lookaheads are those of the certificate.
+/// What is known of it is what is known of a `CertifiedHost`.
 pub struct RecheckedHost {
     pub(crate) resolved: Resolved,
     pub(crate) parts: HostParts,

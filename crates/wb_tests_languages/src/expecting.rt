@@ -3,7 +3,7 @@
 use crate::sample::{Sample, language};
 use crate::samples::{CONTEXTS, KEYWORDS, LAYOUTS, LISTS, POINTERS};
 use std::alloc::Global;
-use wb_expected::{Stop, stop_of, word_at};
+use wb_parser_expected::{Stop, stop_of, word_at};
 use wb_scan::Language;
 
 // A sample, a text that stops, and where it stops; the terminals that could come there, with the end after them; and the end of the longest

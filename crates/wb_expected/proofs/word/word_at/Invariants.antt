@@ -1,5 +1,0 @@
-use Rattle.wb_expected.specs.Inner.Longer.{IsLongestBelow}
-use Rattle.wb_expected.proofs.word.word_at.Given as goal
-
-abbrev pub invariant-states : goal.invariant-states
-invariant-states l = IsLongestBelow l.language l.text l.from l.state l.longest
