@@ -1,13 +1,13 @@
 //! What does a command that comes to its end show?
 
-ghost use Rattle.std.specs.Prelude.{◌≡◌, ◌++◌, OnOk};
+ghost use Rattle.std.specs.Prelude.{◌≡◌, ◌++◌, IfOk, OnOk};
 ghost use Rattle.std.specs.Fmt.{decimal};
 ghost use lib.Chars.{codes};
 ghost use Rattle.wb_report.specs.Done.{done_lines, extension_lines, marker_line, prefix_lines, rechecked_lines, value_line};
 
 use crate::pieces::{Piece, push_line, push_pieces};
-use std::alloc::AllocError;
-use wb_base::{Bytes, Sequence};
+use std::alloc::{AllocError, Global};
+use wb_base::{Bytes, Sequence, push};
 
 /// What a command that comes to its end shows.
 #[derive(Drop)]
@@ -53,6 +53,39 @@ pub enum Done {
         marker: Bytes,
         at: usize,
     },
+}
+
+// The lines of a command that comes to its end, by what it shows, which is handed over.
+pub(crate) fn into_lines(alloc: Global, done: Done) -> Result<Vec<u8>, AllocError>
+    ensures { IfOk result (λ lines. lines.items ≡ done_lines done) }
+{
+    match done {
+        Done::Tree(text) => with_newline(text.into_vec()),
+        Done::Canonical(text) => Ok(text.into_vec()),
+        Done::Edited(lines) => Ok(lines.into_vec()),
+        other => {
+            let lines = lines_of(alloc, &other);
+            drop(other);
+            lines
+        }
+    }
+}
+
+// A text with LF after it.
+fn with_newline(mut text: Vec<u8>) -> Result<Vec<u8>, AllocError>
+    ensures { IfOk result (λ line. line.items ≡ text.items ++ codes "\n") }
+{
+    push(&mut text, b'\n')?;
+    Ok(text)
+}
+
+// The lines of a command that comes to its end, by what it shows, which is lent.
+fn lines_of(alloc: Global, done: &Done) -> Result<Vec<u8>, AllocError>
+    ensures { IfOk result (λ lines. lines.items ≡ done_lines done.now) }
+{
+    let mut out = Vec::new(alloc);
+    push_done(&mut out, done)?;
+    Ok(out)
 }
 
 // Appends the lines of a command that comes to its end.

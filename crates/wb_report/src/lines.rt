@@ -8,7 +8,7 @@ ghost use lib.Chars.{codes};
 ghost use Rattle.wb_report.specs.Lines.{report_of};
 ghost use Rattle.wb_report.specs.Parts.{stop_text};
 
-use crate::done::push_done;
+use crate::done::{into_lines, push_done};
 use crate::pieces::{Piece, push_line, push_name, push_pieces};
 use crate::refusal::push_refusal;
 use crate::{Outcome, Refusal, ShownStop};
@@ -24,6 +24,21 @@ pub fn report(alloc: Global, outcome: &Outcome) -> Result<Vec<u8>, AllocError>
     let mut out = Vec::new(alloc);
     push_outcome(&mut out, outcome)?;
     Ok(out)
+}
+
+/// The report of an outcome that is handed over. What it holds whole becomes the report and isn't copied: a printed tree, to which its LF is
+/// added, a canonical text, and the lines of edits.
+pub fn into_report(alloc: Global, outcome: Outcome) -> Result<Vec<u8>, AllocError>
+    ensures { IfOk result (λ lines. lines.items ≡ report_of outcome) }
+{
+    match outcome {
+        Outcome::Done(done) => into_lines(alloc, done),
+        other => {
+            let lines = report(alloc, &other);
+            other.release();
+            lines
+        }
+    }
 }
 
 // Appends the report of an outcome.
