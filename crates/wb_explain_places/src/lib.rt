@@ -8,8 +8,10 @@
 mod characters;
 mod line;
 mod place;
+mod source;
 mod uses;
 mod window;
 
 pub use place::push_place;
+pub use source::Source;
 pub use uses::next_use;
