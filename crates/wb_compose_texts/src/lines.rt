@@ -58,9 +58,7 @@ pub(crate) fn push_report(
 ) -> Result<(), AllocError>
     ensures { OnOk result ((before : List (List ℕ)) → AreGathered lines.old before → AreGathered lines.new (before ++ report_of outcome ∷ [])) }
 {
-    let made = report(alloc, &outcome);
-    outcome.release();
-    let line = made?;
+    let line = report(alloc, outcome)?;
     let pushed = push_line(lines, &line);
     drop(line);
     pushed

@@ -31,16 +31,6 @@ pub(crate) fn reported(
     ensures status { IfOk result (λ answer. answer.status ≡ status) }
     ensures report { IfOk result (λ answer. answer.report.items ≡ report_of outcome) }
 {
-    let answer = with_report(alloc, status, &outcome);
-    outcome.release();
-    answer
-}
-
-// The answer with the report of an outcome that is lent.
-fn with_report(alloc: Global, status: Status, outcome: &Outcome) -> Result<Answer, AllocError>
-    ensures status { IfOk result (λ answer. answer.status ≡ status) }
-    ensures report { IfOk result (λ answer. answer.report.items ≡ report_of outcome.now) }
-{
     Ok(Answer {
         status,
         report: report(alloc, outcome)?,

@@ -22,7 +22,7 @@ pub use done::Done;
 pub use edits_reason::EditsReason;
 pub use extension_reason::ExtensionReason;
 pub use grammar_reason::GrammarReason;
-pub use lines::{into_report, report};
+pub use lines::report;
 pub use outcome::Outcome;
 pub use refusal::Refusal;
 pub use shown::{ShownAction, ShownConflict, ShownItem, ShownStop, ShownVertex};

@@ -17,28 +17,28 @@ use wb_base::Bytes;
 
 /// The report of an outcome: one line, or the lines of a command that comes to its end, each ended by LF.
 ///
-/// Names and printed values are written as they are handed in.
-pub fn report(alloc: Global, outcome: &Outcome) -> Result<Vec<u8>, AllocError>
-    ensures { IfOk result (λ lines. lines.items ≡ report_of outcome.now) }
-{
-    let mut out = Vec::new(alloc);
-    push_outcome(&mut out, outcome)?;
-    Ok(out)
-}
-
-/// The report of an outcome that is handed over. What it holds whole becomes the report and isn't copied: a printed tree, to which its LF is
-/// added, a canonical text, and the lines of edits.
-pub fn into_report(alloc: Global, outcome: Outcome) -> Result<Vec<u8>, AllocError>
+/// Names and printed values are written as they are handed in. A printed tree, a canonical text and the lines of edits become the report and
+/// aren't copied.
+pub fn report(alloc: Global, outcome: Outcome) -> Result<Vec<u8>, AllocError>
     ensures { IfOk result (λ lines. lines.items ≡ report_of outcome) }
 {
     match outcome {
         Outcome::Done(done) => into_lines(alloc, done),
         other => {
-            let lines = report(alloc, &other);
+            let lines = lines_of(alloc, &other);
             other.release();
             lines
         }
     }
+}
+
+// The report of an outcome that is lent.
+fn lines_of(alloc: Global, outcome: &Outcome) -> Result<Vec<u8>, AllocError>
+    ensures { IfOk result (λ lines. lines.items ≡ report_of outcome.now) }
+{
+    let mut out = Vec::new(alloc);
+    push_outcome(&mut out, outcome)?;
+    Ok(out)
 }
 
 // Appends the report of an outcome.

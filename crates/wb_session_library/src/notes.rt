@@ -36,9 +36,7 @@ pub(crate) fn note_outcome(
 ) -> Result<(), AllocError>
     ensures { OnOk result (note.new.items ≡ report_of outcome) }
 {
-    let made = report(alloc, &outcome);
-    outcome.release();
-    match made {
+    match report(alloc, outcome) {
         Ok(lines) => {
             *note = lines;
             Ok(())

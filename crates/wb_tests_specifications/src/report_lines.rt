@@ -55,13 +55,6 @@ pub(crate) fn are_reported(alloc: Global, reported: Reported, rows: &[&str]) -> 
 
 // Whether the outcome is reported by these lines.
 fn is_reported(alloc: Global, outcome: Outcome, lines: &str) -> bool {
-    let are = are_lines(alloc, &outcome, lines);
-    outcome.release();
-    are
-}
-
-// Whether these are the lines of the outcome.
-fn are_lines(alloc: Global, outcome: &Outcome, lines: &str) -> bool {
     match report(alloc, outcome) {
         Ok(reported) => reported.as_slice() == lines.as_bytes(),
         Err(_) => false,
