@@ -22,3 +22,5 @@ pub mod Kept
 pub mod Workbenches
 -- a text's answer in numbers
 pub mod Answers
+-- words of private functions
+pub mod Inner

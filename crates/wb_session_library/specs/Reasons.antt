@@ -1,11 +1,5 @@
 -- The code with which contents are refused, and the place in them that is told with it.
 use Rattle.std.specs.Prelude.{◌≡◌, ◌∷◌, [], ℕ, take}
-use Rattle.wb_compose_files.specs.extension_refusal.FileRefusal.{FileRefusal}
-use Rattle.wb_compose_files.specs.extension_refusal.FileRefusal.TheVariants as f
-use Rattle.wb_compose_files.specs.host_refusal.HostRefusal.{HostRefusal}
-use Rattle.wb_compose_files.specs.host_refusal.HostRefusal.TheVariants as h
-use Rattle.wb_compose_files.specs.declared.refusal.NextRefusal.{NextRefusal}
-use Rattle.wb_compose_files.specs.declared.refusal.NextRefusal.TheVariants as n
 use Rattle.wb_report.specs.Reasons.{refusal_text}
 use Rattle.wb_report.specs.declared.certificate_reason.CertificateReason.{CertificateReason}
 use Rattle.wb_report.specs.declared.certificate_reason.CertificateReason.TheVariants as k
@@ -65,22 +59,3 @@ pub record IsReason (refusal : Refusal) (reason : Reason) : Type 0 where
 -- there is neither code nor place
 abbrev pub IsNoReason : Reason → Type 0
 IsNoReason reason = (reason.letter ≡ 0) × (reason.digit ≡ 0) × (reason.offset ≡ nowhere)
-
--- the reason is that of contents that are no host
-abbrev pub IsHostReason : HostRefusal → Reason → Type 0
-IsHostReason (h.Specification refusal) reason = IsReason refusal reason
-IsHostReason (h.Certification refusal) reason = IsReason refusal reason
-IsHostReason (h.NoMemory error) reason = IsNoReason reason
-
--- the reason is that of contents that are no extension
-abbrev pub IsFileReason : FileRefusal → Reason → Type 0
-IsFileReason (f.Specification refusal) reason = IsReason refusal reason
-IsFileReason (f.WrongHost host) reason = IsNoReason reason
-IsFileReason (f.Certification refusal) reason = IsReason refusal reason
-IsFileReason (f.NoMemory error) reason = IsNoReason reason
-
--- the reason is that of contents that can't follow other extensions
-abbrev pub IsNextReason : NextRefusal → Reason → Type 0
-IsNextReason (n.Header refusal) reason = IsFileReason refusal reason
-IsNextReason (n.Duplicate name) reason = IsNoReason reason
-IsNextReason (n.Later refusal) reason = IsFileReason refusal reason

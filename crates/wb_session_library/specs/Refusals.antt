@@ -95,12 +95,6 @@ IsExtensionRefused contents name note reason host c.DuplicateExtension = IsSecon
 IsExtensionRefused contents name note reason host c.NoMemory = Unit {0}
 IsExtensionRefused contents name note reason host other = ⊥
 
--- the text is too long, or memory ran out
-abbrev pub IsLengthRefusal : List ℕ → CallRefusal → Type 0
-IsLengthRefusal text c.TextTooLong = 1048576 < length text
-IsLengthRefusal text c.NoMemory = Unit {0}
-IsLengthRefusal text other = ⊥
-
 -- why no text is opened in a language
 abbrev pub IsOpenRefusal : List ℕ → CallRefusal → Type 0
 IsOpenRefusal text c.TextTooLong = 1048576 < length text

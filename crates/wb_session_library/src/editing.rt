@@ -5,7 +5,8 @@ ghost use Rattle.wb_library_handles.specs.Handles.{AreOthersKept, AreSpentKept, 
 ghost use Rattle.wb_session_library.specs.Edits.{IsEditRefusal, IsReleaseRefusal};
 ghost use Rattle.wb_session_library.specs.Kept.{KeepsButTexts, StaysIn};
 ghost use Rattle.wb_session_library.specs.Places.{HaveNone, HaveSome};
-ghost use Rattle.wb_session_library.specs.Refusals.{IsLengthRefusal, IsNamedRefusal, IsOpenRefusal};
+ghost use Rattle.wb_session_library.specs.Refusals.{IsNamedRefusal, IsOpenRefusal};
+ghost use Rattle.wb_session_library.specs.Inner.Lengths.{IsLengthRefusal};
 ghost use Rattle.wb_session_library.specs.Workbenches.{EditsText, OpensText, ReleasesText, StaysText};
 
 use crate::workbench::{added, removed};

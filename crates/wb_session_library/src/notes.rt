@@ -8,7 +8,7 @@ ghost use Rattle.wb_compose_files.specs.Unions.{all_resolved};
 ghost use Rattle.wb_operations.specs.Standard.{standard_signatures};
 ghost use Rattle.wb_report.specs.Lines.{report_of};
 ghost use Rattle.wb_session_library.specs.Nodes.{HasNoText, IsLeafText, IsName, IsPrinted, IsTerminalName};
-ghost use Rattle.wb_session_library.specs.Reasons.{IsFileReason, IsHostReason, IsNextReason};
+ghost use Rattle.wb_session_library.specs.Inner.Reasons.{IsFileReason, IsHostReason, IsNextReason};
 ghost use Rattle.wb_session_library.specs.declared.reason.Reason.{Reason as Told};
 ghost use Rattle.wb_session_library.specs.Refusals.{IsExtensionRefused, IsFileRefused, IsHostRefused, IsPlaceRefusal, IsPrintRefusal};
 

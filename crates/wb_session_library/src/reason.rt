@@ -1,7 +1,8 @@
 //! With which code is a file refused, and which place in it is told? As numbers, for callers that don't read the line.
 
 ghost use Rattle.std.specs.Prelude.{◌≡◌};
-ghost use Rattle.wb_session_library.specs.Reasons.{IsFileReason, IsHostReason, IsNextReason, IsNoReason, IsReason, nowhere};
+ghost use Rattle.wb_session_library.specs.Reasons.{IsNoReason, IsReason, nowhere};
+ghost use Rattle.wb_session_library.specs.Inner.Reasons.{IsFileReason, IsHostReason, IsNextReason};
 
 use wb_compose_files::{FileRefusal, HostRefusal, NextRefusal};
 use wb_report::{

@@ -3,7 +3,7 @@ use Rattle.std.proofs.Common.{inl, inr, subst}
 use Rattle.wb_compose_files.specs.Extensions.{IsNextRefusal}
 use Rattle.wb_compose_files.specs.Unions.{all_resolved}
 use Rattle.wb_operations.specs.Standard.{standard_signatures}
-use Rattle.wb_session_library.specs.Reasons.{IsNextReason}
+use Rattle.wb_session_library.specs.Inner.Reasons.{IsNextReason}
 use Rattle.wb_session_library.proofs.notes.note_extension.Goals as goal
 
 pub returns-in-Header : goal.returns-in-Header
