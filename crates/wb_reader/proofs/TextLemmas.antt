@@ -83,10 +83,10 @@ whole_written bytes spec r =
     }
 
 -- some specification begins with tokens exactly where the table's grammar goes on after them
-begins : (front : List Lexeme) → CanStartTable spec_grammar empty front → CanBegin front
+pub begins : (front : List Lexeme) → CanStartTable spec_grammar empty front → CanBegin front
 begins front c = let s = spec_of_text (front ++ c.rest) c.last c.text in record { rest = c.rest; spec = s.0; specification = s.1 }
 
-starts : (front : List Lexeme) → CanBegin front → CanStartTable spec_grammar empty front
+pub starts : (front : List Lexeme) → CanBegin front → CanStartTable spec_grammar empty front
 starts front c = record { rest = c.rest; last = finished empty c.spec; text = text_of_spec (front ++ c.rest) c.spec c.specification }
 
 follows : (front : List Lexeme) (next : Next Token) → CannotFollowTable spec_grammar empty front next → CannotFollow front next

@@ -4,6 +4,7 @@
 //! in `wb_reader_builder`, what a specification is in `wb_syntax`.
 #![tactic(auto)]
 
+mod expected;
 mod expression_rules;
 mod first_fault;
 mod format;
@@ -17,6 +18,7 @@ mod spec;
 mod table;
 mod written;
 
+pub use expected::expected_kinds;
 pub use first_fault::first_fault_law;
 pub use laws::one_answer_law;
 pub use refusal::SpecRefusal;

@@ -1,0 +1,3 @@
+pub mod BareLemmas
+pub mod ComesLemmas
+pub mod CallerLemmas
