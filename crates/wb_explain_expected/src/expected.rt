@@ -2,74 +2,125 @@
 //!
 //! In a sentence of lines below 80 columns, each sort of token once.
 
-use crate::candidates::CANDIDATES;
+use crate::candidates::{KINDS, sort_shown};
 use crate::coming::can_come;
 use std::alloc::{AllocError, Global};
-
-// The most bytes before a place at which tokens are tried, since each try reads them all.
-const MOST: usize = 32_768;
+use wb_reader::expected_kinds;
+use wb_text_tokens::{TokenKind, Word};
 
 // The most columns of a line.
 const COLUMNS: usize = 76;
 
-/// Appends what can come at a place of a specification that can't be read there, counted in bytes from 0. Nothing is appended where more
-/// than 32,768 bytes are before it, since the time is that of reading them some fifty times.
+/// Appends what can come at a place of a specification that can't be read there, counted in bytes from 0. Nothing is appended where what is
+/// before the place begins no specification.
+///
+/// What is listed are those of all kinds that [`expected_kinds`] finds, by one reading; the end of the file isn't among them. `closed` is a
+/// word in files of format 2 alone, and so is tried by itself.
 pub fn push_expected(
     alloc: Global,
     out: &mut Vec<u8>,
     contents: &[u8],
     at: usize,
 ) -> Result<(), AllocError> {
-    if at > contents.len() || at > MOST {
+    if at > contents.len() {
         return Ok(());
     }
-    out.extend_from_slice(b"\nWhat can come there: ")?;
-    let column = push_listed(alloc, out, &contents[..at], &CANDIDATES)?;
-    push_closed(alloc, out, &contents[..at], column)?;
-    out.extend_from_slice(b".\n")
+    match expected_kinds(alloc, contents, at, &KINDS)? {
+        Some(kinds) => {
+            let answer = push_kinds(alloc, out, &contents[..at], &kinds);
+            drop(kinds);
+            answer
+        }
+        None => Ok(()),
+    }
 }
 
-// Appends those of the tokens that can come, and answers the column after them; 0 where there are none.
-fn push_listed(
+// Appends the sentence that lists the kinds.
+fn push_kinds(
     alloc: Global,
     out: &mut Vec<u8>,
     before: &[u8],
-    candidates: &[(&str, &str)],
-) -> Result<usize, AllocError> {
+    kinds: &[TokenKind],
+) -> Result<(), AllocError> {
+    out.extend_from_slice(b"\nWhat can come there: ")?;
+    let any = has_number(kinds);
     let mut column = 0;
-    'candidates: for (token, shown) in candidates {
-        if can_come(alloc, before, token.as_bytes())? {
-            column = push_item(out, column, shown)?;
+    'kinds: for kind in kinds {
+        if !(any && is_format_number(*kind)) {
+            column = push_kind(alloc, out, before, column, *kind)?;
         }
     }
-    Ok(column)
+    out.extend_from_slice(b".\n")
 }
 
-// Appends `closed`, where it can come and a name can't.
+// Whether any number can come.
+fn has_number(kinds: &[TokenKind]) -> bool {
+    for kind in kinds {
+        if *kind == TokenKind::Number {
+            return true;
+        }
+    }
+    false
+}
+
+// Whether the kind is that of a format's number alone.
+fn is_format_number(kind: TokenKind) -> bool {
+    match kind {
+        TokenKind::One => true,
+        TokenKind::Two => true,
+        _ => false,
+    }
+}
+
+// Appends a kind after those before it, of which the last ends at this column; the column is 0 where there are none. Answers the next one.
+fn push_kind(
+    alloc: Global,
+    out: &mut Vec<u8>,
+    before: &[u8],
+    column: usize,
+    kind: TokenKind,
+) -> Result<usize, AllocError> {
+    match kind {
+        TokenKind::Word(Word::Closed) => push_closed(alloc, out, before, column),
+        TokenKind::Word(word) => push_item(out, column, b"", word.text()),
+        TokenKind::Mark(mark) => push_item(out, column, b"'", mark.text()),
+        sort => push_item(out, column, b"", sort_shown(sort).as_bytes()),
+    }
+}
+
+// Appends `closed`, where the file has that word.
 fn push_closed(
     alloc: Global,
     out: &mut Vec<u8>,
     before: &[u8],
     column: usize,
-) -> Result<(), AllocError> {
-    if can_come(alloc, before, b"x")? {
-        return Ok(());
-    }
+) -> Result<usize, AllocError> {
     if can_come(alloc, before, b"closed")? {
-        push_item(out, column, "closed")?;
+        return push_item(out, column, b"", b"closed");
     }
-    Ok(())
+    Ok(column)
 }
 
-// Appends a token after those before it, of which the last ends at this column; the column is 0 where there are none. Answers the next one.
-fn push_item(out: &mut Vec<u8>, column: usize, shown: &str) -> Result<usize, AllocError> {
+// Appends a token between quotes, or between nothing, after those before it. Answers the column after it.
+fn push_item(
+    out: &mut Vec<u8>,
+    column: usize,
+    quote: &[u8],
+    shown: &[u8],
+) -> Result<usize, AllocError> {
+    let length = shown
+        .len()
+        .saturating_add(quote.len())
+        .saturating_add(quote.len());
     let next = if column == 0 {
         21
     } else {
-        push_comma(out, column, shown.len())?
+        push_comma(out, column, length)?
     };
-    out.extend_from_slice(shown.as_bytes())?;
-    Ok(next.saturating_add(shown.len()))
+    out.extend_from_slice(quote)?;
+    out.extend_from_slice(shown)?;
+    out.extend_from_slice(quote)?;
+    Ok(next.saturating_add(length))
 }
 
 // Appends a comma, and a line feed where what comes doesn't fit into the line. Answers the column after that.

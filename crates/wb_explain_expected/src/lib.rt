@@ -1,7 +1,7 @@
 //! What could come in a specification at a place at which it can't be read?
 //!
-//! Each token is tried there: it can come exactly where the file up to that place, with the token after it, isn't refused at the token.
-//! So what is listed rests on the reader alone, and no table is looked at. What is said besides is in `wb_explain_lines`.
+//! All kinds are asked for at once, by the table by which a specification is read (`wb_reader`). What is said besides is in
+//! `wb_explain_lines`.
 #![tactic(auto)]
 
 mod candidates;
