@@ -14,9 +14,9 @@ pub mod OneUnion
 -- a text and an attribute come to one thing
 pub mod OneTextValue
 -- what comes of what a text was parsed to
-mod ParsedLemmas
+pub mod ParsedLemmas
 -- what comes of a text in a language that is composed
-mod ComposedValues
+pub mod ComposedValues
 mod LengthLemmas
 mod TextLemmas
 mod OneLemmas
