@@ -23,3 +23,4 @@ pub mod StartLemmas
 pub mod ForwardLemmas
 pub mod ReachedLemmas
 pub mod BackLemmas
+pub mod HaltLemmas

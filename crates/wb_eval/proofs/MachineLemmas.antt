@@ -64,7 +64,7 @@ module _ (a : AttributionParts) (operations : Operations) (top : Tree) (y : ℕ)
   passed_on at_once is has = by_read is has at_once
   passed_on (by_read z j p) is has = by_read z j (passed_on p is has)
 
-  comes_of : {all : List Instance} {v w : Walk} → Pass all v w → Comes a operations top v w
+  pub comes_of : {all : List Instance} {v w : Walk} → Pass all v w → Comes a operations top v w
   comes_of at_once = here
   comes_of (by_read is has p) = after is (comes_of p)
 

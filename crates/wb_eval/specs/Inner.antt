@@ -1,5 +1,6 @@
 -- Words of private functions.
 pub mod Answering
+pub mod Halts
 pub mod State
 pub mod Going
 pub mod Fits

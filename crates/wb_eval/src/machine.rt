@@ -13,12 +13,28 @@ use std::alloc::{AllocError, Global};
 use wb_eval_memo::{Memo, Step};
 use wb_values::{TreeId, TreeStore, Value};
 
-// An instance, by the site of its path.
+/// An instance, by the site of its path.
 #[derive(Clone, Copy)]
-pub(crate) enum Key {
-    Synthesized { site: usize, attribute: usize },
-    Inherited { site: usize, attribute: usize },
-    Tree { site: usize },
+pub enum Key {
+    /// A synthesized attribute of a node.
+    Synthesized {
+        /// The node's site.
+        site: usize,
+        /// The attribute.
+        attribute: usize,
+    },
+    /// An inherited attribute of a node.
+    Inherited {
+        /// The node's site.
+        site: usize,
+        /// The attribute.
+        attribute: usize,
+    },
+    /// The tree of a local or of the forward, whose site this is.
+    Tree {
+        /// The site.
+        site: usize,
+    },
 }
 
 // The memo, the attribute that is asked of the root, the instances that wait with the one at work last, a frame or none for each that
