@@ -1,0 +1,2 @@
+-- which tokens are of a text, and what one step says
+pub mod Shown

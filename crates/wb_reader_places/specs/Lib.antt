@@ -1,0 +1,2 @@
+-- the tokens of a text, by their kinds and places
+pub mod Tokens
