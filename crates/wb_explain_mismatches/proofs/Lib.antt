@@ -1,0 +1,6 @@
+mod AtLemmas
+mod KnownLemmas
+mod OperationLemmas
+mod PlaceLemmas
+mod SaidLemmas
+mod StepLemmas

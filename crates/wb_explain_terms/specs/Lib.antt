@@ -1,0 +1,3 @@
+-- which token can't come after bytes
+pub mod Expected
+pub mod Inner
