@@ -1,0 +1,5 @@
+mod LineLemmas
+mod ListLemmas
+mod SaidLemmas
+mod TreeLemmas
+mod WordLemmas

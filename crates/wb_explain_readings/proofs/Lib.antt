@@ -1,0 +1,4 @@
+mod FrameLemmas
+mod LeafLemmas
+mod NodeLemmas
+mod StepLemmas
