@@ -1,0 +1,2 @@
+-- the numbered value of a file, and what is said of it
+pub mod Values

@@ -1,0 +1,4 @@
+-- what each search adds
+pub mod Found
+pub mod Spots
+pub mod Equations
