@@ -1,0 +1,2 @@
+-- what is said of a value that is asked of a text or of a term
+pub mod Said
