@@ -1,0 +1,3 @@
+pub mod PushedLemmas
+mod CursorLemmas
+mod ListingLemmas

@@ -1,0 +1,2 @@
+-- what is left of a listing
+pub mod Remaining

@@ -1,0 +1,3 @@
+mod LabelLemmas
+mod LineLemmas
+mod PictureLemmas

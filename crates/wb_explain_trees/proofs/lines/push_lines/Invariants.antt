@@ -1,0 +1,17 @@
+-- The lines so far, and the cursor in its line and column.
+use Rattle.std.proofs.Common.{◌-◌, take, vec_len}
+use Rattle.wb_explain_drawing.specs.Pushed.{Pushes}
+use Rattle.wb_explain_drawing.specs.Reached.{IsReached}
+use Rattle.wb_explain_trees.specs.Labels.{view_of}
+use Rattle.wb_explain_trees.specs.Lines.{IsLine}
+use Rattle.wb_explain_trees.proofs.lines.push_lines.Given as goal
+
+abbrev pub invariant-items : goal.invariant-items
+invariant-items l = record {
+  reached : IsReached l.shown.session.now.text l.cursor;
+  lines : Pushes (IsLine (view_of l.shown.session.now l.shown.signatures.now l.shown.names.now)) (take l.place l.listing.items.items)
+      l.initial.out.items l.out.items;
+}
+
+abbrev pub decreases-items : goal.decreases-items
+decreases-items l = vec_len l.listing.items - l.place
