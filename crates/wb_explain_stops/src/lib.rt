@@ -3,6 +3,7 @@
 //! Where it stops and what could come is found by `wb_parser_expected`. How files are read, and what makes a language of them, is elsewhere.
 #![tactic(auto)]
 
+mod before;
 mod entry;
 mod prefix;
 mod stop;

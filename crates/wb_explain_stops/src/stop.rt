@@ -3,6 +3,7 @@
 ghost use Rattle.std.specs.Prelude.{◌≡◌, OnOk, take};
 ghost use Rattle.wb_explain_stops.specs.Said.{Lists, Says};
 
+use crate::before::push_before;
 use crate::entry::push_entries;
 use crate::prefix::push_prefixes;
 use crate::there::push_there;
@@ -19,8 +20,8 @@ const MOST: usize = 40;
 /// a text that has a tree.
 ///
 /// Of more than 40 terminals the first are named, in the order of their numbers. `names` are the printed names of the language's terminals,
-/// by number, and `files` the contents of the files of its host and its extensions, in which expressions are looked for. The text is read a
-/// few times; no tree is built. The only error is out of memory.
+/// by number, and `files` the contents of the files of its host and its extensions, in which expressions are looked for. The text is read
+/// once, and where at most 16,384 bytes are before the stop up to 16 times more, for the forms of markers that would do; no tree is built. The only error is out of memory.
 pub fn push_stop(
     alloc: Global,
     out: &mut Vec<u8>,
@@ -131,7 +132,8 @@ fn push_rest(
 ) -> Result<(), AllocError> {
     push_further(out, found.terminals.len())?;
     push_there(out, shown, text, found)?;
-    push_prefixes(alloc, out, shown, text, found)
+    push_before(alloc, out, shown, text, found.at)?;
+    push_prefixes(alloc, out, shown, text, found.at)
 }
 
 // Appends how many further terminals there are.

@@ -6,6 +6,9 @@ use std::alloc::AllocError;
 use wb_base::Bytes;
 use wb_parser_expected::{Stop, StopKind, Word, word_at};
 
+// The most bytes of a word at a stop that are looked at.
+const NEAR: usize = 4_096;
+
 // Appends what is at a stop.
 pub(crate) fn push_there(
     out: &mut Vec<u8>,
@@ -26,11 +29,12 @@ fn push_found(
     text: &[u8],
     at: usize,
 ) -> Result<(), AllocError> {
-    if at > text.len() {
+    let near = &text[..text.len().min(at.saturating_add(NEAR))];
+    if at > near.len() {
         return Ok(());
     }
-    match word_at(shown.language, text, at) {
-        Some(word) => push_known(out, shown.names, text, word),
+    match word_at(shown.language, near, at) {
+        Some(word) => push_known(out, shown.names, near, word),
         None => push_text(
             out,
             "\nNo word of the language begins with what is here. A letter, a sign or a space\nthat is in no word and no layout isn't allowed.\n",

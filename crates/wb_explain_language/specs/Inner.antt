@@ -1,0 +1,2 @@
+-- extensions that were added to a host
+pub mod Added
