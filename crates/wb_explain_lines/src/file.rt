@@ -14,8 +14,8 @@ const LIMIT: usize = 16_777_216;
 // The most bytes that are asked for at once.
 const PIECE: usize = 65_536;
 
-// The bytes of a file.
-pub(crate) fn contents_of<S: Shelf>(
+/// The bytes of a file, the first 16,777,216 of a longer one. Of one that can't be read there are none, or those that could be read.
+pub fn contents_of<S: Shelf>(
     alloc: Global,
     shelf: &mut S,
     name: &str,

@@ -5,7 +5,6 @@
 #![tactic(auto)]
 
 mod advice;
-mod causes;
 mod file;
 mod further;
 mod line;
@@ -15,10 +14,12 @@ mod refusal;
 mod reserved;
 mod run;
 mod shown;
-mod tokens;
 mod words;
 mod writing;
 
+pub use file::contents_of;
+pub use line::{Refused, offset_in, other_host_of, refused_of};
 pub use page::Page;
 pub use run::explanation;
+pub use shown::{name_after, unprefixed};
 pub use writing::{WriteFailed, write_all};

@@ -6,20 +6,20 @@ ghost use Rattle.wb_explain_lines.specs.Lines.{AreRefusedParts, IsRefusedLine, S
 
 use wb_text_parts::{number, word};
 
-// What the line of a refusal shows, by its parts.
+/// What the line of a refusal shows, by its parts.
 #[derive(Clone, Copy)]
-pub(crate) struct Refused<'l> {
-    // The word that names the file.
+pub struct Refused<'l> {
+    /// The word that names the file.
     pub file: &'l str,
-    // The code: a letter and a digit.
+    /// The code: a letter and a digit.
     pub code: &'l [u8],
-    // What is after the code, with the line feed.
+    /// What is after the code, with the line feed.
     pub rest: &'l [u8],
 }
 
-// The parts of the line of a refusal, where it is one: the file is named by the first word that fits.
+/// The parts of the line of a refusal, where it is one: the file is named by the first word that fits.
 #[tactic(auto, using(crate::proofs::LineLemmas::refused_line))]
-pub(crate) fn refused_of<'l>(line: &'l [u8], words: &'l [String]) -> Option<Refused<'l>>
+pub fn refused_of<'l>(line: &'l [u8], words: &'l [String]) -> Option<Refused<'l>>
     ensures { IfSome result (λ refused. IsRefusedLine line.now refused.file.now refused.code.now refused.rest.now) }
 {
     match word(line, b"refused ") {
@@ -81,11 +81,8 @@ fn is_code(letter: u8, digit: u8, after: u8) -> bool {
     letter.is_ascii_uppercase() && digit.is_ascii_digit() && (after == b' ' || after == b'\n')
 }
 
-// The file and the name of its host, in the line of an extension for another host.
-pub(crate) fn other_host_of<'l>(
-    line: &'l [u8],
-    words: &'l [String],
-) -> Option<(&'l str, &'l [u8])> {
+/// The file and the name of its host, in the line of an extension for another host.
+pub fn other_host_of<'l>(line: &'l [u8], words: &'l [String]) -> Option<(&'l str, &'l [u8])> {
     match word(line, b"wrong host ") {
         Ok(after) => other_host_by(after, words),
         Err(_) => None,
@@ -115,8 +112,8 @@ fn host_after<'l>(text: &'l [u8], file: &str) -> Option<&'l [u8]> {
     }
 }
 
-// The place after a code, and what is after that.
-pub(crate) fn offset_in(rest: &[u8]) -> Option<(usize, &[u8])>
+/// The place after a code, and what is after that.
+pub fn offset_in(rest: &[u8]) -> Option<(usize, &[u8])>
     ensures { IfSome result (λ found. ShowsNumber (codes " at ") 10 rest.now found.0 found.1.now) }
 {
     number_after(rest, b" at ", b'\n')

@@ -60,6 +60,14 @@ impl Page {
     {
         self.bytes.extend_from_slice(bytes)
     }
+
+    /// Puts bytes in the place of what is written.
+    pub fn put(&mut self, bytes: &[u8]) -> Result<(), AllocError>
+        ensures { OnOk result (self.new.bytes ≡ bytes.now) }
+    {
+        self.bytes.clear();
+        self.bytes.extend_from_slice(bytes)
+    }
 }
 
 impl Sink for Page {

@@ -8,7 +8,6 @@ ghost use lib.Chars.{codes};
 ghost use Rattle.wb_explain_lines.specs.Lines.{ShowsNumber};
 
 use crate::advice::of_code;
-use crate::causes::push_cause;
 use crate::further::push_further;
 use crate::line::{Refused, line_in, offset_in};
 use crate::paste::push_paste;
@@ -48,8 +47,7 @@ fn push_where(
     if let Some((number, _)) = line_in(refused.rest) {
         return push_line(out, refused.file, contents, number);
     }
-    push_marked(out, refused, contents, &MARKS)?;
-    push_causes(alloc, out, refused, contents)
+    push_marked(out, refused, contents, &MARKS)
 }
 
 // Appends the place of which a refusal speaks, the reserved word that is there, and what can come in a specification there.
@@ -156,19 +154,6 @@ pub(crate) fn push_uses(
         shown += 1;
     }
     push_further(out, contents, name, from)
-}
-
-// Appends how the file declares the name that the line shows first, where the code is one of names.
-fn push_causes(
-    alloc: Global,
-    out: &mut Vec<u8>,
-    refused: Refused<'_>,
-    contents: &[u8],
-) -> Result<(), AllocError> {
-    match name_after(refused.rest, b" ") {
-        Some((name, _)) => push_cause(alloc, out, refused.code, contents, name),
-        None => Ok(()),
-    }
 }
 
 // Appends an empty line and a text.

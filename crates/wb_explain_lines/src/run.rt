@@ -8,8 +8,8 @@ ghost use Rattle.wb_explain_lines.specs.Outside.{outside, Keeps};
 
 use crate::advice::{of_fault, of_status, usage_of};
 use crate::file::{contents_of, is_unread};
-use crate::line::{fault_code, other_host_of, refused_of, stopped_in};
-use crate::refusal::{push_offset, push_refusal, push_text, push_uses};
+use crate::line::{fault_code, refused_of, stopped_in};
+use crate::refusal::{push_offset, push_refusal, push_text};
 use crate::words::{file_at, text_of};
 use std::alloc::{AllocError, Global};
 use wb_world::Shelf;
@@ -130,9 +130,6 @@ fn file_of<'r>(reported: &Reported<'r>) -> &'r str {
     if let Some(refused) = refused_of(reported.lines, reported.words) {
         return refused.file;
     }
-    if let Some((file, _)) = other_host_of(reported.lines, reported.words) {
-        return file;
-    }
     text_of(reported.words)
 }
 
@@ -173,7 +170,7 @@ fn push_said(
     }
 }
 
-// Appends the place at which a text stops, or those of the host's name in an extension for another host.
+// Appends the place at which a text stops.
 fn push_place_said(
     out: &mut Vec<u8>,
     reported: &Reported<'_>,
@@ -185,9 +182,6 @@ fn push_place_said(
     }
     if let Some((at, _)) = stopped_in(reported.lines) {
         return push_offset(out, file, contents, at);
-    }
-    if let Some((_, host)) = other_host_of(reported.lines, reported.words) {
-        return push_uses(out, file, contents, host);
     }
     Ok(())
 }

@@ -9,12 +9,8 @@ use wb_text_parts::word;
 
 // The code of a line, and the words after which it shows a name, with the spaces beside them. Those of one code follow each other in its line.
 // Where those of a row aren't there, those of the next are looked for.
-pub(crate) static MARKS: [(&str, &str); 33] = [
+pub(crate) static MARKS: [(&str, &str); 26] = [
     ("R2", " "),
-    ("N1", " "),
-    ("N2", " "),
-    ("N3", " "),
-    ("N4", " "),
     ("G1", " unreachable "),
     ("G1", " unproductive "),
     ("G2", " "),
@@ -28,9 +24,6 @@ pub(crate) static MARKS: [(&str, &str); 33] = [
     ("G5", " and "),
     ("G6", " "),
     ("G6", " "),
-    ("E1", " "),
-    ("E2", " "),
-    ("E3", " "),
     ("E4", " "),
     ("E4", " and "),
     ("E5", " on "),
@@ -45,8 +38,8 @@ pub(crate) static MARKS: [(&str, &str); 33] = [
     ("A6", " "),
 ];
 
-// The name after these words in a line, and what is after it. A colon at its end is left out.
-pub(crate) fn name_after<'l>(text: &'l [u8], before: &[u8]) -> Option<(&'l [u8], &'l [u8])> {
+/// The name after these words in a line, and what is after it. A colon at its end is left out.
+pub fn name_after<'l>(text: &'l [u8], before: &[u8]) -> Option<(&'l [u8], &'l [u8])> {
     match after_first(text, before) {
         Some(after) => Some(split_name(after)),
         None => None,
@@ -91,8 +84,8 @@ fn without_colon(name: &[u8]) -> &[u8] {
     before
 }
 
-// The name as its own file writes it: without its extension and the colon after that.
-pub(crate) fn unprefixed(name: &[u8]) -> &[u8] {
+/// The name as its own file writes it: without its extension and the colon after that.
+pub fn unprefixed(name: &[u8]) -> &[u8] {
     match place_of(name, b':') {
         Some(place) => &name[place + 1..],
         None => name,

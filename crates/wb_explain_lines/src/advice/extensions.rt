@@ -2,25 +2,7 @@
 
 use super::Advice;
 
-pub(crate) static EXTENSIONS: [Advice; 8] = [
-    Advice {
-        of: "E1",
-        text: "The production that is shown is on a nonterminal of the host, and its first child
-isn't a marker. Declare one by  marking NAME /../;  and put it first. What is to
-come after a part, or between two, wants an extensible nonterminal there, which
-only the host can have.",
-    },
-    Advice {
-        of: "E2",
-        text: "The marker that is shown has to begin exactly one production on a nonterminal of
-the host, and to be nowhere else. Write that production, give each production a
-marker of its own, or use a terminal where no production begins.",
-    },
-    Advice {
-        of: "E3",
-        text: "The production that is shown is on a nonterminal of the host that isn't
-extensible. Put it on one that is. Only the host can say  extensible N; .",
-    },
+pub(crate) static EXTENSIONS: [Advice; 5] = [
     Advice {
         of: "E4",
         text: "The marker and the other word that is shown both match the text that is shown,

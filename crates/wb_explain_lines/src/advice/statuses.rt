@@ -11,13 +11,9 @@ no file begins with '-'. Numbers are digits alone: --number up to
     (
         5,
         "The text has no tree. Up to this place it can be the beginning of a text of the
-language, and what is here doesn't go on with it.
-
-'no token' says that none of the words that can come here is here, nor layout.
-What is here may be a good word of the language in a wrong place: often a word
-is missing before it. 'unexpected' names the word that is here, or 'end' where the
-text ends too early. A marker that two extensions share is written with its
-extension before it, as square::square.",
+language, and what is here doesn't go on with it: 'no token' where none of the
+words that can come here is here, nor layout, and 'unexpected' with the word that
+is here, or with 'end' where the text ends too early.",
     ),
     (
         6,
