@@ -6,7 +6,7 @@
 use std::process::ExitCode;
 use std::rt::Env;
 use std::{env, io};
-use wb_explain::{Status, explain};
+use wb_explain::{Status, explain, picture, take_picture};
 use wb_operations::standard_table;
 use wb_world::{FileShelf, OutputSink};
 
@@ -17,16 +17,22 @@ fn main(rt: HostRuntime) -> ExitCode {
 // A word that isn't UTF-8 is no word of a command, so that the words are then none.
 fn run(rt: HostRuntime) -> Status {
     let alloc = rt.alloc();
-    let words = match words_of(&rt) {
+    let mut words = match words_of(&rt) {
         Ok(words) => words,
         Err(error) if error.kind() == io::ErrorKind::OutOfMemory => return Status::NoMemory,
         Err(_) => Vec::new(alloc),
+    };
+    let Ok(draws) = take_picture(alloc, &mut words) else {
+        return Status::NoMemory;
     };
     let Ok(operations) = standard_table(alloc) else {
         return Status::NoMemory;
     };
     let mut shelf = FileShelf::new(alloc, rt);
     let mut sink = OutputSink::new(rt);
+    if draws {
+        return picture(alloc, &words, &mut shelf, &mut sink, &operations);
+    }
     explain(alloc, &words, &mut shelf, &mut sink, &operations)
 }
 

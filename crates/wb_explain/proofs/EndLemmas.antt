@@ -1,16 +1,17 @@
 -- How a run ends that adds an explanation to the lines of `workbench`, and what it has written then.
-use Rattle.std.proofs.Common.{◌≡◌, ◌≢◌, ◌⊎◌, ◌++◌, ◌∙◌, ℕ, Option, Some, List, [], Result, Ok, Err, inl, inr, arith, ap, sym, refl, subst, length}
+use Rattle.std.proofs.Common.{◌≡◌, ◌≢◌, ◌⊎◌, ◌++◌, ◌∙◌, ℕ, Bool, true, false, Option, Some, List, [], Result, Ok, Err, inl, inr, arith, ap, sym, refl, subst, length}
 use Rattle.std.specs.Io.KnownBytes.{append_known}
 use Rattle.wb_world.specs.Cause.{Rose}
 use Rattle.wb_explain_lines.specs.Page.{PageView}
 use Rattle.wb_explain_lines.specs.Written.{WrotePart}
 use Rattle.std.specs.Prelude.{OnOk}
-use Rattle.wb_program.specs.StatusNumber.{number_of}
 use Rattle.wb_program.specs.Written.{Wrote, WrotePrefix}
 use Rattle.wb_program.specs.declared.status.Status.{Status}
-use Rattle.wb_program.specs.declared.status.Status.TheVariants.{Absent, ReadFault, WriteFault, NoMemory}
-use Rattle.wb_explain.specs.Explained.{AreLines, Explained, IsExplained}
-use Rattle.wb_explain.specs.Inner.Ends.{Adds, Ends}
+use Rattle.wb_program.specs.declared.status.Status.TheVariants.{Done, Absent, ReadFault, WriteFault, NoMemory}
+use Rattle.wb_explain.specs.Explained.{AreLines, BeginsWith, Explained, IsExplained}
+use Rattle.wb_explain.specs.Inner.Ends.{Adds, Ends, shown_as}
+use Rattle.wb_explain_shown.specs.Asking.{AsksTree}
+use Rattle.wb_explain_shown.specs.Pictures.{AddsPicture}
 
 -- a run that ends in no other way ends with the status
 pub same_status : (status end other : Status) (bytes : List ℕ) (before now : Option (List ℕ)) → other ≢ WriteFault → other ≢ NoMemory
@@ -25,18 +26,36 @@ rose_some before now none (inl more) is = omega (arith, more, is)
 rose_some before now none (inr full) is = omega (arith, full, is)
 
 -- a run ends so only where the output failed, as the page has not
-pub fault_rose : (status : Status) (fresh page filled : PageView) (before now : ℕ) → fresh ≡ record { bytes = []; failures = 0 }
-    → (status ≡ WriteFault → Rose fresh.failures page.failures) → Adds status page filled → (status ≡ WriteFault) ⊎ Rose before now
+pub fault_rose : (Shows : List ℕ → List ℕ → Type 0) (status : Status) (fresh page filled : PageView) (before now : ℕ) → fresh ≡ record { bytes = []; failures = 0 }
+    → (status ≡ WriteFault → Rose fresh.failures page.failures) → Adds Shows status page filled → (status ≡ WriteFault) ⊎ Rose before now
     → Rose before now
-fault_rose status fresh page filled before now none fault adds (inl is) =
+fault_rose Shows status fresh page filled before now none fault adds (inl is) =
     absurd (rose_some fresh.failures page.failures (ap (λ (p : PageView). p.failures) none) (fault is) adds.unfailed)
-fault_rose status fresh page filled before now none fault adds (inr rose) = rose
+fault_rose Shows status fresh page filled before now none fault adds (inr rose) = rose
 
--- what is said is added
-pub adds_said : (status : Status) (number : ℕ) (before now : PageView) (more : List ℕ) → before.failures ≡ 0
-    → now.bytes ≡ before.bytes ++ more → (number ≡ 0 → more ≡ []) → number ≡ number_of status → Adds status before now
-adds_said status number before now more unfailed added none is =
-    record { unfailed = unfailed; more = more; added = added; none = λ done. none (is ∙ ap number_of done) }
+-- what is shown of a run that comes to its end
+pub adds_ended : (Shows : List ℕ → List ℕ → Type 0) (status : Status) (before now : PageView) → before.failures ≡ 0 → status ≡ Done
+    → Shows before.bytes now.bytes → Adds Shows status before now
+adds_ended Shows status before now unfailed done shows =
+    record { unfailed = unfailed; begins = λ other. absurd (other done); ends = λ is. shows }
+
+-- what is said of another
+pub adds_said : (Shows : List ℕ → List ℕ → Type 0) (status : Status) (before now : PageView) → before.failures ≡ 0 → status ≢ Done
+    → BeginsWith before.bytes now.bytes → Adds Shows status before now
+adds_said Shows status before now unfailed other begins =
+    record { unfailed = unfailed; begins = λ is. begins; ends = λ done. absurd (other done) }
+
+-- the lines are followed by the tree
+pub shows_tree : (draws : Bool) (words : List (List ℕ)) (lines bytes more : List ℕ) → draws ≡ false → bytes ≡ lines ++ more
+    → (more ≡ []) ⊎ AsksTree words → shown_as draws words lines bytes
+shows_tree true words lines bytes more is added none = absurd (cc)
+shows_tree false words lines bytes more is added none = (more, added, none)
+
+-- a picture is in their place
+pub shows_picture : (draws : Bool) (words : List (List ℕ)) (lines bytes : List ℕ) → draws ≡ true → AddsPicture [] bytes
+    → shown_as draws words lines bytes
+shows_picture true words lines bytes is picture = picture
+shows_picture false words lines bytes is picture = absurd (cc)
 
 -- what follows where it went well
 pub on_ok : {X E : Type 0} (r : Result X E) (P Q : Type 0) → (P → Q) → OnOk r P → OnOk r Q
@@ -47,10 +66,10 @@ on_ok (Err e) P Q f h = tt
 same_bytes : (xs ys : List ℕ) → Some xs ≡ Some ys → xs ≡ ys
 same_bytes xs ys is = cc
 
-module _ (IsReport : Status → List ℕ → Type 0) where
+module _ (IsReport : Status → List ℕ → Type 0) (Shows : List ℕ → List ℕ → Type 0) where
   -- what is on the page are the lines of the run
   lines_of : (status : Status) (bytes : List ℕ) → status ≢ WriteFault → status ≢ NoMemory → Wrote IsReport (Some []) (Some bytes) status
-      → AreLines IsReport status bytes
+      → AreLines IsReport Shows status bytes
   lines_of status bytes not_fault not_memory (inl (inl absent, same)) = inr (inl absent, same_bytes bytes [] same)
   lines_of status bytes not_fault not_memory (inl (inr (inl fault), same)) = inr (inr fault, same_bytes bytes [] same)
   lines_of status bytes not_fault not_memory (inl (inr (inr memory), same)) = absurd (not_memory memory)
@@ -61,15 +80,14 @@ module _ (IsReport : Status → List ℕ → Type 0) where
   -- and with what is added they are explained
   explains : (status : Status) (fresh before now : PageView) → status ≢ NoMemory → fresh ≡ record { bytes = []; failures = 0 }
       → (status ≡ WriteFault → Rose fresh.failures before.failures) → Wrote IsReport (Some fresh.bytes) (Some before.bytes) status
-      → Adds status before now → IsExplained IsReport status now.bytes
+      → Adds Shows status before now → IsExplained IsReport Shows status now.bytes
   explains status fresh before now not_memory none fault wrote adds = record {
     lines = before.bytes;
-    more = adds.more;
     are = lines_of status before.bytes
         (λ is. rose_some fresh.failures before.failures (ap (λ (p : PageView). p.failures) none) (fault is) adds.unfailed) not_memory
         (subst (λ (bytes : List ℕ). Wrote IsReport (Some bytes) (Some before.bytes) status) (ap (λ (p : PageView). p.bytes) none) wrote);
-    whole = adds.added;
-    none = adds.none;
+    begins = adds.begins;
+    ends = adds.ends;
   }
 
   -- a prefix of it was written
@@ -78,8 +96,8 @@ module _ (IsReport : Status → List ℕ → Type 0) where
 
   pub explained : (status end : Status) (fresh page filled : PageView) (before now : Option (List ℕ))
       → fresh ≡ record { bytes = []; failures = 0 } → (status ≡ WriteFault → Rose fresh.failures page.failures)
-      → Wrote IsReport (Some fresh.bytes) (Some page.bytes) status → Adds status page filled
-      → Ends status filled.bytes before now end → Explained IsReport before now end
+      → Wrote IsReport (Some fresh.bytes) (Some page.bytes) status → Adds Shows status page filled
+      → Ends status filled.bytes before now end → Explained IsReport Shows before now end
   explained status end fresh page filled before now none fault wrote adds (inl out) = inl out
   explained status end fresh page filled before now none fault wrote adds (inr (memory, inl (is, part))) =
       inr (inl (
@@ -94,7 +112,7 @@ module _ (IsReport : Status → List ℕ → Type 0) where
   explained status end fresh page filled before now none fault wrote adds (inr (memory, inr (is, all))) =
       inr (inr (record {
         bytes = filled.bytes;
-        explained = subst (λ (s : Status). IsExplained IsReport s filled.bytes) (sym is)
+        explained = subst (λ (s : Status). IsExplained IsReport Shows s filled.bytes) (sym is)
             (explains status fresh page filled memory none fault wrote adds);
         written = all;
       }))

@@ -1,7 +1,9 @@
--- What a run that explains writes: a report, and then an explanation.
-use Rattle.std.specs.Prelude.{◌≡◌, ◌⊎◌, ◌++◌, ℕ, Option, List, []}
+-- What a run that explains writes: a report, and then an explanation; or what is shown where the run comes to its end.
+use Rattle.std.specs.Prelude.{◌≡◌, ◌≢◌, ◌⊎◌, ◌++◌, ℕ, Option, List, []}
 use Rattle.std.specs.Io.KnownBytes.{append_known}
 use Rattle.wb_world.specs.Cause.{NeverFalls}
+use Rattle.wb_explain_shown.specs.Asking.{AsksTree}
+use Rattle.wb_explain_shown.specs.Pictures.{AddsPicture}
 use Rattle.wb_program.specs.Written.{WrotePrefix}
 use Rattle.wb_program.specs.declared.status.Status.{Status}
 use Rattle.wb_program.specs.declared.status.Status.TheVariants.{Done, Absent, ReadFault, WriteFault, NoMemory}
@@ -10,21 +12,32 @@ use Rattle.wb_program.specs.declared.status.Status.TheVariants.{Done, Absent, Re
 abbrev pub Since : ((List ℕ → ℕ) → Type 0) → (List ℕ → ℕ) → Type 0
 Since P now = (between : List ℕ → ℕ) × P between × NeverFalls between now
 
--- which bytes are the report of a status
-module _ (IsReport : Status → List ℕ → Type 0) where
+-- these are the first of the bytes
+abbrev pub BeginsWith : List ℕ → List ℕ → Type 0
+BeginsWith lines bytes = (more : List ℕ) × (bytes ≡ lines ++ more)
+
+-- after the lines of words that ask for no tree there is nothing more
+abbrev pub ShowsAfter : List (List ℕ) → List ℕ → List ℕ → Type 0
+ShowsAfter words lines bytes = (more : List ℕ) × (bytes ≡ lines ++ more) × ((more ≡ []) ⊎ AsksTree words)
+
+-- in the place of the lines there is a picture
+abbrev pub ShowsInstead : List ℕ → List ℕ → Type 0
+ShowsInstead lines bytes = AddsPicture [] bytes
+
+-- which bytes are the report of a status, and which are shown of a run that comes to its end, with these lines
+module _ (IsReport : Status → List ℕ → Type 0) (Shows : List ℕ → List ℕ → Type 0) where
   -- these are the lines of a run with this status: its report, or nothing where it ends at a file
   abbrev pub AreLines : Status → List ℕ → Type 0
   AreLines status lines = IsReport status lines ⊎ (((status ≡ Absent) ⊎ (status ≡ ReadFault)) × (lines ≡ []))
 
-  -- the bytes are the lines of a run with this status and an explanation, which is empty where the run comes to its end
+  -- the bytes are the lines of a run with this status and an explanation, or what is shown of a run that comes to its end
   pub record IsExplained (status : Status) (bytes : List ℕ) : Type 0 where
     pub lines : List ℕ
-    pub more : List ℕ
     pub are : AreLines status lines
-    pub whole : bytes ≡ lines ++ more
-    pub none : status ≡ Done → more ≡ []
+    pub begins : status ≢ Done → BeginsWith lines bytes
+    pub ends : status ≡ Done → Shows lines bytes
 
-  -- the lines of this status and an explanation were written
+  -- that of this status was written
   pub record WroteExplained (before now : Option (List ℕ)) (status : Status) : Type 0 where
     pub bytes : List ℕ
     pub explained : IsExplained status bytes

@@ -5,6 +5,8 @@
 #![tactic(auto)]
 
 mod program;
+mod words;
 
-pub use program::explain;
+pub use program::{explain, picture};
 pub use wb_program::Status;
+pub use words::take_picture;

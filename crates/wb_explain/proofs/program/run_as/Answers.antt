@@ -6,8 +6,9 @@ use Rattle.wb_program.specs.Report.{IsReport}
 use Rattle.wb_program.specs.declared.status.Status.TheVariants.{Usage, Absent, ReadFault}
 use Rattle.wb_explain_lines.specs.Outside.{outside}
 use Rattle.wb_explain_lines.proofs.KeepLemmas.{keeps_twice}
+use Rattle.wb_explain.specs.Inner.Ends.{shown_as}
 use Rattle.wb_explain.proofs.EndLemmas.{explained, fault_rose, same_status}
-use Rattle.wb_explain.proofs.program.explain.Goals as goal
+use Rattle.wb_explain.proofs.program.run_as.Goals as goal
 
 pub returns-in-Ok-clause-usage : goal.returns-in-Ok-clause-usage
 returns-in-Ok-clause-usage g c = λ is.
@@ -35,7 +36,7 @@ returns-in-Ok-clause-read_fault g c = λ is. (
 
 pub returns-in-Ok-clause-write_fault : goal.returns-in-Ok-clause-write_fault
 returns-in-Ok-clause-write_fault g c = λ is.
-    fault_rose c.workbench-status.result c.new-page.result c.workbench-status.new.sink c.added.new.page (g.K.Sink.faults c.args.sink.now) (g.K.Sink.faults c.written-end.new.sink)
+    fault_rose (shown_as c.args.draws (texts c.args.words.now)) c.workbench-status.result c.new-page.result c.workbench-status.new.sink c.added.new.page (g.K.Sink.faults c.args.sink.now) (g.K.Sink.faults c.written-end.new.sink)
     c.new-page.ensures c.workbench-status.ensures.write_fault c.in-Ok.ensures.adds (c.written-end.ensures.failed is)
 
 pub returns-in-Ok-clause-keeps : goal.returns-in-Ok-clause-keeps
@@ -65,6 +66,6 @@ returns-in-Err-clause-keeps g c =
 pub returns-in-Ok-clause-written : goal.returns-in-Ok-clause-written
 returns-in-Ok-clause-written g c =
     let operations : Operations = record { signatures = c.args.operations.now.signatures; meaning = g.M.Meaning.meaning } in
-    explained (IsReport operations (texts c.args.words.now) (g.S.Shelf.files c.args.shelf.now)) c.workbench-status.result
+    explained (IsReport operations (texts c.args.words.now) (g.S.Shelf.files c.args.shelf.now)) (shown_as c.args.draws (texts c.args.words.now)) c.workbench-status.result
     c.written-end.result c.new-page.result c.workbench-status.new.sink c.added.new.page (g.K.Sink.written c.args.sink.now)
     (g.K.Sink.written c.written-end.new.sink) c.new-page.ensures c.workbench-status.ensures.write_fault c.workbench-status.ensures.written c.in-Ok.ensures.adds c.written-end.ensures.ends
