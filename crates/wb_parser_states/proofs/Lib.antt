@@ -4,3 +4,4 @@ pub mod StateLemmas
 pub mod RuleLemmas
 pub mod StepLemmas
 pub mod ReadyLemmas
+mod TurnLemmas

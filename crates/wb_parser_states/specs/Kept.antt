@@ -10,6 +10,7 @@ use Rattle.wb_parser_states.specs.declared.kept.Kept.{Kept}
 use Rattle.wb_parser_states.specs.declared.reductions.Reductions.{Reductions}
 use Rattle.wb_parser_states.specs.Chains.{IsMoveEnd}
 use Rattle.wb_parser_states.specs.Rules.{AreRules}
+use Rattle.wb_parser_states.specs.Turns.{AreTurns}
 
 -- the action of a kind with a number: a state; or a left side below 2^20, with the width above it
 abbrev pub of_kind : ℕ → ℕ → RuleAction
@@ -37,7 +38,8 @@ end_of kept = record { target = kept.target; action = action_in kept.action }
 abbrev pub AreKept : GrammarView → TablesView → List Kept → Type 0
 AreKept g tables list = (place : ℕ) (kept : Kept) → slice_get list place ≡ Some kept → IsMoveEnd g tables (key_of kept) (end_of kept)
 
--- the left sides and widths are those of the grammar's productions, and the ends of chains are those of its tables
+-- the left sides and widths are those of the grammar's productions, and the ends of chains and the turns are those of its tables
 pub record AreReductions (g : GrammarView) (tables : TablesView) (reductions : Reductions) : Type 0 where
   pub rules : AreRules g reductions.rules.items
   pub ends : AreKept g tables reductions.ends.items
+  pub turns : AreTurns g tables reductions.turns.items

@@ -6,6 +6,8 @@ pub mod Chains
 pub mod Kept
 -- the states of a stack of trees, and what a reduction does to them
 pub mod Stacks
+-- whole turns that are kept
+pub mod Turns
 -- what states stand for on a text, and what can be done on the terminal that is next
 pub mod Steps
 -- words of private functions

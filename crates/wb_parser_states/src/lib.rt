@@ -12,10 +12,12 @@ mod reductions;
 mod rules;
 mod stack;
 mod step;
+mod turning;
+mod turns;
 
 pub use moves::move_states;
 pub use outcome::Outcome;
 pub use reductions::{Reductions, reductions_of};
 pub use rules::{Rule, rules_of};
 pub use stack::top;
-pub use step::reduce_states;
+pub use step::{reduce_states, turn_states};

@@ -1,5 +1,5 @@
-//! What reductions are made by: left sides and widths of productions, and the ends of chains that were met, so that the next chain like one
-//! of them is one step.
+//! What reductions are made by: left sides and widths of productions, and the ends of chains and whole turns that were met, so that the next
+//! one like them is one step.
 //!
 //! What is kept is justified by the tables alone, so a parser that builds trees may use it too.
 
@@ -11,32 +11,36 @@ ghost use Rattle.wb_parser_states.specs.Kept.{AreReductions, end_of, key_of};
 use crate::chains::{ChainEnd, Key, move_end};
 use crate::kept::{Kept, end_in, filled, is_kept, kept_of, place_of};
 use crate::rules::{Rule, rules_of};
+use crate::turns::Turn;
 use std::alloc::{AllocError, Global};
 use wb_scan::Language;
 
-/// What the reductions of a grammar are made by: the left sides and widths of its productions, and ends of chains that were met. These
-/// begin with the state after a left side.
+/// What the reductions of a grammar are made by: the left sides and widths of its productions, ends of chains that were met, which
+/// begin with the state after a left side, and turns that were met.
 pub struct Reductions {
     pub(crate) rules: Vec<Rule>,
     pub(crate) ends: Vec<Kept>,
+    pub(crate) turns: Vec<Turn>,
 }
 
 impl Drop for Reductions {
     fn drop(self) {
-        let Reductions { rules, ends } = self;
+        let Reductions { rules, ends, turns } = self;
         drop(rules);
         drop(ends);
+        drop(turns);
     }
 }
 
-/// Those of a language. Room for ends of chains is made with the first that is kept, as far as there is memory. The only error is out of
+/// Those of a language. Room for ends of chains and for turns is made with the first that is kept, as far as there is memory. The only error is out of
 /// memory for the productions.
 pub fn reductions_of(alloc: Global, language: &Language) -> Result<Reductions, AllocError>
     ensures { IfOk result (AreReductions language.now.language.grammar language.now.tables) }
 {
     let rules = rules_of(alloc, language.grammar())?;
     let ends = Vec::new(alloc);
-    Ok(Reductions { rules, ends })
+    let turns = Vec::new(alloc);
+    Ok(Reductions { rules, ends, turns })
 }
 
 // The end of the chain that begins with the state after a left side: the one that is kept, or the one that is followed and kept then.

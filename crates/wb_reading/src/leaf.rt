@@ -7,7 +7,7 @@ ghost use Rattle.wb_reading.specs.Inner.Walks.{AreSound, HasRead, IsRound, Stays
 use crate::HostReading;
 use crate::ahead::{Ahead, ahead_of};
 use std::alloc::AllocError;
-use wb_parser_states::{Outcome, Reductions, reduce_states, top};
+use wb_parser_states::{Outcome, Reductions, top, turn_states};
 use wb_scan::{Language, scan_inline};
 use wb_termset::TermSet;
 
@@ -49,7 +49,7 @@ pub(crate) fn take_leaf(
         }
         Ahead::NoLeaf => Ok(Round::Done(HostReading::Same)),
         Ahead::Leaf { terminal, end } => {
-            match reduce_states(language, reductions, states, terminal)? {
+            match turn_states(language, reductions, states, terminal)? {
                 Outcome::Shifts(target) => {
                     states.push(target)?;
                     Ok(Round::Goes(end))

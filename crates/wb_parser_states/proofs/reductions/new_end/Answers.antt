@@ -12,4 +12,5 @@ returns-clause-reductions c = record {
   rules = c.requires.reductions.rules;
   ends = kept_after c.args.language.now.language.grammar c.args.language.now.tables c.args.reductions.now.ends.items _ c.args.key
       c.move_end-end.result c.keep.ensures c.requires.reductions.ends c.move_end-end.ensures;
+  turns = c.requires.reductions.turns;
 }

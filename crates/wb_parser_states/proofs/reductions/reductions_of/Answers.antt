@@ -7,4 +7,5 @@ pub returns : goal.returns
 returns c = record {
   rules = subst (λ g. AreRules g c.in_ok-rules.rules.items) c.grammar.ensures.grammar c.in_ok-rules.ensures;
   ends = λ place kept at. let e : c.new-ends.result.items ≡ [] = search rules in none_more c.new-ends.result.items place kept e at;
+  turns = λ place turn at. let e : c.new-turns.result.items ≡ [] = search rules in none_more c.new-turns.result.items place turn e at;
 }

@@ -29,8 +29,8 @@ returns-in-NoLeaf-clause-round c =
     c.args.at c.top.result (next_in c.args.text.now c.scan_inline.result) c.top.ensures c.deref.ensures.value c.scan_inline.ensures.next
     c.requires.read) c.in-NoLeaf.ensures
 
-pub reduce_states-requires-clause-terminal : goal.reduce_states-requires-clause-terminal
-reduce_states-requires-clause-terminal c =
+pub turn_states-requires-clause-terminal : goal.turn_states-requires-clause-terminal
+turn_states-requires-clause-terminal c =
     let bounds = leaf_inside c.args.markers.now c.args.text.now c.scan_inline.result c.args.language.now.language.grammar.terminals
     (length c.args.text.now) c.args.at c.in-Leaf.terminal c.in-Leaf.end c.scan_inline.ensures.inside c.in-Leaf.ensures in
     let below : c.in-Leaf.terminal < c.args.language.now.language.grammar.terminals = bounds.below in omega (arith, below)
@@ -45,14 +45,14 @@ returns-in_ok-push-in-Shifts-clause-round c =
     let leaf = leaf_ahead markers text c.scan_inline.result t c.in-Leaf.end c.in-Leaf.ensures in
     let next = next_is parts markers text c.requires.sound.tables_of old c.deref.result.now c.args.at c.top.result
     (next_in text c.scan_inline.result) c.top.ensures c.deref.ensures.value c.scan_inline.ensures.next c.requires.read in
-    read_more parts markers text c.requires.sound.language old c.reduce_states.new.states.items c.push.new.self.items c.args.at leaf.begin t
+    read_more parts markers text c.requires.sound.language old c.turn_states.new.states.items c.push.new.self.items c.args.at leaf.begin t
     leaf.lexeme c.in-Leaf.end c.in-Shifts.target (subst (IsNext parts markers text old c.args.at) leaf.is next)
-    (subst (HasOutcome parts t old c.reduce_states.new.states.items) c.in-Shifts.is c.in_ok-target-in-Leaf.ensures.outcome)
+    (subst (HasOutcome parts t old c.turn_states.new.states.items) c.in-Shifts.is c.in_ok-target-in-Leaf.ensures.outcome)
     c.in_ok-push-in-Shifts.ensures.items leaf.unmarked
 
 pub returns-in_ok-push-in-Shifts-clause-sound : goal.returns-in_ok-push-in-Shifts-clause-sound
 returns-in_ok-push-in-Shifts-clause-sound c =
-    stays_sound c.args.language.now c.args.markers.now c.args.text.now c.args.states.now.items c.reduce_states.new.states.items
+    stays_sound c.args.language.now c.args.markers.now c.args.text.now c.args.states.now.items c.turn_states.new.states.items
     c.push.new.self.items c.args.at c.scan_inline.result c.in-Leaf.terminal c.in-Leaf.end c.in-Shifts.target c.requires.sound
     c.in_ok-target-in-Leaf.ensures.states c.in_ok-push-in-Shifts.ensures.items
     (subst (ShiftsBelow (size_of c.args.language.now.tables)) c.in-Shifts.is c.in_ok-target-in-Leaf.ensures.target)
@@ -68,6 +68,6 @@ returns-in_default-clause-round c =
     let leaf = leaf_ahead markers text c.scan_inline.result t c.in-Leaf.end c.in-Leaf.ensures in
     let next = next_is parts markers text c.requires.sound.tables_of old c.deref.result.now c.args.at c.top.result
     (next_in text c.scan_inline.result) c.top.ensures c.deref.ensures.value c.scan_inline.ensures.next c.requires.read in
-    stopped parts markers text c.requires.sound.language old c.reduce_states.new.states.items c.args.at leaf.begin t leaf.lexeme
+    stopped parts markers text c.requires.sound.language old c.turn_states.new.states.items c.args.at leaf.begin t leaf.lexeme
     c.in-Leaf.end c.in_ok-target-in-Leaf.field-0 c.in_default.not-Shifts (subst (IsNext parts markers text old c.args.at) leaf.is next)
     c.in_ok-target-in-Leaf.ensures.outcome leaf.unmarked
