@@ -74,8 +74,8 @@ static WRITTEN: [Row; 16] = [
         "explain check h",
         &["format 1; host h; nonterminal Product;\nabstract p : Product ::= a : Prodct { }\n"],
         Status::SpecRefused,
-        "refused h N1 Prodct\n\nh, line 2, column 30:\n\n    abstract p : Product ::= a : Prodct { }\n                                 ^\n\nThe file doesn't declare it.\n\nThe name isn't declared where it is used. ",
-        "\n",
+        "refused h N1 Prodct\n",
+        "\nProdct isn't declared. Here a nonterminal is wanted, or int, bool or text:\n\nh, line 2, column 30:\n\n    abstract p : Product ::= a : Prodct { }\n                                 ^\n\nPerhaps Product is meant, which is in line 1.\n\nWrite the name that is meant, or declare this one:\n\n    nonterminal Prodct;\n",
     ),
     // an operation that is misspelt
     (
@@ -84,8 +84,8 @@ static WRITTEN: [Row; 16] = [
             "format 1; host h; nonterminal E; syn v : int; occurs v on E;\nabstract p : E ::= a : E { top.v = @plus(a.v, 1); }\n",
         ],
         Status::SpecRefused,
-        "refused h N1 plus\n\nh, line 2, column 37:\n\n    abstract p : E ::= a : E { top.v = @plus(a.v, 1); }\n                                        ^\n\nThe file doesn't declare it.\n\nThe name isn't declared where it is used. ",
-        "\n",
+        "refused h N1 plus\n",
+        "\nThere is no operation @plus:\n\nh, line 2, column 37:\n\n    abstract p : E ::= a : E { top.v = @plus(a.v, 1); }\n                                        ^\n\nThe operations: add, sub, mul, div, rem, neg, eq, less, same, not, and, or,\nconcat, length, to_text, to_int.\n",
     ),
     // an attribute that doesn't occur there
     (
@@ -94,24 +94,24 @@ static WRITTEN: [Row; 16] = [
             "format 1; host h; nonterminal E; nonterminal F; syn v : int;\noccurs v on E;\nabstract p : E ::= f : F { top.v = f.v; }\n",
         ],
         Status::SpecRefused,
-        "refused h N1 v\n\nh, line 1, column 53:\n\n    format 1; host h; nonterminal E; nonterminal F; syn v : int;\n                                                        ^\n\nh, line 2, column 8:\n\n    occurs v on E;\n           ^\n\nh, line 3, column 32:\n\n    abstract p : E ::= f : F { top.v = f.v; }\n                                   ^\n\nh, line 3, column 38:\n\n    abstract p : E ::= f : F { top.v = f.v; }\n                                         ^\n\nThe file declares it by  syn .\n\nThe name isn't declared where it is used. ",
-        "\n",
+        "refused h N1 v\n",
+        "\nv doesn't occur on F, the nonterminal of f:\n\nh, line 3, column 38:\n\n    abstract p : E ::= f : F { top.v = f.v; }\n                                         ^\n\nIt occurs on E.\n\nWhere it is to, write:\n\n    occurs v on F;\n",
     ),
     // a kind that isn't there
     (
         "explain check h",
         &["format 1; host h;\nsyn name : string;\n"],
         Status::SpecRefused,
-        "refused h N1 string\n\nh, line 2, column 12:\n\n    syn name : string;\n               ^\n\nThe file doesn't declare it.\n\nThe name isn't declared where it is used. ",
-        "\n",
+        "refused h N1 string\n",
+        "\nstring isn't declared. Here a nonterminal is wanted, or int, bool or text:\n\nh, line 2, column 12:\n\n    syn name : string;\n               ^\n\nWrite the name that is meant, or declare this one:\n\n    nonterminal string;\n",
     ),
     // a label that is there twice
     (
         "explain check h",
         &["format 1; host h; nonterminal E;\nabstract p : E ::= b : E b : E { }\n"],
         Status::SpecRefused,
-        "refused h N2 b\n\nh, line 2, column 20:\n\n    abstract p : E ::= b : E b : E { }\n                       ^\n\nh, line 2, column 26:\n\n    abstract p : E ::= b : E b : E { }\n                             ^\n\nWhat this name says is said twice: ",
-        "\n",
+        "refused h N2 b\n",
+        "\nTwo children or locals of the production p have the label b. First here:\n\nh, line 2, column 20:\n\n    abstract p : E ::= b : E b : E { }\n                       ^\n\nAnd here:\n\nh, line 2, column 26:\n\n    abstract p : E ::= b : E b : E { }\n                             ^\n\nGive one of them another label.\n",
     ),
     // an equation for a child's own attribute
     (
@@ -120,8 +120,8 @@ static WRITTEN: [Row; 16] = [
             "format 1; host h; nonterminal E; syn v : int; occurs v on E;\nabstract p : E ::= c : E { c.v = 1; top.v = 1; }\n",
         ],
         Status::SpecRefused,
-        "refused h N4 v\n\nh, line 1, column 38:\n\n    format 1; host h; nonterminal E; syn v : int; occurs v on E;\n                                         ^\n\nh, line 1, column 54:\n\n    format 1; host h; nonterminal E; syn v : int; occurs v on E;\n                                                         ^\n\nh, line 2, column 30:\n\n    abstract p : E ::= c : E { c.v = 1; top.v = 1; }\n                                 ^\n\nh, line 2, column 41:\n\n    abstract p : E ::= c : E { c.v = 1; top.v = 1; }\n                                            ^\n\nThe file declares it by  syn .\n\nThe name is declared, but as another kind of thing ",
-        "\n",
+        "refused h N4 v\n",
+        "\nv is a synthesized attribute (line 1), and here an inherited attribute is wanted:\n\nh, line 2, column 30:\n\n    abstract p : E ::= c : E { c.v = 1; top.v = 1; }\n                                 ^\n\nA production gives inherited attributes to its children and locals. A synthesized one is\ngiven by the production of the child itself, by  top. . Leave the equation out, or declare the\nattribute by  inh .\n",
     ),
     // a word as a value
     (
@@ -130,8 +130,8 @@ static WRITTEN: [Row; 16] = [
             "format 1; host h; nonterminal E; syn v : int; occurs v on E;\nterminal D /d/;\nconcrete p : E ::= digits : D { top.v = @to_int(digits); }\n",
         ],
         Status::SpecRefused,
-        "refused h N4 digits\n\nh, line 3, column 20:\n\n    concrete p : E ::= digits : D { top.v = @to_int(digits); }\n                       ^\n\nh, line 3, column 49:\n\n    concrete p : E ::= digits : D { top.v = @to_int(digits); }\n                                                    ^\n\nIt is the label of a child or local of kind D, which the file declares by  terminal .\n\nThe name is declared, but as another kind of thing ",
-        "\n",
+        "refused h N4 digits\n",
+        "\nIn the production p the label digits is of D, a terminal (line 2).\nA word is no value by itself; its text is one:\n\nh, line 3, column 49:\n\n    concrete p : E ::= digits : D { top.v = @to_int(digits); }\n                                                    ^\n\nWrite:\n\n    digits.lexeme\n",
     ),
     // the host twice
     (
@@ -140,8 +140,8 @@ static WRITTEN: [Row; 16] = [
             "format 1; host h; terminal X /x/; nonterminal S; start S;\nconcrete go : S ::= x : X { }\n",
         ],
         Status::SpecRefused,
-        "refused h N4 h\n\nh, line 1, column 16:\n\n    format 1; host h; terminal X /x/; nonterminal S; start S;\n                   ^\n\nThe file declares it by  host .\n\nThe name is declared, but as another kind of thing ",
-        "\n",
+        "refused h N4 h\n",
+        "\nThis file is a host, and an extension is wanted. The host's file comes first, and those of\nextensions after it:\n\nh, line 1, column 16:\n\n    format 1; host h; terminal X /x/; nonterminal S; start S;\n                   ^\n",
     ),
     // too many arguments
     (
@@ -163,8 +163,8 @@ static ANALYSED: [Row; 12] = [
             "format 1; host h; terminal X /x/; nonterminal S; start S;\nnonterminal T; inh names : text; syn value : int;\noccurs value on S; occurs names on T; occurs value on T needs { names };\nconcrete go : S ::= t : T { top.value = t.value; }\nconcrete leaf : T ::= x : X { top.value = @length(top.names); }\n",
         ],
         Status::NotCertified,
-        "refused h A2 go t.names\n\nh, line 4, column 10:\n\n    concrete go : S ::= t : T { top.value = t.value; }\n             ^\n\nThe production that is shown doesn't hand ",
-        "    aspect go { t.names = ..; }\n",
+        "refused h A2 go t.names\n",
+        "\nh, line 4, column 10:\n\n    concrete go : S ::= t : T { top.value = t.value; }\n             ^\n\nThe production that is shown doesn't hand the attribute that is shown to its\nchild or local, and something that it reads of it needs that. Write\nLABEL.ATTRIBUTE = ..;  in it. To hand on what it was given itself, write\nLABEL.ATTRIBUTE = top.ATTRIBUTE;\n\nEvery attribute that has to be handed down and isn't, to paste, with an expression\nin the place of the dots. After it come its kind and what is read that needs it.\n\n    aspect go { t.names = ..; }  // text, for t.value in line 4\n",
     ),
     // an aspect that is missing
     (
@@ -174,8 +174,8 @@ static ANALYSED: [Row; 12] = [
             "format 1; extension e for calc;\nsyn depth : int; occurs depth on Factor;\naspect group { top.depth = 1; }\n",
         ],
         Status::NotCertified,
-        "refused t A1 number e:depth\n\nThe production that is shown has no equation ",
-        "    aspect number { top.depth = ..; }\n",
+        "refused t A1 number e:depth\n",
+        "\nThe production that is shown has no equation for the attribute that is shown, of\nits left side. Write  top.ATTRIBUTE = ..;  in it, or in an  aspect PRODUCTION\n{ .. } . Names of an extension are written there without the extension and its\ncolon. Other productions on that nonterminal may want one as well.\n\nEvery equation of a left side that is missing, to paste, with an expression in\nthe place of the dots. After it come its kind and where the production is.\n\n    aspect number { top.depth = ..; }  // int, in line 9 of the host's file\n",
     ),
     // what needs doesn't name
     (
@@ -225,8 +225,8 @@ static ANALYSED: [Row; 12] = [
             "format 1; extension e for calc; marking Twice /twice/;\nconcrete infix : Factor ::= n : Number m : Twice { }\n",
         ],
         Status::NotCertified,
-        "refused t E1 e:infix\n\nt, line 2, column 10:\n\n    concrete infix : Factor ::= n : Number m : Twice { }\n             ^\n\nThe production that is shown is on a nonterminal of the host, and its first child",
-        "\n",
+        "refused t E1 e:infix\n",
+        "\nThe production infix is on Factor, a nonterminal of the host, and its first child is no marker:\n\nt, line 2, column 10:\n\n    concrete infix : Factor ::= n : Number m : Twice { }\n             ^\n\nIts child m is the marker Twice, which comes too late there.\n\nThe markers of the file: Twice.\n\nMake a marker the first child. Each marker begins one production alone.\n",
     ),
     // a marker beside a word of the host
     (
@@ -255,8 +255,8 @@ static ANALYSED: [Row; 12] = [
         "explain certify h t",
         &[CALC, "format 1; extension e for clac;\n"],
         Status::WrongHost,
-        "wrong host t names clac\n\nt, line 1, column 27:\n\n    format 1; extension e for clac;\n                              ^\n\nThe first line of this extension names another host ",
-        "\n",
+        "wrong host t names clac\n",
+        "\nThe first line of this extension names another host than the one that is named\nfirst. Name the host for which it was written, or change its first line.\n\nThis extension is for the host clac:\n\nt, line 1, column 27:\n\n    format 1; extension e for clac;\n                              ^\n\nThe file that is named as its host is the host calc.\n\nName the file of the right host, or write:\n\n    extension e for calc;\n",
     ),
     // a word that is missing in a text
     (
@@ -264,7 +264,7 @@ static ANALYSED: [Row; 12] = [
         &[CALC, "1 + +\n"],
         Status::TextStopped,
         "stopped at 4 no token\n\nt, line 1, column 5:\n\n    1 + +\n        ^\n\nThe text has no tree. ",
-        "\n",
+        "is here, or with 'end' where the text ends too early.\n\nWhat could come here:\n\n    Number /[0-9]+/\n    Open /\\(/\n\nWhat is here can't come here: '+' is a word of\nPlus.\n",
     ),
     // an extension's attribute without its extension
     (
@@ -276,7 +276,7 @@ static ANALYSED: [Row; 12] = [
         ],
         Status::UnknownAttribute,
         "no attribute count\n\nAt the root of the tree no attribute of this name can be asked. ",
-        "\n",
+        "\n\nWhat can be asked there:\n\n    value\n    e:count\n",
     ),
 ];
 

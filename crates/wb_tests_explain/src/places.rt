@@ -53,7 +53,7 @@ static ROWS: [Row; 7] = [
         ],
         Status::TextStopped,
         "stopped at 1 no token\n\nt, line 1, column 2:\n\n    x\n     ^\n\nThe text has no tree. ",
-        "square::square.\n",
+        "that is in no word and no layout isn't allowed.\n",
     ),
     // of a long line what is near the place is shown
     (

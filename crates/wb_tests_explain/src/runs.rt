@@ -6,11 +6,11 @@ ghost use Rattle.std.specs.Prelude.{◌≡◌, []};
 
 use std::alloc::{AllocError, Global};
 use std::process::Abort;
-use wb_explain::{Status, explain};
+use wb_explain::{Status, explain, picture, take_picture};
 use wb_operations::standard_table;
 use wb_world::{MemoryShelf, MemorySink};
 
-/// A command line, the files `h`, `t` and `u` or the first of them, a status, and what is written: its beginning and its end.
+/// A command line, the files `h`, `t`, `u` and `v` or the first of them, a status, and what is written: its beginning and its end.
 pub type Row = (
     &'static str,
     &'static [&'static str],
@@ -74,7 +74,11 @@ fn add_files(shelf: &mut MemoryShelf, files: &[&str]) -> Result<(), AllocError>
     let Some(third) = files.get(2) else {
         return Ok(());
     };
-    shelf.add_file("u", third.as_bytes())
+    shelf.add_file("u", third.as_bytes())?;
+    let Some(fourth) = files.get(3) else {
+        return Ok(());
+    };
+    shelf.add_file("v", fourth.as_bytes())
 }
 
 // The status of a run of this line over the files of a shelf.
@@ -85,7 +89,10 @@ fn status_on(
     sink: &mut MemorySink,
 ) -> Result<Status, AllocError> {
     let operations = standard_table(alloc)?;
-    let words = words_of(alloc, line)?;
+    let mut words = words_of(alloc, line)?;
+    if take_picture(alloc, &mut words)? {
+        return Ok(picture(alloc, &words, shelf, sink, &operations));
+    }
     Ok(explain(alloc, &words, shelf, sink, &operations))
 }
 
