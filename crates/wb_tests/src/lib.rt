@@ -32,6 +32,8 @@ mod odd;
 #[cfg(test)]
 mod open_hosts;
 #[cfg(test)]
+mod own_layout;
+#[cfg(test)]
 mod prefixes;
 #[cfg(test)]
 mod reading;

@@ -12,7 +12,7 @@ use wb_program::{Status, workbench};
 use wb_values::Value;
 use wb_world::{MemoryShelf, MemorySink};
 
-/// A command line, the files `h`, `t`, `u` and `v` or the first of them, a status, and a report, in which `…` matches any text.
+/// A command line, the files `h`, `t`, `u`, `v` and `w` or the first of them, a status, and a report, in which `…` matches any text.
 pub type Row = (&'static str, &'static [&'static str], Status, &'static str);
 
 /// Fails unless this holds.
@@ -134,10 +134,14 @@ pub fn add_files(shelf: &mut MemoryShelf, files: &[&str]) -> Result<(), AllocErr
         return Ok(());
     };
     shelf.add_file("u", third.as_bytes())?;
-    let Some(last) = files.get(3) else {
+    let Some(fourth) = files.get(3) else {
         return Ok(());
     };
-    shelf.add_file("v", last.as_bytes())
+    shelf.add_file("v", fourth.as_bytes())?;
+    let Some(last) = files.get(4) else {
+        return Ok(());
+    };
+    shelf.add_file("w", last.as_bytes())
 }
 
 /// The status of a run of this line over the files of a shelf.

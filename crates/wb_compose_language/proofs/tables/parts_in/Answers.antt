@@ -1,5 +1,5 @@
 use Rattle.wb_compose_language.proofs.TableLemmas.{no_conflict}
-use Rattle.wb_compose_language.proofs.tables.tables_of.Goals as goal
+use Rattle.wb_compose_language.proofs.tables.parts_in.Goals as goal
 
 pub unreachable-requires : goal.unreachable-requires
 unreachable-requires c =
