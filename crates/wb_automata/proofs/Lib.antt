@@ -1,6 +1,7 @@
 pub mod AcceptedLemmas
 pub mod AnswerLemmas
 pub mod ByteLemmas
+pub mod ChainLemmas
 pub mod ClosingLemmas
 pub mod CommonLemmas
 pub mod CountLemmas
@@ -14,9 +15,11 @@ pub mod PlaceLemmas
 pub mod PairLemmas
 pub mod PlainTextLemmas
 pub mod RunLemmas
+pub mod SkipLemmas
 pub mod StateLemmas
 pub mod StuckLemmas
 pub mod TextLemmas
 pub mod WalkLemmas
 pub mod WalkedLemmas
+pub mod WayLemmas
 pub mod WholeLemmas

@@ -58,7 +58,7 @@ moves_extend t bytes old new moves i c len g within h = record {
 }
 
 -- one move more
-moves_push : (t : Tables) (bytes : List ℕ) (found : Found) (moves : List (Option ℕ)) (i c : ℕ) (set : List ℕ) (path : Path) (o : Option ℕ)
+pub moves_push : (t : Tables) (bytes : List ℕ) (found : Found) (moves : List (Option ℕ)) (i c : ℕ) (set : List ℕ) (path : Path) (o : Option ℕ)
     → c < length bytes → slice_get found.sets i ≡ Some set → slice_get found.paths i ≡ Some path → AreMoves t bytes found moves i c
     → IsMove t found set path (get_or bytes c 0) o → AreMoves t bytes found (moves ++ o ∷ []) i (c + 1)
 moves_push t bytes found moves i c set path o short at at_path h last = record {

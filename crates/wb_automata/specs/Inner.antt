@@ -1,5 +1,7 @@
 -- the terminals that states accept
 pub mod Accepted
+-- lists of leaves that share their beginnings
+pub mod Chains
 -- the first group that has the ends of two expressions
 pub mod Endings
 -- where bytes lead from the states that were found
@@ -20,3 +22,5 @@ pub mod Starts
 pub mod Stuck
 -- a code of views
 pub mod ViewCode
+-- which leaves hold each byte
+pub mod Ways

@@ -2,16 +2,19 @@
 //!
 //! The states of one set after the other are found breadth first, so that their order is that of their paths.
 
-ghost use Rattle.std.specs.Prelude.{◌≡◌, ◌+◌, ◌^◌, ◌<◌, ◌≤◌, IfOk, [], length};
+ghost use Rattle.std.specs.Prelude.{◌≡◌, ◌+◌, ◌^◌, ◌<◌, ◌≤◌, IfOk, [], length, slice_index};
 ghost use Rattle.wb_automata.specs.Inner.Found.{IsPlaced};
 ghost use Rattle.wb_automata_positions.specs.Transitions.{IsTable, count_of};
 ghost use Rattle.wb_automata_positions.specs.Rows.{row};
 ghost use Rattle.wb_automata_positions.specs.Rising.{AreRising};
 ghost use Rattle.wb_automata.specs.Inner.Exploring.{RowsPass, RowsFrom, AreExplored};
+ghost use Rattle.wb_automata.specs.Inner.Ways.{HasMoved};
+ghost use Rattle.wb_automata.specs.Paths.{path_by};
 
 use crate::moves::Moves;
 use crate::predecessor::Predecessor;
 use crate::states::States;
+use crate::ways::Ways;
 use std::alloc::{AllocError, Global};
 use wb_automata_positions::{Tables, hints_of};
 use wb_base::push;
@@ -24,22 +27,35 @@ pub(crate) struct Explored {
     pub(crate) starts: Vec<usize>,
 }
 
+// Room that each state uses again, and hints for the places.
+#[derive(Drop)]
+struct Room {
+    hints: Vec<usize>,
+    ways: Ways,
+}
+
 // All states that texts lead to by these bytes.
 pub(crate) fn explore(alloc: Global, tables: &Tables, bytes: &[u8]) -> Result<Explored, AllocError>
     requires table { IsTable tables.now }
     requires rising { AreRising bytes.now }
     ensures { IfOk result (λ e. AreExplored tables.now bytes.now e.states e.moves e.starts.items (length tables.now.starts)) }
 {
-    let mut hints = hints_of(alloc, tables)?;
+    let mut room = room_of(alloc, tables, bytes)?;
     let mut explored = Explored {
         states: States::new(alloc),
         moves: Moves::new(alloc),
         starts: Vec::new(alloc),
     };
     for set in 0..tables.starts.len() {
-        explore_set(tables, bytes, set, &mut hints, &mut explored)?;
+        explore_set(tables, bytes, set, &mut room, &mut explored)?;
     }
     Ok(explored)
+}
+
+fn room_of(alloc: Global, tables: &Tables, bytes: &[u8]) -> Result<Room, AllocError> {
+    let ways = Ways::new(alloc, bytes)?;
+    let hints = hints_of(alloc, tables)?;
+    Ok(Room { hints, ways })
 }
 
 // The states of one set more.
@@ -47,7 +63,7 @@ fn explore_set(
     tables: &Tables,
     bytes: &[u8],
     set: usize,
-    hints: &mut Vec<usize>,
+    room: &mut Room,
     explored: &mut Explored,
 ) -> Result<(), AllocError>
     requires table { IsTable tables.now }
@@ -62,7 +78,7 @@ fn explore_set(
         tables,
         bytes,
         from,
-        hints,
+        room,
         &mut explored.states,
         &mut explored.moves,
     )?;
@@ -89,7 +105,7 @@ fn close(
     tables: &Tables,
     bytes: &[u8],
     from: usize,
-    hints: &mut Vec<usize>,
+    room: &mut Room,
     states: &mut States,
     moves: &mut Moves,
 ) -> Result<(), AllocError>
@@ -101,7 +117,7 @@ fn close(
 {
     let mut i = from;
     'states: while i < states.len() {
-        row_of(tables, bytes, i, hints, states, moves)?;
+        row_of(tables, bytes, i, room, states, moves)?;
         i += 1;
     }
     Ok(())
@@ -112,7 +128,7 @@ fn row_of(
     tables: &Tables,
     bytes: &[u8],
     i: usize,
-    hints: &mut Vec<usize>,
+    room: &mut Room,
     states: &mut States,
     moves: &mut Moves,
 ) -> Result<(), AllocError>
@@ -122,17 +138,44 @@ fn row_of(
     requires before { RowsPass tables.now bytes.now states.old moves.old i }
     ensures { IfOk result (λ _. RowsFrom tables.now bytes.now states.old states.new moves.new (i + 1)) }
 {
-    let ahead = states.ahead(tables, i, hints)?;
+    let ahead = states.ahead(tables, i, &mut room.hints)?;
     let leaves = ahead.as_slice();
+    room.ways.read(tables.nodes.as_slice(), bytes, leaves)?;
+    drop(ahead);
     let set = states.set_of(i);
-    for byte in bytes {
+    for c in 0..bytes.len() {
         let predecessor = Predecessor {
             set,
             from: i,
-            byte: *byte,
+            byte: bytes[c],
         };
-        let next = states.move_by(tables.nodes.as_slice(), leaves, predecessor)?;
-        moves.push(next)?;
+        move_by(c, &mut room.ways, predecessor, states, moves)?;
     }
+    Ok(())
+}
+
+// Puts where a byte leads after the other moves.
+fn move_by(
+    c: usize,
+    ways: &mut Ways,
+    predecessor: Predecessor,
+    states: &mut States,
+    moves: &mut Moves,
+) -> Result<(), AllocError>
+    requires within { c < length ways.old.ends.items }
+    requires listed { slice_index ways.old.ends.items c < length ways.old.chains }
+    requires moves { c ≤ length moves.old }
+    ensures chains { ways.new.chains ≡ ways.old.chains }
+    ensures ends { ways.new.ends ≡ ways.old.ends }
+    ensures moved { IfOk result (λ _. HasMoved c ways.old.chains ways.old.ends.items (path_by states.old.paths predecessor) states.old moves.old states.new moves.new) }
+{
+    if let Some(first) = ways.alike(c) {
+        moves.again(c - first)?;
+        return Ok(());
+    }
+    let places = ways.list(c)?;
+    let next = states.move_to(&places, predecessor)?;
+    drop(places);
+    moves.push(next)?;
     Ok(())
 }

@@ -8,6 +8,7 @@
 mod accepted;
 mod automaton;
 mod bytes;
+mod chains;
 mod common_texts;
 mod explore;
 mod flat_rows;
@@ -23,6 +24,7 @@ mod steps;
 mod stuck;
 mod text;
 mod walk;
+mod ways;
 
 pub use automaton::Automaton;
 pub use common_texts::{overlap, shared_text, sharing};

@@ -1,6 +1,6 @@
 //! Moves from state to state, in 32 bits each.
 
-ghost use Rattle.std.specs.Prelude.{◌≡◌, ◌++◌, ◌∷◌, [], IfOk, map};
+ghost use Rattle.std.specs.Prelude.{◌≡◌, ◌<◌, ◌≤◌, ◌-◌, ◌++◌, ◌∷◌, [], IfOk, None, length, map, slice_index_or};
 ghost use Rattle.wb_automata.specs.Moves.{move_at};
 
 use std::alloc::{AllocError, Global};
@@ -38,6 +38,17 @@ impl Moves {
         ensures { IfOk result (λ _. self.new ≡ self.old ++ to ∷ []) }
     {
         let code = code_of(to)?;
+        self.codes.push(code)?;
+        Ok(())
+    }
+
+    // Puts the move that is so many places back after the others once more.
+    pub(crate) fn again(&mut self, back: usize) -> Result<(), AllocError>
+        requires some { 0 < back }
+        requires within { back ≤ length self.old }
+        ensures { IfOk result (λ _. self.new ≡ self.old ++ slice_index_or self.old (length self.old - back) None ∷ []) }
+    {
+        let code = self.codes[self.codes.len() - back];
         self.codes.push(code)?;
         Ok(())
     }

@@ -5,7 +5,7 @@
 ghost use Rattle.std.specs.Prelude.{◌≡◌, ◌<◌, ◌↔◌, [], ℕ, Contains, IfOk, IfSome, IsNone, Some, List, length, slice_get};
 ghost use Rattle.wb_base.specs.Different.{Differ};
 ghost use Rattle.wb_automata.specs.Automata.{Path};
-ghost use Rattle.wb_automata.specs.Inner.Found.{IsPlaced, IsMoved};
+ghost use Rattle.wb_automata.specs.Inner.Found.{IsPlaced, IsTo};
 ghost use Rattle.wb_automata.specs.Paths.{path_by, paths_of};
 ghost use Rattle.wb_automata_positions.specs.Transitions.{Ahead, IsPlaceList, IsTable, count_of};
 
@@ -13,9 +13,8 @@ use crate::predecessor::Predecessor;
 use indexmap::IndexSet;
 use std::alloc::{AllocError, Global};
 use std::marker::Model;
-use wb_automata_positions::{Leaves, Tables, ahead_of, reading};
+use wb_automata_positions::{Leaves, Tables, ahead_of};
 use wb_base::push;
-use wb_regex::RegexNode;
 
 // The states that were found, and from where.
 #[derive(Drop)]
@@ -115,21 +114,18 @@ impl States {
         ahead_of(self.alloc, tables, self.at(i), hints)
     }
 
-    // Where the byte of the predecessor leads, with the leaves that may come next.
-    pub(crate) fn move_by(
+    // The state with these places, which is added if it is new, and None where there are none.
+    pub(crate) fn move_to(
         &mut self,
-        nodes: &[RegexNode],
-        ahead: &[usize],
+        places: &[usize],
         predecessor: Predecessor,
     ) -> Result<Option<usize>, AllocError>
-        requires { IsPlaceList (length nodes.now) ahead.now }
-        ensures { IfOk result (λ o. IsMoved nodes.now ahead.now (path_by self.old.paths predecessor) predecessor.byte self.old self.new o) }
+        ensures { IfOk result (IsTo self.old places.now (path_by self.old.paths predecessor) self.new) }
     {
-        let next = reading(self.alloc, nodes, ahead, predecessor.byte)?;
-        if next.is_empty() {
+        if places.len() == 0 {
             return Ok(None);
         }
-        let state = self.place_of(next.as_slice(), predecessor)?;
+        let state = self.place_of(places, predecessor)?;
         Ok(Some(state))
     }
 

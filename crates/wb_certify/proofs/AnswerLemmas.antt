@@ -9,11 +9,11 @@ use Rattle.wb_certify_host.specs.declared.refusal.CertifyRefusal.{CertifyRefusal
 use Rattle.wb_certify_host.specs.declared.refusal.CertifyRefusal.TheVariants as c
 use Rattle.wb_complete.specs.Refusals.{CompleteOk, IsTrueCompletenessRefusal}
 use Rattle.wb_complete.proofs.AnswerLemmas as completeness
-use Rattle.wb_determinism_host.specs.Refusals.{IsNoMemory}
-use Rattle.wb_determinism_host.specs.declared.refusal.DeterminismRefusal.{DeterminismRefusal}
-use Rattle.wb_determinism_host.specs.declared.refusal.DeterminismRefusal.TheVariants as d
-use Rattle.wb_determinism.specs.Extensions.{IsDeterministicExtension}
-use Rattle.wb_determinism.specs.Refusals.{IsExtensionRefusal}
+use Rattle.wb_certify_host.specs.DeterminismRefusals.{IsNoMemory}
+use Rattle.wb_certify_host.specs.determinism_refusal.DeterminismRefusal.{DeterminismRefusal}
+use Rattle.wb_certify_host.specs.determinism_refusal.DeterminismRefusal.TheVariants as d
+use Rattle.wb_determinism_beside.specs.DeterministicExtensions.{IsDeterministicExtension}
+use Rattle.wb_determinism_beside.specs.ExtensionDeterminism.{IsExtensionRefusal}
 use Rattle.wb_flow.specs.Refusals.{FlowsOk, IsTrueFlowRefusal}
 use Rattle.wb_flow.specs.declared.refusal.AttributeRefusal.{AttributeRefusal}
 use Rattle.wb_flow.specs.declared.refusal.AttributeRefusal.TheVariants as a

@@ -6,12 +6,12 @@ use Rattle.std.specs.Prelude.{IfSome, IsSome, option_map, option_to_list, take}
 use Rattle.std.proofs.lemmas.List.{length-append, length-map}
 use Rattle.std.proofs.lemmas.Slice.Zip.{AllZip-long}
 use Rattle.wb_base.specs.Grammar.{GrammarView}
-use Rattle.wb_determinism_host.specs.Hosts.{AreHostParts}
-use Rattle.wb_determinism_host.specs.declared.parts.HostParts.{HostParts}
-use Rattle.wb_determinism.specs.Extensions.{IsHostBeside, IsPartOf, extended_grammar}
+use Rattle.wb_certify_host.specs.DeterministicHosts.{AreHostParts}
+use Rattle.wb_certify_host.specs.parts.HostParts.{HostParts}
+use Rattle.wb_determinism_beside.specs.DeterministicExtensions.{IsHostBeside, IsPartOf, extended_grammar}
 use Rattle.wb_lemmas.proofs.Members.{contains_first}
 use Rattle.wb_marking_holes.specs.Holes.{hole_productions, with_holes_of}
-use Rattle.wb_names.specs.Resolving.{ResolvesExtension, extension_file}
+use Rattle.wb_certify_host.specs.Resolving.{ResolvesExtension, extension_file}
 use Rattle.wb_names_theory.specs.declared.declaration.Declaration.TheVariants as d
 use Rattle.wb_names_theory.specs.Declarations.{Items, extensible_of, extensibles, lexicals, plain_items, productions, starts}
 use Rattle.wb_names_theory.specs.Declares.{item_declarations}

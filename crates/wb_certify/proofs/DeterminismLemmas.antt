@@ -2,13 +2,13 @@
 use Rattle.std.proofs.Common.{◌≡◌, Some}
 use Rattle.std.specs.Prelude.{IfSome}
 use Rattle.wb_base.specs.Grammar.{GrammarView}
-use Rattle.wb_determinism.specs.Extensions.{IsDeterministicExtension}
-use Rattle.wb_determinism.specs.Refusals.{IsExtensionRefusal}
+use Rattle.wb_determinism_beside.specs.DeterministicExtensions.{IsDeterministicExtension}
+use Rattle.wb_determinism_beside.specs.ExtensionDeterminism.{IsExtensionRefusal}
 use Rattle.wb_determinism_beside.specs.Asked.{IsAskedBeside}
-use Rattle.wb_determinism_host.specs.declared.parts.HostParts.{HostParts}
-use Rattle.wb_determinism_host.specs.declared.refusal.DeterminismRefusal.{DeterminismRefusal}
-use Rattle.wb_determinism_host.specs.declared.refusal.DeterminismRefusal.TheVariants as d
-use Rattle.wb_determinism_host.specs.Hosts.{AreAcyclic}
+use Rattle.wb_certify_host.specs.parts.HostParts.{HostParts}
+use Rattle.wb_certify_host.specs.determinism_refusal.DeterminismRefusal.{DeterminismRefusal}
+use Rattle.wb_certify_host.specs.determinism_refusal.DeterminismRefusal.TheVariants as d
+use Rattle.wb_certify_host.specs.DeterministicHosts.{AreAcyclic}
 use Rattle.wb_syntax_resolved.specs.declared.resolved.ResolvedParts.{ResolvedParts}
 use Rattle.wb_certify.specs.Tests.{KeepMarkers}
 use Rattle.wb_certify.specs.Inner.Tests.{AreClearBeside, IsOfHost, IsReasonBeside}

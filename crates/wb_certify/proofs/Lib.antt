@@ -7,8 +7,9 @@ mod AnswerLemmas
 mod NameLemmas
 pub mod DeterminismLemmas
 -- lemmas of `wb_determinism_host` that callers cite
-pub use Rattle.wb_determinism_host.proofs.HostLemmas as DeterministicHostLemmas
-pub use Rattle.wb_determinism_host.proofs.RefusalLemmas as DeterminismRefusalLemmas
+pub use Rattle.wb_certify_host.proofs.DeterminismRefusalLemmas
+pub use Rattle.wb_certify_host.proofs.DeterministicHostLemmas
+pub use Rattle.wb_certify_host.proofs.LayoutLemmas
 -- lemmas of `wb_certify_host` that callers cite
 pub use Rattle.wb_certify_host.proofs.HostLemmas as CertifiedHostLemmas
 pub use Rattle.wb_certify_host.proofs.RefusalLemmas as CertifyRefusalLemmas

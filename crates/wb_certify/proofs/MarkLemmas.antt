@@ -2,10 +2,10 @@
 use Rattle.std.proofs.Common.{◌≡◌, inl, inr}
 use Rattle.std.specs.Prelude.{IfSome}
 use Rattle.wb_base.specs.Grammar.{GrammarView}
-use Rattle.wb_determinism_host.specs.Hosts.{AreAcyclic}
-use Rattle.wb_determinism_host.specs.declared.refusal.DeterminismRefusal.{DeterminismRefusal}
-use Rattle.wb_determinism_host.specs.declared.refusal.DeterminismRefusal.TheVariants as d
-use Rattle.wb_determinism.specs.Refusals.{IsExtensionRefusal}
+use Rattle.wb_certify_host.specs.DeterministicHosts.{AreAcyclic}
+use Rattle.wb_certify_host.specs.determinism_refusal.DeterminismRefusal.{DeterminismRefusal}
+use Rattle.wb_certify_host.specs.determinism_refusal.DeterminismRefusal.TheVariants as d
+use Rattle.wb_determinism_beside.specs.ExtensionDeterminism.{IsExtensionRefusal}
 use Rattle.wb_marking.specs.Clashes.{HasNoMarkerClash}
 use Rattle.wb_marking.specs.Refusals.{IsBridgeRefusal, IsClashRefusal, IsNoMemory}
 use Rattle.wb_marking.specs.declared.refusal.MarkRefusal.{MarkRefusal}

@@ -1,7 +1,7 @@
 -- Names that are right exclude refusals of names.
 use Rattle.std.proofs.Common.{◌≡◌, ◌⊎◌, inl, inr, ℕ, List, sym, ◌∙◌}
 use Rattle.wb_certify_host.specs.Refusals.{IsNameMemory}
-use Rattle.wb_names.specs.Resolving.{IsForOther, ResolvesExtension, extension_file, file_scope}
+use Rattle.wb_certify_host.specs.Resolving.{IsForOther, ResolvesExtension, extension_file, file_scope}
 use Rattle.wb_names_theory.specs.NamesOk.{NamesOk, Scope}
 use Rattle.wb_names_theory.specs.Refusals.{IsTrueRefusal}
 use Rattle.wb_names_theory.specs.declared.refusal.NameRefusal.{NameRefusal}
@@ -29,10 +29,11 @@ not_host x e = cc
 
 module _ (host : ResolvedParts) (spec : SpecView) (r : ResolvedParts) (names : ResolvesExtension host spec r) where
   by_cases : (refusal : NameRefusal) → ((spec.header ≡ h.Host) × (refusal ≡ n.WrongKind spec.name)) ⊎ IsForOther host spec refusal
-      ⊎ ((spec.header ≡ h.Extension host.host) × IsTrueRefusal (file_scope (extension_file host spec)) refusal) → IsNameMemory refusal
+      ⊎ ((spec.header ≡ h.Extension host.host) × IsTrueRefusal (file_scope spec.format (extension_file host spec)) refusal)
+      → IsNameMemory refusal
   by_cases refusal (inl is) = absurd (not_host host.host (sym names.header ∙ is.0))
   by_cases refusal (inr (inl other)) = absurd (other.differs (same_name other.other host.host (sym other.header ∙ names.header)))
-  by_cases refusal (inr (inr is)) = true_excluded (file_scope (extension_file host spec)) names.names refusal is.1
+  by_cases refusal (inr (inr is)) = true_excluded (file_scope spec.format (extension_file host spec)) names.names refusal is.1
 
 pub names_exclude : (host : ResolvedParts) (spec : SpecView) (r : ResolvedParts) → NamesExclude host spec r
 names_exclude host spec r names (n.Duplicate name) is = by_cases host spec r names (n.Duplicate name) is

@@ -1,8 +1,8 @@
 -- Preferences of a specification as pairs of terminals.
 use Rattle.std.proofs.Common.{◌≡◌, ◌∙◌, ℕ, List, All, length, map, sym, ap, subst}
-use Rattle.wb_determinism_host.specs.Hosts.{AreAcyclic}
-use Rattle.wb_determinism_host.specs.Lexicons.{preference_pairs}
-use Rattle.wb_determinism_host.proofs.HostLemmas.{edges_below}
+use Rattle.wb_certify_host.specs.DeterministicHosts.{AreAcyclic}
+use Rattle.wb_certify_host.specs.Lexicons.{preference_pairs}
+use Rattle.wb_certify_host.proofs.DeterministicHostLemmas.{edges_below}
 use Rattle.wb_graph.specs.Graphs.{IsEdgeBelow}
 use Rattle.wb_graph.specs.Orders.{IsCycle, IsSimpleCycle}
 use Rattle.wb_syntax_resolved.specs.declared.resolved.ResolvedParts.{ResolvedParts}

@@ -7,12 +7,12 @@ use Rattle.wb_certify_host.specs.Refusals.{start_of}
 use Rattle.wb_certify_host.specs.declared.refusal.CertifyRefusal.{CertifyRefusal}
 use Rattle.wb_certify_host.specs.declared.refusal.CertifyRefusal.TheVariants as c
 use Rattle.wb_complete.specs.Refusals.{CompleteOk}
-use Rattle.wb_determinism_host.specs.Hosts.{AreHostParts}
-use Rattle.wb_determinism_host.specs.Refusals.{IsNoMemory}
-use Rattle.wb_determinism_host.specs.declared.parts.HostParts.{HostParts}
-use Rattle.wb_determinism_host.specs.declared.refusal.DeterminismRefusal.{DeterminismRefusal}
-use Rattle.wb_determinism_host.specs.declared.refusal.DeterminismRefusal.TheVariants as d
-use Rattle.wb_determinism.specs.Extensions.{IsDeterministicExtension, IsHostBeside}
+use Rattle.wb_certify_host.specs.DeterministicHosts.{AreHostParts}
+use Rattle.wb_certify_host.specs.DeterminismRefusals.{IsNoMemory}
+use Rattle.wb_certify_host.specs.parts.HostParts.{HostParts}
+use Rattle.wb_certify_host.specs.determinism_refusal.DeterminismRefusal.{DeterminismRefusal}
+use Rattle.wb_certify_host.specs.determinism_refusal.DeterminismRefusal.TheVariants as d
+use Rattle.wb_determinism_beside.specs.DeterministicExtensions.{IsDeterministicExtension, IsHostBeside}
 use Rattle.wb_operations.specs.Operations.{OperationSignature}
 use Rattle.wb_syntax_resolved.specs.declared.resolved.ResolvedParts.{ResolvedParts}
 use Rattle.wb_syntax_resolved.specs.Resolved.{IsResolved}

@@ -3,11 +3,11 @@ use Rattle.std.specs.Prelude.{◌≡◌, ℕ, List, [], ◌∷◌, Some}
 use Rattle.wb_flow_theory.specs.Modular.{AreWellDefinedAttributes}
 use Rattle.wb_base.specs.Grammar.{GrammarView}
 use Rattle.wb_certify_host.specs.Hosts.{IsCertifiedValue}
-use Rattle.wb_determinism.specs.Extensions.{IsDeterministicExtension}
+use Rattle.wb_determinism_beside.specs.DeterministicExtensions.{IsDeterministicExtension}
 use Rattle.wb_marking_holes.specs.Holes.{with_holes_of}
 use Rattle.wb_marking.specs.Bridges.{AreBridges}
 use Rattle.wb_marking.specs.Clashes.{HasNoMarkerClash}
-use Rattle.wb_names.specs.Resolving.{ResolvesExtension}
+use Rattle.wb_certify_host.specs.Resolving.{ResolvesExtension}
 use Rattle.wb_operations.specs.Operations.{OperationSignature}
 use Rattle.wb_syntax_resolved.specs.declared.resolved.ResolvedParts.{ResolvedParts}
 use Rattle.wb_syntax.specs.SpecText.{SpecView}

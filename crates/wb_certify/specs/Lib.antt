@@ -9,12 +9,12 @@ pub mod Kept
 -- that there is one answer
 pub mod OneAnswer
 -- words of `wb_determinism_host` that callers speak of
-pub use Rattle.wb_determinism_host.specs.Hosts as DeterministicHosts
-pub use Rattle.wb_determinism_host.specs.Judged
-pub use Rattle.wb_determinism_host.specs.Lexicons
-pub use Rattle.wb_determinism_host.specs.Refusals as DeterminismRefusals
-pub use Rattle.wb_determinism_host.specs.declared.parts
-pub use Rattle.wb_determinism_host.specs.declared.refusal as determinism_refusal
+pub use Rattle.wb_certify_host.specs.DeterminismRefusals
+pub use Rattle.wb_certify_host.specs.DeterministicHosts
+pub use Rattle.wb_certify_host.specs.Judged
+pub use Rattle.wb_certify_host.specs.Lexicons
+pub use Rattle.wb_certify_host.specs.determinism_refusal
+pub use Rattle.wb_certify_host.specs.parts
 -- words of `wb_certify_host` that callers speak of
 pub use Rattle.wb_certify_host.specs.Hosts
 pub use Rattle.wb_certify_host.specs.Refusals as CertifyRefusals
@@ -22,15 +22,15 @@ pub use Rattle.wb_certify_host.specs.Tests as HostTests
 pub use Rattle.wb_certify_host.specs.WellDefined as WellDefinedHosts
 pub use Rattle.wb_certify_host.specs.declared.refusal as certify_refusal
 -- words of `wb_names` that callers speak of
-pub use Rattle.wb_names.specs.Resolving
+pub use Rattle.wb_certify_host.specs.Resolving
 -- words of `wb_determinism` that callers speak of
-pub use Rattle.wb_determinism.specs.EnvelopeClash
-pub use Rattle.wb_determinism.specs.Extensions as DeterministicExtensions
-pub use Rattle.wb_determinism.specs.Images as DeterminismImages
-pub use Rattle.wb_determinism.specs.LookaheadRule
-pub use Rattle.wb_determinism.specs.Numbers as DeterminismNumbers
-pub use Rattle.wb_determinism.specs.Refusals as ExtensionDeterminism
-pub use Rattle.wb_determinism.specs.declared.numbers as determinism_numbers
+pub use Rattle.wb_determinism_beside.specs.DeterminismImages
+pub use Rattle.wb_determinism_beside.specs.DeterminismNumbers
+pub use Rattle.wb_determinism_beside.specs.DeterministicExtensions
+pub use Rattle.wb_determinism_beside.specs.EnvelopeClash
+pub use Rattle.wb_determinism_beside.specs.ExtensionDeterminism
+pub use Rattle.wb_determinism_beside.specs.LookaheadRule
+pub use Rattle.wb_determinism_beside.specs.determinism_numbers
 -- words of `wb_determinism_beside` that callers speak of
 pub use Rattle.wb_determinism_beside.specs.KeptNumbers
 pub use Rattle.wb_determinism_beside.specs.Pieces

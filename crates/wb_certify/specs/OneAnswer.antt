@@ -3,9 +3,9 @@ use Rattle.std.specs.Prelude.{List}
 use Rattle.wb_certify_host.specs.Refusals.{IsNameMemory}
 use Rattle.wb_certify_host.specs.declared.refusal.CertifyRefusal.{CertifyRefusal}
 use Rattle.wb_certify_host.specs.declared.refusal.CertifyRefusal.TheVariants as c
-use Rattle.wb_determinism_host.specs.declared.refusal.DeterminismRefusal.{DeterminismRefusal}
+use Rattle.wb_certify_host.specs.determinism_refusal.DeterminismRefusal.{DeterminismRefusal}
 use Rattle.wb_flow.specs.declared.refusal.AttributeRefusal.{AttributeRefusal}
-use Rattle.wb_names.specs.Resolving.{IsExtensionNameRefusal, ResolvesExtension}
+use Rattle.wb_certify_host.specs.Resolving.{IsExtensionNameRefusal, ResolvesExtension}
 use Rattle.wb_names_theory.specs.declared.refusal.NameRefusal.{NameRefusal}
 use Rattle.wb_operations.specs.Operations.{OperationSignature}
 use Rattle.wb_syntax_resolved.specs.declared.resolved.ResolvedParts.{ResolvedParts}

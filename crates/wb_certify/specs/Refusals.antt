@@ -5,12 +5,12 @@ use Rattle.wb_certify_host.specs.Refusals.{IsAttributeMemory, IsNameMemory, IsTy
 use Rattle.wb_certify_host.specs.declared.refusal.CertifyRefusal.{CertifyRefusal}
 use Rattle.wb_certify_host.specs.declared.refusal.CertifyRefusal.TheVariants as c
 use Rattle.wb_complete.specs.Refusals.{CompleteOk, IsTrueCompletenessRefusal}
-use Rattle.wb_determinism_host.specs.Hosts.{AreAcyclic}
-use Rattle.wb_determinism_host.specs.Lexicons.{preference_pairs}
-use Rattle.wb_determinism_host.specs.Refusals.{IsNoMemory}
-use Rattle.wb_determinism_host.specs.declared.refusal.DeterminismRefusal.{DeterminismRefusal}
-use Rattle.wb_determinism_host.specs.declared.refusal.DeterminismRefusal.TheVariants as d
-use Rattle.wb_determinism.specs.Refusals.{IsExtensionRefusal}
+use Rattle.wb_certify_host.specs.DeterministicHosts.{AreAcyclic}
+use Rattle.wb_certify_host.specs.Lexicons.{preference_pairs}
+use Rattle.wb_certify_host.specs.DeterminismRefusals.{IsNoMemory}
+use Rattle.wb_certify_host.specs.determinism_refusal.DeterminismRefusal.{DeterminismRefusal}
+use Rattle.wb_certify_host.specs.determinism_refusal.DeterminismRefusal.TheVariants as d
+use Rattle.wb_determinism_beside.specs.ExtensionDeterminism.{IsExtensionRefusal}
 use Rattle.wb_flow.specs.Refusals.{FlowsOk, IsTrueFlowRefusal}
 use Rattle.wb_flow.specs.declared.refusal.AttributeRefusal.{AttributeRefusal}
 use Rattle.wb_complete.specs.ForwardRefusals.{IsTrueForwardRefusal}
@@ -20,7 +20,7 @@ use Rattle.wb_marking.specs.Bridges.{AreBridges}
 use Rattle.wb_marking.specs.Refusals as marks
 use Rattle.wb_marking.specs.Refusals.{IsBridgeRefusal, IsClashRefusal}
 use Rattle.wb_marking.specs.declared.refusal.MarkRefusal.{MarkRefusal}
-use Rattle.wb_names.specs.Resolving.{IsExtensionNameRefusal, ResolvesExtension}
+use Rattle.wb_certify_host.specs.Resolving.{IsExtensionNameRefusal, ResolvesExtension}
 use Rattle.wb_operations.specs.Operations.{OperationSignature}
 use Rattle.wb_syntax_resolved.specs.declared.attribution.AttributionParts.{AttributionParts}
 use Rattle.wb_syntax_resolved.specs.declared.resolved.ResolvedParts.{ResolvedParts}

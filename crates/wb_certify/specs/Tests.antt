@@ -6,7 +6,7 @@ use Rattle.wb_certify_host.specs.Refusals.{IsAttributeMemory, start_of}
 use Rattle.wb_certify_host.specs.declared.refusal.CertifyRefusal.{CertifyRefusal}
 use Rattle.wb_certify_host.specs.declared.refusal.CertifyRefusal.TheVariants as c
 use Rattle.wb_complete.specs.Refusals.{CompleteOk}
-use Rattle.wb_determinism_host.specs.declared.refusal.DeterminismRefusal.{DeterminismRefusal}
+use Rattle.wb_certify_host.specs.determinism_refusal.DeterminismRefusal.{DeterminismRefusal}
 use Rattle.wb_flow.specs.Refusals.{FlowsOk}
 use Rattle.wb_syntax_resolved.specs.declared.attribution.AttributionParts.{AttributionParts}
 use Rattle.wb_syntax_resolved.specs.declared.resolved.ResolvedParts.{ResolvedParts}

@@ -4,15 +4,14 @@
 //! first rule that fails.
 
 ghost use Rattle.std.specs.Prelude.{IfErr, IfOk, IfSome, IsSome};
-ghost use Rattle.wb_determinism.specs.Extensions.{IsDeterministicExtension, IsHostBeside};
-ghost use Rattle.wb_determinism.specs.Refusals.{IsExtensionRefusal};
+ghost use Rattle.wb_determinism_beside.specs.DeterministicExtensions.{IsDeterministicExtension, IsHostBeside};
+ghost use Rattle.wb_determinism_beside.specs.ExtensionDeterminism.{IsExtensionRefusal};
 ghost use Rattle.wb_certify.specs.Inner.Tests.{AreClearBeside, IsOfHost, IsReasonBeside};
 
 use crate::marks::test_marks;
 use std::alloc::Global;
-use wb_determinism::extension_determinism;
-use wb_determinism_beside::is_deterministic_beside;
-use wb_determinism_host::{DeterminismRefusal, HostParts};
+use wb_certify_host::{DeterminismRefusal, HostParts};
+use wb_determinism_beside::{extension_determinism, is_deterministic_beside};
 use wb_syntax_resolved::Resolved;
 
 // Whether markers keep their rules, and the extension is deterministic. Markers are tested first.

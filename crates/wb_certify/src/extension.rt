@@ -3,15 +3,14 @@
 //! Names first, then what the numbered value of host and extension has to meet.
 
 ghost use Rattle.std.specs.Prelude.{◌≡◌, [], IfErr, IfOk};
-ghost use Rattle.wb_names.specs.Resolving.{ResolvesExtension};
+ghost use Rattle.wb_certify_host.specs.Resolving.{ResolvesExtension};
 ghost use Rattle.wb_certify.specs.Extensions.{IsCertifiedExtension};
 ghost use Rattle.wb_certify.specs.Refusals.{IsExtensionCertifyRefusal};
 
 use crate::CertifiedExtension;
 use crate::value::certify_beside;
 use std::alloc::Global;
-use wb_certify_host::{CertifiedHost, CertifyRefusal};
-use wb_names::resolve_extension;
+use wb_certify_host::{CertifiedHost, CertifyRefusal, resolve_extension};
 use wb_names_theory::NameRefusal;
 use wb_operations::{Meaning, OperationTable};
 use wb_syntax::Spec;

@@ -6,7 +6,7 @@ ghost use Rattle.wb_syntax_resolved.specs.declared.resolved.ResolvedParts.{Resol
 ghost use Rattle.wb_syntax.specs.SpecText.{SpecView};
 ghost use Rattle.wb_certify.specs.OneAnswer.{HasOneAnswer, NamesExclude};
 
-use wb_determinism::extension_refusals_law;
+use wb_determinism_beside::extension_refusals_law;
 
 /// That an extension is certified excludes each refusal but out of memory, and a refusal of one sort excludes one of another.
 pub fn one_answer_law()

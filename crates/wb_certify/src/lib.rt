@@ -21,8 +21,7 @@ pub use marks::test_marks;
 pub use value::{certify_beside, check_attributes};
 pub use wb_certify_host as hosts;
 pub use wb_certify_host::{
-    CertifiedHost, CertifyRefusal, certify_host, certify_resolved, check_well_defined,
+    CertifiedHost, CertifyRefusal, DeterminismRefusal, HostFacts, HostParts, certify_host,
+    certify_resolved, check_well_defined, host_facts, judge_host, resolve_extension, resolve_host,
 };
-pub use wb_determinism::judge_extension;
-pub use wb_determinism_host::{DeterminismRefusal, HostFacts, HostParts, host_facts, judge_host};
-pub use wb_names::{resolve_extension, resolve_host};
+pub use wb_determinism_beside::judge_extension;

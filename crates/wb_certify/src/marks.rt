@@ -3,14 +3,14 @@
 //! Each test in the order in which refusals are shown: bridges, preferences, and then clashes of markers.
 
 ghost use Rattle.std.specs.Prelude.{◌≡◌, IfErr, IfOk, IsSome};
-ghost use Rattle.wb_determinism_host.specs.Hosts.{AreAcyclic};
-ghost use Rattle.wb_determinism_host.specs.Refusals.{IsBeforeConflict};
+ghost use Rattle.wb_certify_host.specs.DeterministicHosts.{AreAcyclic};
+ghost use Rattle.wb_certify_host.specs.DeterminismRefusals.{IsBeforeConflict};
 ghost use Rattle.wb_certify.specs.Tests.{IsMarkReason, KeepMarkers};
 ghost use Rattle.wb_certify.specs.Inner.Tests.{HaveBridges};
 
 use std::alloc::Global;
 use wb_base::Sequence;
-use wb_determinism_host::{DeterminismRefusal, pairs_of};
+use wb_certify_host::{DeterminismRefusal, pairs_of};
 use wb_lexical::preference_cycle;
 use wb_marking::{MarkRefusal, check_bridges, check_clashes};
 use wb_syntax_resolved::Resolved;

@@ -12,3 +12,5 @@ mod RecheckedExtensionLemmas
 mod RecheckedHostLemmas
 mod OneRecheckedExtension
 mod OneRecheckedHost
+-- lemmas of `wb_certify_shown` that callers cite
+pub use Rattle.wb_certify_shown.proofs.HoleLemmas

@@ -133,7 +133,7 @@ module _ (host : ResolvedParts) where
   -- names of an extension for another host aren't refused otherwise
   by_header : (spec : SpecView) (name : List ℕ) (shown : Refusal) → spec.header ≡ h.Extension name → name ≢ host.host
       → (refusal : NameRefusal) → ((spec.header ≡ h.Host) × (refusal ≡ n.WrongKind spec.name)) ⊎ IsForOther host spec refusal
-      ⊎ ((spec.header ≡ h.Extension host.host) × IsTrueRefusal (file_scope (extension_file host spec)) refusal)
+      ⊎ ((spec.header ≡ h.Extension host.host) × IsTrueRefusal (file_scope spec.format (extension_file host spec)) refusal)
       → of_spec (name_reason refusal) ≡ Some shown → ⊥
   by_header spec name shown header differs refusal (inl (is, reason)) shows = no_host name (sym header ∙ is)
   by_header spec name shown header differs refusal (inr (inl other)) shows =

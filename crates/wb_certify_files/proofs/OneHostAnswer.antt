@@ -173,8 +173,8 @@ module _ (r : ResolvedParts) (operations : List OperationSignature) where
   value_excludes is shown c.NoStart reason shows =
       none_some (sym reason.none ∙ is.start)
   value_excludes is shown (c.Determinism refusal) reason shows =
-      reason.1 (excluded r is.grammar refusal (subst (λ (g : Option GrammarView). IsDeterminismOf r g refusal) is.start reason.0.reason)
-      is.deterministic)
+      reason.1 (excluded r is.grammar _ refusal
+      (subst (λ (g : Option GrammarView). IsDeterminismOf r g refusal) is.start reason.0.reason) is.deterministic)
   value_excludes is shown (c.Attributes refusal) reason shows =
       let start : start_of r ≡ Some is.grammar.start = ap (option_map (λ (g : GrammarView). g.start)) is.start in
       attributes_exclude (Some is.grammar.start) is.attributes refusal

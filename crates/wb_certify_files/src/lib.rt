@@ -28,9 +28,10 @@ pub use laws::{header_law, one_extension_answer_law, one_host_answer_law, one_we
 pub use recheck_laws::{one_rechecked_extension_law, one_rechecked_host_law};
 pub use rechecked_extension::rechecked_extension_of;
 pub use rechecked_host::rechecked_host_of;
-pub use wb_certify_shown::written_rule;
+pub use wb_certify_shown::{terminal_name, terminals_in, written_rule};
 pub use wb_recheck::{
-    CertifiedExtension, CertifiedHost, RecheckedHost, extension_certificate, host_certificate,
-    one_text_law, release_extensions,
+    CertifiedExtension, CertifiedHost, CertifyRefusal, DeterminismRefusal, RecheckedHost,
+    certify_beside, certify_resolved, extension_certificate, host_certificate, one_text_law,
+    release_extensions,
 };
 pub use well_defined::well_defined_host_of;

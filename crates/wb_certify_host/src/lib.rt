@@ -13,4 +13,8 @@ pub use certified::CertifiedHost;
 pub use host::certify_host;
 pub use refusal::CertifyRefusal;
 pub use value::{certify_resolved, check_attributes, check_kinds, start, without_start};
+pub use wb_determinism_host::{
+    DeterminismRefusal, EnvelopeFault, HostFacts, HostParts, host_facts, judge_host, pairs_of,
+};
+pub use wb_names::{resolve_extension, resolve_host};
 pub use well_defined::check_well_defined;

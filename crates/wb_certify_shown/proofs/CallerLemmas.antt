@@ -1,8 +1,8 @@
 -- Every reason for which an extension isn't deterministic with its host is shown, but out of memory.
 use Rattle.std.proofs.Common.{◌≡◌, None, Some}
-use Rattle.wb_determinism_host.specs.Refusals.{IsNoMemory}
-use Rattle.wb_determinism_host.specs.declared.refusal.DeterminismRefusal.{DeterminismRefusal}
-use Rattle.wb_determinism_host.specs.declared.refusal.DeterminismRefusal.TheVariants as d
+use Rattle.wb_certify_host.specs.DeterminismRefusals.{IsNoMemory}
+use Rattle.wb_certify_host.specs.determinism_refusal.DeterminismRefusal.{DeterminismRefusal}
+use Rattle.wb_certify_host.specs.determinism_refusal.DeterminismRefusal.TheVariants as d
 use Rattle.wb_marking.specs.Refusals as M
 use Rattle.wb_marking.specs.declared.refusal.MarkRefusal.{MarkRefusal}
 use Rattle.wb_marking.specs.declared.refusal.MarkRefusal.TheVariants as m

@@ -13,7 +13,7 @@ use crate::holes::{lookahead_name, reduction_name};
 use crate::names::{production_name, terminal_name};
 use std::alloc::{AllocError, Global};
 use wb_base::{Bytes, Sequence, Symbol};
-use wb_determinism_host::{DeterminismRefusal, EnvelopeFault};
+use wb_certify_host::{DeterminismRefusal, EnvelopeFault};
 use wb_items::Item;
 use wb_marking::MarkRefusal;
 use wb_report::{ExtensionReason, Refusal, ShownConflict, ShownItem};

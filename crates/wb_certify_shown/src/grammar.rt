@@ -10,7 +10,7 @@ use crate::holes::{lookahead_name, reduction_name, symbol_name};
 use crate::names::{nonterminal_name, terminal_name};
 use std::alloc::{AllocError, Global};
 use wb_base::{Bytes, Sequence, Symbol, push};
-use wb_determinism_host::DeterminismRefusal;
+use wb_certify_host::DeterminismRefusal;
 use wb_grammar::Reason;
 use wb_lookahead::Action;
 use wb_report::{GrammarReason, Refusal, ShownAction, ShownConflict};

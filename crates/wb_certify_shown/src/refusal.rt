@@ -9,8 +9,7 @@ use crate::extension::extension_rule;
 use crate::grammar::grammar_rule;
 use crate::specification::{name_rule, type_rule};
 use std::alloc::{AllocError, Global};
-use wb_certify_host::CertifyRefusal;
-use wb_determinism_host::DeterminismRefusal;
+use wb_certify_host::{CertifyRefusal, DeterminismRefusal};
 use wb_report::{GrammarReason, Refusal, SpecReason};
 use wb_syntax_resolved::Resolved;
 

@@ -122,7 +122,7 @@ module _ (host : ResolvedParts) (g : GrammarView) (operations : List OperationSi
       }
 
   of_extensions : (extended : List Extended) → All Both extended →
-      AllZip (IsAddedGrammar g) (additions_of host g extended) (grammars_of g host.extensible (pieces_of (written_in extended)))
+      AllZip (IsAddedGrammar g) (additions_of host g extended) (grammars_of g host.extensible (pieces_of (written_in g extended)))
   of_extensions [] each = tt
   of_extensions (e ∷ rest) each = (of_extension e (All-head Both e rest each), of_extensions rest (All-tail Both e rest each))
 
@@ -130,8 +130,8 @@ module _ (host : ResolvedParts) (g : GrammarView) (operations : List OperationSi
   pub has_united_grammar : (extended : List Extended) → AreCertifiedApart host g operations extended →
       IsUnionGrammar (rows_of host g) (additions_of host g extended) (united_grammar host g extended)
   has_united_grammar extended apart =
-      has_union_grammar (rows_of host g) g (additions_of host g extended) (grammars_of g host.extensible (pieces_of (written_in extended)))
-      record { of_host = of_host apart.host_resolved apart.host_start; each = of_extensions extended apart.each }
+      has_union_grammar (rows_of host g) g (additions_of host g extended)
+      (grammars_of g host.extensible (pieces_of (written_in g extended))) record { of_host = of_host apart.host_resolved apart.host_start; each = of_extensions extended apart.each }
 
   pub agrees : (extended : List Extended) → AreCertifiedApart host g operations extended →
       AgreesWith (attributes_of host g extended).signatures (united_grammar host g extended)

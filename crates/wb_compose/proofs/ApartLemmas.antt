@@ -1,6 +1,6 @@
 -- How a certified extension is written beside its host: no clash at its prefixes and envelopes, and markers that are ordered.
-use Rattle.std.proofs.Common.{◌≡◌, inl, inr, [], ℕ, zero, suc, Bool, true, false, List, Option, Some, None, length, slice_get, ap, refl}
-use Rattle.std.proofs.Common.{sym, subst, ◌∙◌, arith}
+use Rattle.std.proofs.Common.{◌≡◌, inl, inr, [], ℕ, zero, suc, Bool, true, false, List, Option, Some, None, length, map, slice_get}
+use Rattle.std.proofs.Common.{ap, refl, sym, subst, ◌∙◌, arith}
 use Rattle.std.specs.Prelude.{slice_index_or}
 use Rattle.std.proofs.lemmas.Option.{same_Some}
 use Rattle.wb_base.specs.declared.symbol.Symbol.{Symbol}
@@ -8,7 +8,7 @@ use Rattle.wb_base.specs.Grammar.{GrammarView}
 use Rattle.wb_base.specs.Identifiers.{IsName}
 use Rattle.wb_determinism_contexts.specs.Considered.{HasNoClashAt, LexiconView}
 use Rattle.wb_certify.specs.DeterministicHosts.{AreAcyclic}
-use Rattle.wb_certify.specs.Lexicons.{lexicon_of}
+use Rattle.wb_certify.specs.Lexicons.{is_host_layout, lexicon_beside, lexicon_of}
 use Rattle.wb_certify.specs.EnvelopeClash.{HasNoEnvelopeClash, IsEnvelopeClash}
 use Rattle.wb_certify.specs.determinism_numbers.Numbers.{Numbers}
 use Rattle.wb_certify.specs.DeterminismImages.{is_marker_row, is_marking}
@@ -35,14 +35,19 @@ use Rattle.wb_compose_theory_grammar.specs.Numberings.{up_of}
 use Rattle.wb_compose_theory_language.specs.Envelopes as forms
 use Rattle.wb_compose_theory_language.specs.Apart.{AreMarkersOrdered, HasNoNewClash, IsMarkerRow, IsPieceApart, IsRivalRow}
 use Rattle.wb_compose.specs.Written.{written_with}
-use Rattle.wb_compose.proofs.WrittenLemmas.{has_rows, no_colon, pattern_of, written_beside}
-use Rattle.wb_certify.proofs.LayoutRows.{from_map}
-use Rattle.wb_certify.proofs.WrittenRows.{host_owner}
+use Rattle.wb_compose.proofs.WrittenLemmas.{no_colon, of_grammar, pattern_of, rows_beside, written_beside}
+use Rattle.wb_certify.proofs.LayoutRows.{from_map, kind_layout, layout_past}
+use Rattle.wb_certify.proofs.WrittenRows.{host_owner, not_own_place, own_decided, own_owner, up_below}
 
--- a clash in an envelope in the words of unions is one in those of the test
-clash_there : (g : GrammarView) (Kernel : Item → Type 0) (lexicon : LexiconView) (left right : ℕ) (text : List ℕ) →
-    forms.IsEnvelopeClash g Kernel lexicon left right text → IsEnvelopeClash g Kernel lexicon left right text
-clash_there g Kernel lexicon left right text c = record {
+-- what is scanned of so many terminals of the host, and the host's layout
+abbrev pub host_part : ResolvedParts → GrammarView → ℕ → LexiconView
+host_part r g n = record (lexicon_of r g) { scanned = n; layout = map is_host_layout r.terminals }
+
+-- a clash in an envelope in the words of unions, where an extension's layout isn't considered, is one in those of the test
+clash_there : (r : ResolvedParts) (g h : GrammarView) (first n : ℕ) (Kernel : Item → Type 0) (left right : ℕ) (text : List ℕ) →
+    forms.IsEnvelopeClash h Kernel (record (lexicon_beside r g first) { scanned = n }) left right text →
+    IsEnvelopeClash h Kernel (host_part r g n) left right text
+clash_there r g h first n Kernel left right text c = record {
   different = c.different;
   left_considered = c.left_considered;
   right_considered = c.right_considered;
@@ -82,7 +87,7 @@ module _ (host r : ResolvedParts) (spec : SpecView) (names : ResolvesExtension h
     (whole : IsResolved r) (h g : GrammarView) (host_start : host.grammar ≡ Some h) (start : r.grammar ≡ Some g)
     (alone : host.attributes.extensions ≡ []) where
   -- a marker of the extension is a marking row
-  marker_row : (t : ℕ) → IsMarkerRow h host.extensible (lexicon_of host h) (written_with r g) t →
+  marker_row : (t : ℕ) → IsMarkerRow h host.extensible (lexicon_of host h) (written_with h r g) t →
       (row : Terminal) × (slice_get r.terminals t ≡ Some row) × (row.kind ≡ Marking)
   marker_row t (a, mark) = by (is_marker_row (slice_get r.terminals t)) refl
     where
@@ -107,13 +112,20 @@ module _ (host r : ResolvedParts) (spec : SpecView) (names : ResolvesExtension h
 
   -- a rival of a marker is the host's, or no plain terminal of the extension
   rival_row : (own rival : Terminal) (t : ℕ) → own.owner ≡ 1 → slice_get r.terminals t ≡ Some rival →
-      IsRivalRow h host.extensible (lexicon_of host h) (written_with r g) t → IsRival own rival
+      IsRivalRow h host.extensible (lexicon_of host h) (written_with h r g) t → IsRival own rival
   rival_row own rival t mine at (inl low) =
-      inl (host_owner host r spec names host_whole whole h g host_start start alone t rival at (λ is.
-      let a = is.0 in omega (arith, a, low)))
+      let few = (of_grammar host h host_whole host_start).terminals_len in
+      let stays = up_below host r spec names host_whole whole h g host_start start alone t low in
+      inl (host_owner host r spec names host_whole whole h g host_start start alone t rival at
+      (not_own_place host r spec names host_whole whole h g host_start start alone t t (omega (arith, low, few)) (sym stays)))
   rival_row own rival t mine at (inr (inl (far, under))) =
-      inl (host_owner host r spec names host_whole whole h g host_start start alone t rival at (λ is.
-      let a = is.1 in omega (arith, a, far)))
+      elim (own_decided host r spec names host_whole whole h g host_start start alone t) [
+        | inl is_own ↦
+            let kind_is = kind_layout rival.kind (layout_past r g whole start t rival at rival.kind refl far) in
+            let owner_is = own_owner host r spec names host_whole whole h g host_start start alone t rival at is_own in
+            inr (owner_is ∙ sym mine, λ plain. let bad : Ignore ≡ Plain = sym kind_is ∙ plain in cc)
+        | inr other ↦ inl (host_owner host r spec names host_whole whole h g host_start start alone t rival at other)
+      ]
   rival_row own rival t mine at (inr (inr marker)) =
       let (row, there, is) = marker_row t marker in
       let same = same_Some row rival (sym there ∙ at) in
@@ -121,7 +133,7 @@ module _ (host r : ResolvedParts) (spec : SpecView) (names : ResolvesExtension h
       inr (marking_owner t rival at kind_is ∙ sym mine, λ plain. let bad : Marking ≡ Plain = sym kind_is ∙ plain in cc)
 
   -- markers are ordered
-  markers_ordered : HasNoMarkerClash r → AreMarkersOrdered h host.extensible (lexicon_of host h) (written_with r g)
+  markers_ordered : HasNoMarkerClash r → AreMarkersOrdered h host.extensible (lexicon_of host h) (written_with h r g)
   markers_ordered clear m t text marker rival differ one other out =
       let (own, own_at, marking) = marker_row m marker in
       let (row, row_at, row_is) = from_map pattern_of r.terminals t other.tree other.at in
@@ -153,33 +165,33 @@ module _ (host r : ResolvedParts) (spec : SpecView) (names : ResolvesExtension h
   module _ (m : Numbers) (same : r.extensible ≡ host.extensible)
       (agree : (p : ℕ) → production_up m p ≡ (up_of h g).production p) where
     -- the envelope rule in the words of unions
-    no_new_clash : HasNoEnvelopeClash (with_holes_of h host.extensible) (with_holes_of g r.extensible) m
-        (record (lexicon_of r g) { scanned = h.terminals }) →
-        HasNoNewClash h host.extensible (lexicon_of host h) (written_with r g)
+    no_new_clash : HasNoEnvelopeClash (with_holes_of h host.extensible) (with_holes_of g r.extensible) m (host_part r g h.terminals) →
+        HasNoNewClash h host.extensible (lexicon_of host h) (written_with h r g)
     no_new_clash clear prefix left right text viable new clash = there prefix left right text record {
       viable = viable;
       new = new_same (with_holes_of h host.extensible) (with_holes_of g host.extensible) (up_by m) (up_of h g) agree prefix new;
-      clash = subst (λ K. IsEnvelopeClash (with_holes_of h host.extensible) K (record (lexicon_of r g) { scanned = h.terminals }) left right
-          text) (sym (kernels_same (with_holes_of h host.extensible) (with_holes_of g host.extensible) (up_by m) (up_of h g) agree prefix))
-          (clash_there (with_holes_of h host.extensible) (HostKernel (with_holes_of g host.extensible) (up_of h g) prefix)
-          (record (lexicon_of r g) { scanned = h.terminals }) left right text clash);
+      clash = subst (λ K. IsEnvelopeClash (with_holes_of h host.extensible) K (host_part r g h.terminals) left right text)
+          (sym (kernels_same (with_holes_of h host.extensible) (with_holes_of g host.extensible) (up_by m) (up_of h g) agree prefix))
+          (clash_there r g (with_holes_of h host.extensible) (length h.productions) h.terminals
+          (HostKernel (with_holes_of g host.extensible) (up_of h g) prefix) left right text clash);
     }
       where
-        there : HasNoEnvelopeClash (with_holes_of h host.extensible) (with_holes_of g host.extensible) m
-            (record (lexicon_of r g) { scanned = h.terminals })
-        there = subst (λ xs. HasNoEnvelopeClash (with_holes_of h host.extensible) (with_holes_of g xs) m
-            (record (lexicon_of r g) { scanned = h.terminals })) same clear
+        there : HasNoEnvelopeClash (with_holes_of h host.extensible) (with_holes_of g host.extensible) m (host_part r g h.terminals)
+        there = subst (λ xs. HasNoEnvelopeClash (with_holes_of h host.extensible) (with_holes_of g xs) m (host_part r g h.terminals)) same
+            clear
 
     -- all of it
-    pub piece_apart : AreAcyclic r → HasNoClashAt (with_holes_of g r.extensible) (lexicon_of r g) →
-        HasNoEnvelopeClash (with_holes_of h host.extensible) (with_holes_of g r.extensible) m
-        (record (lexicon_of r g) { scanned = h.terminals }) → HasNoMarkerClash r →
-        IsPieceApart h host.extensible (lexicon_of host h) (written_with r g)
+    pub piece_apart : AreAcyclic r → HasNoClashAt (with_holes_of g r.extensible) (lexicon_beside r g (length h.productions)) →
+        HasNoEnvelopeClash (with_holes_of h host.extensible) (with_holes_of g r.extensible) m (host_part r g h.terminals) →
+        HasNoMarkerClash r → IsPieceApart h host.extensible (lexicon_of host h) (written_with h r g)
     piece_apart acyclic no_clash enveloped markers = record {
-      clear = record { rows = has_rows r g whole start; acyclic = acyclic };
-      beside = written_beside host r spec names host_whole whole h g host_start start alone (written_with r g).piece.mark
-          (written_with r g).piece.bridge (written_with r g).name;
-      no_clash = subst (λ xs. HasNoClashAt (with_holes_of g xs) (lexicon_of r g)) same no_clash;
+      clear = record {
+        rows = rows_beside host r spec names host_whole whole h g host_start start alone;
+        acyclic = acyclic;
+      };
+      beside = written_beside host r spec names host_whole whole h g host_start start alone (written_with h r g).piece.mark
+          (written_with h r g).piece.bridge (written_with h r g).name;
+      no_clash = subst (λ xs. HasNoClashAt (with_holes_of g xs) (lexicon_beside r g (length h.productions))) same no_clash;
       no_new_clash = no_new_clash enveloped;
       markers = markers_ordered markers;
       name = no_colon (slice_index_or r.attributes.extensions 0 []) name_is;

@@ -1,5 +1,5 @@
 -- A certified host and certified extensions are what unions are made of.
-use Rattle.std.proofs.Common.{◌≡◌, ◌∙◌, ◌∷◌, [], ℕ, List, IsTrue, All, map, refl, sym, ap, subst}
+use Rattle.std.proofs.Common.{◌≡◌, ◌∙◌, ◌∷◌, [], ℕ, List, IsTrue, All, length, map, refl, sym, ap, subst}
 use Rattle.std.specs.List.{AllZip}
 use Rattle.std.proofs.lemmas.List.Elements.{All-cons, All-head, All-nil, All-tail}
 use Rattle.wb_base.specs.Different.{Differ}
@@ -22,7 +22,7 @@ use Rattle.wb_compose_theory_language.specs.Languages.{AreWithdrawn, IsUnitedLan
 use Rattle.wb_compose_theory_language.specs.Written.{WrittenPiece, pieces_of}
 use Rattle.wb_compose_language.specs.declared.addition.Addition.{Addition}
 use Rattle.wb_compose_language.specs.declared.addition.Lent.{Lent}
-use Rattle.wb_compose_language.specs.Lents.{HasBridges, IsUnitable, all_in, is_marker_in, own_in}
+use Rattle.wb_compose_language.specs.Lents.{HasBridges, IsUnitable, all_in, is_marker_in, own_in, written_beside}
 use Rattle.wb_compose_language.specs.Lents as lents
 use Rattle.wb_compose_language.specs.United.{HasWithdrawn, IsUnion}
 use Rattle.wb_compose.specs.Composed.{IsComposed, IsExtended, IsWith, name_of}
@@ -47,12 +47,12 @@ each_extended (e ∷ es) [] all = absurd all
 each_extended (e ∷ es) (x ∷ xs) all = (record { resolved_is = refl; start = all.0.start }, each_extended es xs all.1)
 
 -- are written as they were certified
-all_written : (es : List ExtensionView) (xs : List Addition) (all : AllZip IsLent es xs) →
-    map lents.written_in xs ≡ written_in (all_extended es xs all)
-all_written [] [] all = refl
-all_written [] (x ∷ xs) all = absurd all
-all_written (e ∷ es) [] all = absurd all
-all_written (e ∷ es) (x ∷ xs) all = λ j. written_is e x all.0 j ∷ all_written es xs all.1 j
+all_written : (h : GrammarView) (es : List ExtensionView) (xs : List Addition) (all : AllZip IsLent es xs) →
+    map (lents.written_in (length h.productions)) xs ≡ written_in h (all_extended es xs all)
+all_written h [] [] all = refl
+all_written h [] (x ∷ xs) all = absurd all
+all_written h (e ∷ es) [] all = absurd all
+all_written h (e ∷ es) (x ∷ xs) all = λ j. written_is h e x all.0 j ∷ all_written h es xs all.1 j
 
 -- and have their names
 all_named : (es : List ExtensionView) (xs : List Addition) (all : AllZip IsLent es xs) →
@@ -99,10 +99,10 @@ module _ (host : CertifiedView) (es : List ExtensionView) (xs : List Addition) (
 
   -- what is lent of the host, and of all extensions
   own_is : own_in lent ≡ lexicon_of host.resolved h
-  own_is = lexicon_is host.resolved h h lent.terminals.now lent.preferences.now refl is.terminals_are is.preferences_are
+  own_is = lexicon_is host.resolved h lent.terminals.now lent.preferences.now is.terminals_are is.preferences_are
 
-  all_is : all_in lent ≡ written_in extended
-  all_is = ap (map lents.written_in) is.extensions_are ∙ all_written es xs all
+  all_is : all_in lent ≡ written_in h extended
+  all_is = ap (map (written_beside lent)) is.extensions_are ∙ all_written h es xs all
 
   -- markers begin bridges
   bridges_at : (e : ExtensionView) (x : Addition) → Both (extended_by e x) → IsLent e x → HasBridges lent x
@@ -125,11 +125,11 @@ module _ (host : CertifiedView) (es : List ExtensionView) (xs : List Addition) (
   pub unitable : Differ (map name_of es) → IsUnitable lent
   unitable differ = record {
     certified = subst (λ ps. AreCertified h lent.extensible.now (pieces_of ps)) (sym all_is)
-        (subst (λ extensible. AreCertified h extensible (pieces_of (written_in extended))) (sym is.extensible_are)
+        (subst (λ extensible. AreCertified h extensible (pieces_of (written_in h extended))) (sym is.extensible_are)
         (all_certified host.resolved h host.operations extended apart));
     apart = subst (λ ps. AreWrittenApart h lent.extensible.now (own_in lent) ps) (sym all_is)
-        (subst (λ own. AreWrittenApart h lent.extensible.now own (written_in extended)) (sym own_is)
-        (subst (λ extensible. AreWrittenApart h extensible (lexicon_of host.resolved h) (written_in extended)) (sym is.extensible_are)
+        (subst (λ own. AreWrittenApart h lent.extensible.now own (written_in h extended)) (sym own_is)
+        (subst (λ extensible. AreWrittenApart h extensible (lexicon_of host.resolved h) (written_in h extended)) (sym is.extensible_are)
         (all_apart host.resolved h host.operations extended apart (subst Differ (all_named es xs all) differ))));
     bridges = subst (λ ys. All (HasBridges lent) ys) (sym is.extensions_are) (all_bridges es xs all each);
   }
@@ -147,9 +147,9 @@ module _ (host : CertifiedView) (es : List ExtensionView) (xs : List Addition) (
   }
     where
       moved : (P : List ℕ → LexiconView → List WrittenPiece → Type 0) → P lent.extensible.now (own_in lent) (all_in lent) →
-          P host.resolved.extensible (lexicon_of host.resolved h) (written_in extended)
-      moved P here = subst (λ z. P z (lexicon_of host.resolved h) (written_in extended)) is.extensible_are
-          (subst (λ z. P lent.extensible.now z (written_in extended)) own_is (subst (P lent.extensible.now (own_in lent)) all_is here))
+          P host.resolved.extensible (lexicon_of host.resolved h) (written_in h extended)
+      moved P here = subst (λ z. P z (lexicon_of host.resolved h) (written_in h extended)) is.extensible_are
+          (subst (λ z. P lent.extensible.now z (written_in h extended)) own_is (subst (P lent.extensible.now (own_in lent)) all_is here))
 
 -- what is lent of equal ones
 pub lent_same : (r q : ResolvedParts) (xs ys : List Addition) (lent : Lent) → r ≡ q → xs ≡ ys → IsLentHost r xs lent → IsLentHost q ys lent

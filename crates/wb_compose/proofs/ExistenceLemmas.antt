@@ -19,12 +19,12 @@ module _ (host : ResolvedParts) (h : GrammarView) (operations : List OperationSi
     (apart : AreCertifiedApart host h operations extensions) (names : Differ (map (λ (e : Extended). name_in e.resolved) extensions)) where
   pub some_language : ¬ ¬ ((l : LanguageView) × IsLanguageFor host h extensions l)
   some_language =
-      follows (law h host.extensible (lexicon_of host h) (written_in extensions) (all_certified host h operations extensions apart)
+      follows (law h host.extensible (lexicon_of host h) (written_in h extensions) (all_certified host h operations extensions apart)
       (all_apart host h operations extensions apart names) (all_spelled host h operations extensions apart))
       (λ (l, of_union, is). (l, record { of_union = of_union; language = is }))
 
   pub some_answer : (text : List ℕ) → ¬ ¬ ((l : LanguageView) × AnswersText host h extensions text l)
   some_answer text =
-      follows (text_answer h host.extensible (lexicon_of host h) (written_in extensions) (all_certified host h operations extensions apart)
-      (all_apart host h operations extensions apart names) (all_spelled host h operations extensions apart) text)
+      follows (text_answer h host.extensible (lexicon_of host h) (written_in h extensions)
+      (all_certified host h operations extensions apart) (all_apart host h operations extensions apart names) (all_spelled host h operations extensions apart) text)
       (λ (l, of_union, is, answer). (l, record { is_language = record { of_union = of_union; language = is }; answer = answer }))

@@ -1,7 +1,7 @@
 -- The language of a host by itself is composed of the host and no extensions.
-use Rattle.std.proofs.Common.{◌≡◌, ◌<◌, ◌≤◌, ◌+◌, ◌-◌, ◌∙◌, ◌++◌, [], ◌∷◌, ℕ, List, Some, All, inl, inr, length, map, refl, sym, ap, subst}
-use Rattle.std.proofs.Common.{arith}
-use Rattle.std.specs.Prelude.{◌↔◌, Contains, slice_get}
+use Rattle.std.proofs.Common.{◌≡◌, ◌<◌, ◌≤◌, ◌+◌, ◌-◌, ◌∙◌, ◌++◌, [], ◌∷◌, ℕ, zero, suc, List, Option, None, Some, All, inl, inr}
+use Rattle.std.proofs.Common.{length, map, refl, sym, ap, subst, arith}
+use Rattle.std.specs.Prelude.{◌↔◌, Contains, slice_get, slice_index_or}
 use Rattle.std.specs.List.{AllZip, range_with_len}
 use Rattle.std.proofs.lemmas.Bool.{cases_lt}
 use Rattle.std.proofs.lemmas.List.{append-nil, length-map}
@@ -30,7 +30,9 @@ use Rattle.wb_compose_theory_grammar.specs.UnitedWorlds.{united}
 use Rattle.wb_compose_theory_grammar.proofs.PlaceLemmas.{spread_below, spread_past}
 use Rattle.wb_compose_theory_language.specs.Forms.{IsForm, IsWithdrawn, kept, of_extension, of_host, prefixed}
 use Rattle.wb_compose_theory_language.specs.Languages.{AreForms, AreWithdrawn, IsTextOf, IsUnitedLanguage}
-use Rattle.wb_compose_theory_language.specs.Rows.{Prefers, Reads, by_extension, by_host, host_row}
+use Rattle.wb_compose_theory.specs.Blocks.{spread}
+use Rattle.wb_compose_theory_grammar.specs.Places.{total_of}
+use Rattle.wb_compose_theory_language.specs.Rows.{Prefers, Reads, by_extension, by_host, host_row, layout_count, layouts_from, sizes}
 use Rattle.wb_compose_theory_language.specs.Rows as rows
 use Rattle.wb_compose.specs.Composed.{IsComposed, IsExtended}
 use Rattle.wb_compose.specs.HostLanguage.{host_language, layout_numbers}
@@ -46,6 +48,21 @@ alone g extensible =
     let productions = sym (append-nil g.productions) in
     λ j. record { terminals = terminals j; nonterminals = nonterminals j; start = g.start; productions = productions j }
 
+-- nothing moves where nothing is added
+unspread : (from t : ℕ) → spread from 0 0 0 t ≡ t
+unspread from t = elim (cases_lt t from) [
+  | inl below ↦ spread_below from 0 0 0 t below
+  | inr far ↦ spread_past from 0 0 0 t (omega (arith, far)) ∙ (let same : t + (0 - 0) ≡ t = omega arith in same)
+]
+
+-- a list of no productions has none at any place
+abbrev no_spans : List (Option (ℕ × ℕ))
+no_spans = []
+
+no_span : (place : ℕ) → slice_index_or no_spans place None ≡ None
+no_span zero = refl
+no_span (suc place) = refl
+
 module _ (r : ResolvedParts) (g : GrammarView) (whole : IsResolved r) (start : r.grammar ≡ Some g) where
   abbrev own : LexiconView
   own = lexicon_of r g
@@ -55,10 +72,9 @@ module _ (r : ResolvedParts) (g : GrammarView) (whole : IsResolved r) (start : r
 
   -- each number of the host stays
   stays : (t : ℕ) → host_row g r.extensible own [] t ≡ t
-  stays t = elim (cases_lt t g.terminals) [
-    | inl below ↦ spread_below g.terminals 0 0 0 t below
-    | inr far ↦ spread_past g.terminals 0 0 0 t (omega (arith, far)) ∙ (let same : t + (0 - 0) ≡ t = omega arith in same)
-  ]
+  stays t =
+      unspread (layouts_from g r.extensible own []) (spread g.terminals 0 0 (total_of (sizes g r.extensible own [])) t)
+      ∙ unspread g.terminals t
 
   few : g.terminals ≤ length r.terminals
   few = (grammar_of r g whole start).terminals_len
@@ -150,7 +166,14 @@ module _ (r : ResolvedParts) (g : GrammarView) (whole : IsResolved r) (start : r
   of_none = record {
     grammar = alone g r.extensible;
     forms = are_forms;
-    layout = λ j. range_with_len ((alone g r.extensible j).terminals) (sym expressions_len j - g.terminals);
+    layout =
+        (let all = expressions_len in
+        let counted : length r.terminals - g.terminals ≡ layout_count g r.extensible own [] = omega (arith, all) in
+        λ j. range_with_len ((alone g r.extensible j).terminals) (counted j));
+    spans = record {
+      of_host = λ place t is at. no_span place;
+      of_extension = λ place k x t listed is at. absurd (nothing_at x k listed);
+    };
     expressions_len = written.count ∙ ap (λ n. n + length l.layout) (sym (bare_len g.terminals));
     expressions = texts;
     preferences = preferred;
@@ -203,5 +226,5 @@ composed_alone host g is start = record {
 pub none_composed : (host : CertifiedView) (l : LanguageView) (withdrawn : List ℕ) → IsComposed host [] l withdrawn → withdrawn ≡ []
 none_composed host l withdrawn is =
     one_list host.resolved is.grammar is.certified.host_resolved is.start withdrawn
-    (subst (λ (xs : List Extended). AreWithdrawn is.grammar host.resolved.extensible (lexicon_of host.resolved is.grammar) (written_in xs)
-    withdrawn) (none_extended is.extended is.each) is.withdrawn_are)
+    (subst (λ (xs : List Extended). AreWithdrawn is.grammar host.resolved.extensible (lexicon_of host.resolved is.grammar)
+    (written_in is.grammar xs) withdrawn) (none_extended is.extended is.each) is.withdrawn_are)

@@ -18,6 +18,6 @@ local_lookaheads host extensions l withdrawn is = record {
   extended = is.extended;
   each = is.each;
   united_is = is.language.grammar;
-  local = are_local is.grammar host.resolved.extensible (pieces_of (written_in is.extended))
+  local = are_local is.grammar host.resolved.extensible (pieces_of (written_in is.grammar is.extended))
       (all_certified host.resolved is.grammar host.operations is.extended is.certified);
 }

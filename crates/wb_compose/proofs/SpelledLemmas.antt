@@ -1,5 +1,5 @@
 -- No terminal of what a text stands for matches the empty text, and names are bytes.
-use Rattle.std.proofs.Common.{◌≡◌, ◌++◌, ◌∷◌, ◌⊎◌, ◌∙◌, inl, inr, [], ℕ, List, Some, map, slice_get, sym, ap, subst}
+use Rattle.std.proofs.Common.{◌≡◌, ◌++◌, ◌∷◌, ◌⊎◌, ◌∙◌, inl, inr, [], ℕ, List, Some, length, map, slice_get, sym, ap, subst}
 use Rattle.std.specs.Prelude.{All, Contains, ◌<◌}
 use Rattle.std.specs.List.{AllZip}
 use Rattle.std.proofs.lemmas.List.Elements.{All-append, All-cons, All-head, All-map, All-nil, All-tail}
@@ -8,7 +8,7 @@ use Rattle.wb_base.specs.Grammar.{GrammarView}
 use Rattle.wb_base.specs.Identifiers.{IsName}
 use Rattle.wb_certify.specs.Kept.{AreCertifiedBoth}
 use Rattle.wb_certify.specs.Hosts.{IsOfText, IsWritten}
-use Rattle.wb_certify.specs.Lexicons.{lexicon_of}
+use Rattle.wb_certify.specs.Lexicons.{lexicon_beside, lexicon_of}
 use Rattle.wb_lemmas.proofs.Elements.{all_at, all_contained, all_from_contained, all_from_places}
 use Rattle.wb_lemmas.proofs.Places.{default_at}
 use Rattle.wb_lemmas.proofs.Zips.{beside}
@@ -115,7 +115,7 @@ host_some host is = value_some (host_file is.spec) host is.names.value (All-nil 
 
 module _ (host r : ResolvedParts) (h g : GrammarView) (operations : List OperationSignature)
     (both : AreCertifiedBoth host r h g operations) where
-  extension_some : HasNoEmpty (lexicon_of r g)
+  extension_some : HasNoEmpty (lexicon_beside r g (length h.productions))
   extension_some =
       scanned_some r g (value_some (extension_file host both.extends.spec) r both.extends.names.value
       (host_some host both.host_certified.of_text) (declared_some both.extends.spec both.extends.written))
@@ -132,16 +132,16 @@ module _ (host : ResolvedParts) (h : GrammarView) (operations : List OperationSi
   IsOne e = AreCertifiedBoth host e.resolved h e.grammar operations
 
   -- what holds of each holds of all as they are written
-  each_written : (P : WrittenPiece → Type 0) → ((e : Extended) → IsOne e → P (written_with e.resolved e.grammar))
-      → (extensions : List Extended) → All IsOne extensions → All P (written_in extensions)
+  each_written : (P : WrittenPiece → Type 0) → ((e : Extended) → IsOne e → P (written_with h e.resolved e.grammar))
+      → (extensions : List Extended) → All IsOne extensions → All P (written_in h extensions)
   each_written P gives [] all = All-nil P
   each_written P gives (e ∷ rest) all =
-      All-cons P (written_with e.resolved e.grammar) (written_in rest) (gives e (All-head IsOne e rest all))
+      All-cons P (written_with h e.resolved e.grammar) (written_in h rest) (gives e (All-head IsOne e rest all))
       (each_written P gives rest (All-tail IsOne e rest all))
 
   -- a certified host and certified extensions are in bytes, and nothing of them matches the empty text
   pub all_spelled : (extensions : List Extended) → AreCertifiedApart host h operations extensions →
-      AreSpelled (lexicon_of host h) (written_in extensions)
+      AreSpelled (lexicon_of host h) (written_in h extensions)
   all_spelled extensions apart = record {
     of_host = scanned_some host h (host_some host apart.host_certified.of_text);
     of_extensions = each_written (λ (x : WrittenPiece). HasNoEmpty x.lexicon)

@@ -9,4 +9,4 @@ use Rattle.wb_compose_theory_language.specs.Written.{pieces_of}
 
 -- the union of the host's grammar and of those that the host has with each extension alone
 abbrev pub united_grammar : ResolvedParts → GrammarView → List Extended → GrammarView
-united_grammar host g extended = united g host.extensible (pieces_of (written_in extended))
+united_grammar host g extended = united g host.extensible (pieces_of (written_in g extended))

@@ -25,12 +25,13 @@ pub record IsExtended (e : ExtensionView) (x : Extended) : Type 0 where
   pub start : e.resolved.grammar ≡ Some x.grammar
 
 -- with the grammars that the host has, by itself and with each extension, both are certified, the language is that of their union, and the
--- withdrawn markers are those that share a text with a terminal of another extension
+-- withdrawn markers are those that share a text with a terminal or layout of another extension
 pub record IsComposed (host : CertifiedView) (extensions : List ExtensionView) (l : LanguageView) (withdrawn : List ℕ) : Type 0 where
   pub grammar : GrammarView
   pub start : host.resolved.grammar ≡ Some grammar
   pub extended : List Extended
   pub each : AllZip IsExtended extensions extended
   pub certified : AreCertifiedApart host.resolved grammar host.operations extended
-  pub language : IsUnitedLanguage grammar host.resolved.extensible (lexicon_of host.resolved grammar) (written_in extended) l
-  pub withdrawn_are : AreWithdrawn grammar host.resolved.extensible (lexicon_of host.resolved grammar) (written_in extended) withdrawn
+  pub language : IsUnitedLanguage grammar host.resolved.extensible (lexicon_of host.resolved grammar) (written_in grammar extended) l
+  pub withdrawn_are : AreWithdrawn grammar host.resolved.extensible (lexicon_of host.resolved grammar) (written_in grammar extended)
+      withdrawn

@@ -13,7 +13,7 @@ use Rattle.wb_compose.specs.Written.{written_in}
 module _ (host : ResolvedParts) (host_grammar : GrammarView) (extensions : List Extended) where
   -- the language is that of the host with the extensions, and texts are parsed in it
   pub record IsLanguageFor (l : LanguageView) : Type 0 where
-    pub of_union : IsUnitedLanguage host_grammar host.extensible (lexicon_of host host_grammar) (written_in extensions) l
+    pub of_union : IsUnitedLanguage host_grammar host.extensible (lexicon_of host host_grammar) (written_in host_grammar extensions) l
     pub language : IsLanguage l
 
   -- besides, the text has a tree or a stop in it

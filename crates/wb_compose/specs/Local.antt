@@ -19,5 +19,5 @@ pub record HasLocalLookaheads (host : CertifiedView) (extensions : List Extensio
   pub start : host.resolved.grammar ≡ Some grammar
   pub extended : List Extended
   pub each : AllZip IsExtended extensions extended
-  pub united_is : l.grammar ≡ united grammar host.resolved.extensible (pieces_of (written_in extended))
-  pub local : AreLookaheadsLocal grammar host.resolved.extensible (pieces_of (written_in extended))
+  pub united_is : l.grammar ≡ united grammar host.resolved.extensible (pieces_of (written_in grammar extended))
+  pub local : AreLookaheadsLocal grammar host.resolved.extensible (pieces_of (written_in grammar extended))

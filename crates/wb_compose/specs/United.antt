@@ -22,4 +22,4 @@ pub record IsOfUnion (host : ResolvedParts) (operations : List OperationSignatur
   pub certified : AreCertifiedApart host grammar operations extended
   pub are : a ≡ attributes_of host grammar extended
   pub of_union : AreUnitedAttributes host grammar operations extended
-  pub agrees : AgreesWith a.signatures (united grammar host.extensible (pieces_of (written_in extended)))
+  pub agrees : AgreesWith a.signatures (united grammar host.extensible (pieces_of (written_in grammar extended)))

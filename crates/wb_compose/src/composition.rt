@@ -44,9 +44,9 @@ impl Composed {
 
 /// The language of a host and of extensions, each certified with this host over the same operations.
 ///
-/// Terminals are numbered by the host, then by each extension, and then comes the host's layout. The lookaheads of an item at a kernel
-/// are those that it has there in the host by itself or in the host with an extension, all of them taken together where several have the
-/// kernel, with all markers in the place of each hole. No clause bounds the time.
+/// Terminals are numbered by the host, then by each extension; then come the host's layout and that of each extension. The lookaheads of
+/// an item at a kernel are those that it has there in the host by itself or in the host with an extension, all of them taken together where
+/// several have the kernel, with all markers in the place of each hole. No clause bounds the time.
 pub fn compose(
     alloc: Global,
     host: &CertifiedHost,

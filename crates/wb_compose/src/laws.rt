@@ -95,8 +95,8 @@ pub fn together_law()
 /// A certified host and extensions that are certified with it alone, and have different names, are what the laws on forms ask for: they are
 /// certified, and written so that no two terminals or layouts clash.
 pub fn written_law()
-    ensures certified { (host : ResolvedParts) (h : GrammarView) (operations : List OperationSignature) (extensions : List Extended) → AreCertifiedApart host h operations extensions → AreCertified h host.extensible (pieces_of (written_in extensions)) }
-    ensures apart { (host : ResolvedParts) (h : GrammarView) (operations : List OperationSignature) (extensions : List Extended) → AreCertifiedApart host h operations extensions → Differ (map (λ (e : Extended). name_in e.resolved) extensions) → AreWrittenApart h host.extensible (lexicon_of host h) (written_in extensions) }
+    ensures certified { (host : ResolvedParts) (h : GrammarView) (operations : List OperationSignature) (extensions : List Extended) → AreCertifiedApart host h operations extensions → AreCertified h host.extensible (pieces_of (written_in h extensions)) }
+    ensures apart { (host : ResolvedParts) (h : GrammarView) (operations : List OperationSignature) (extensions : List Extended) → AreCertifiedApart host h operations extensions → Differ (map (λ (e : Extended). name_in e.resolved) extensions) → AreWrittenApart h host.extensible (lexicon_of host h) (written_in h extensions) }
 {}
 
 /// A certified host and extensions that are certified with it alone, and have different names, have a language, in which each text has a

@@ -13,5 +13,7 @@ mod value;
 pub use certified::Certified;
 pub use language::TextLanguage;
 pub use refusal::NextRefusal;
-pub use wb_certify_files::{FileRefusal, HostRefusal};
-pub use wb_compose_texts::{TextValue, TreeValue};
+pub use wb_certify_files::{FileRefusal, HostRefusal, well_defined_host_of};
+pub use wb_compose_texts::{
+    Question, TextValue, TreeValue, compose, composed_attributes, root_attribute,
+};

@@ -15,7 +15,7 @@ use Rattle.wb_compose_theory_grammar.proofs.FactLemmas.{at_map, map_at}
 use Rattle.wb_compose_theory_grammar.proofs.PlaceLemmas.{lift_past}
 use Rattle.wb_compose_theory_grammar.specs.Places.{count_before}
 use Rattle.wb_compose_theory_grammar.specs.UnitedWorlds.{terminal_sizes}
-use Rattle.wb_compose_theory_language.specs.Written.{IsOwnRow, WrittenPiece, pieces_of}
+use Rattle.wb_compose_theory_language.specs.Written.{IsOwnTerminal, WrittenPiece, pieces_of}
 use Rattle.wb_compose_theory_language.specs.Apart.{IsMarkerRow}
 use Rattle.wb_compose_theory_language.specs.Forms.{IsMarkerOf, IsWithdrawn, kept, of_extension, of_host, prefix_of, prefixed}
 use Rattle.wb_compose_theory_language.specs.Languages.{IsTextOf}
@@ -27,7 +27,7 @@ use Rattle.wb_compose_theory_language.proofs.RowLemmas.{host_below, other_not_ow
 use Rattle.wb_compose_language.specs.declared.addition.Addition.{Addition}
 use Rattle.wb_compose_language.specs.declared.addition.Lent.{Lent}
 use Rattle.wb_compose_language.specs.Inner.FormsMade.{IsFormIn, Writes}
-use Rattle.wb_compose_language.specs.Lents.{IsUnitable, all_in, own_in, written_in}
+use Rattle.wb_compose_language.specs.Lents.{IsUnitable, all_in, own_in, written_beside}
 use Rattle.wb_regex.specs.Prefixed.{IsPrefixed}
 
 -- the expression of a row
@@ -65,12 +65,12 @@ module _ (lent : Lent) (ok : IsUnitable lent) where
       (count_before (terminal_sizes lent.grammar.now lent.extensible.now (pieces_of (all_in lent))) k) t far in omega (arith, e, far)
 
   -- one number, one extension and one terminal
-  one_extension : (k l : ℕ) (x y : WrittenPiece) → Listed k x → Listed l y → (t u : ℕ) → IsOwnRow lent.grammar.now (own_in lent) x t →
-      IsOwnRow lent.grammar.now (own_in lent) y u → number_in l u ≡ number_in k t → k ≡ l
+  one_extension : (k l : ℕ) (x y : WrittenPiece) → Listed k x → Listed l y → (t u : ℕ) → IsOwnTerminal lent.grammar.now (own_in lent) x t →
+      IsOwnTerminal lent.grammar.now (own_in lent) y u → number_in l u ≡ number_in k t → k ≡ l
   one_extension k l x y at there t u mine other same = elim (cases_eq k l) [
     | inl e ↦ e
     | inr differ ↦ absurd (other_not_own lent.grammar.now lent.extensible.now (own_in lent) (all_in lent) ok.certified.are_pieces k l x y at
-        there differ t u mine (sym (row_is lent.grammar.now lent.extensible.now (own_in lent) (all_in lent) ok.certified.are_pieces l y
+        there differ t u (inl mine) (sym (row_is lent.grammar.now lent.extensible.now (own_in lent) (all_in lent) ok.certified.are_pieces l y
         there u other.1) ∙ (same ∙ row_is lent.grammar.now lent.extensible.now (own_in lent) (all_in lent) ok.certified.are_pieces k x at t
         mine.1)))
   ]
@@ -84,7 +84,7 @@ module _ (lent : Lent) (ok : IsUnitable lent) where
 
   -- a marker of the extension is its own
   pub own_marker : (k : ℕ) (x : WrittenPiece) → Listed k x → (m : ℕ) →
-      IsMarkerRow lent.grammar.now lent.extensible.now (own_in lent) x m → IsOwnRow lent.grammar.now (own_in lent) x m
+      IsMarkerRow lent.grammar.now lent.extensible.now (own_in lent) x m → IsOwnTerminal lent.grammar.now (own_in lent) x m
   own_marker k x at m marker = marker_own lent.grammar.now lent.extensible.now (own_in lent) (all_in lent) ok.certified ok.apart [] k x at m
       marker
 
@@ -92,7 +92,7 @@ module _ (lent : Lent) (ok : IsUnitable lent) where
   IsMarkerAt k x n = IsMarkerOf lent.grammar.now lent.extensible.now (own_in lent) (all_in lent) k x n
 
   -- the number of a marker of some extension is that of this one
-  pub marker_same : (k l : ℕ) (x y : WrittenPiece) → Listed k x → (t n : ℕ) → IsOwnRow lent.grammar.now (own_in lent) x t →
+  pub marker_same : (k l : ℕ) (x y : WrittenPiece) → Listed k x → (t n : ℕ) → IsOwnTerminal lent.grammar.now (own_in lent) x t →
       n ≡ number_in k t → (marker : IsMarkerAt l y n) → (k ≡ l) × (y ≡ x) × (marker.terminal ≡ t)
   marker_same k l x y at t n mine n_is marker =
       let other = own_marker l y marker.listed marker.terminal marker.marker in
@@ -187,22 +187,22 @@ module _ (lent : Lent) (ok : IsUnitable lent) where
       here = host_below lent.grammar.now lent.extensible.now (own_in lent) (all_in lent) ok.certified.are_pieces t less
 
   module _ (k : ℕ) (x : Addition) (at : slice_get lent.extensions.now k ≡ Some x) where
-    pub listed : Listed k (written_in x)
-    listed = at_map written_in lent.extensions.now k x at
+    pub listed : Listed k (written_beside lent x)
+    listed = at_map (written_beside lent) lent.extensions.now k x at
 
     -- what is read at the number of a terminal of an extension is what its row matches
     pub reads_there : (t : ℕ) (row : Terminal) (text : List ℕ) → t < x.grammar.now.terminals → slice_get x.terminals.now t ≡ Some row →
         Matches row.pattern text → ReadsIn (number_in k t) text
-    reads_there t row text less row_at m = reads.of_extension k (written_in x) t listed
-        (row_is lent.grammar.now lent.extensible.now (own_in lent) (all_in lent) ok.certified.are_pieces k (written_in x) listed t less)
+    reads_there t row text less row_at m = reads.of_extension k (written_beside lent x) t listed
+        (row_is lent.grammar.now lent.extensible.now (own_in lent) (all_in lent) ok.certified.are_pieces k (written_beside lent x) listed t less)
         (match_at x.terminals.now t row text row_at m)
 
     pub there_reads : (t : ℕ) (row : Terminal) (text : List ℕ) → t < x.grammar.now.terminals → slice_get x.terminals.now t ≡ Some row →
         ReadsIn (number_in k t) text → Matches row.pattern text
     there_reads t row text less row_at r = at_match x.terminals.now t row text row_at
-        (reads_piece lent.grammar.now lent.extensible.now (own_in lent) (all_in lent) ok.certified.are_pieces ok.apart k (written_in x)
+        (reads_piece lent.grammar.now lent.extensible.now (own_in lent) (all_in lent) ok.certified.are_pieces ok.apart k (written_beside lent x)
         listed t text (subst (λ z. ReadsIn z text)
-        (row_is lent.grammar.now lent.extensible.now (own_in lent) (all_in lent) ok.certified.are_pieces k (written_in x) listed t less) r))
+        (row_is lent.grammar.now lent.extensible.now (own_in lent) (all_in lent) ok.certified.are_pieces k (written_beside lent x) listed t less) r))
 
     -- its expression writes its bare form
     pub bare_writes : (t : ℕ) (row : Terminal) → t < x.grammar.now.terminals → slice_get x.terminals.now t ≡ Some row →

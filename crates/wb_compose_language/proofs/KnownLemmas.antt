@@ -12,7 +12,8 @@ use Rattle.wb_regex.specs.Matches.{Matches, ShareText}
 use Rattle.wb_regex.specs.Tree.{Tree}
 use Rattle.wb_syntax_resolved.specs.declared.terminal.Terminal.{Terminal}
 use Rattle.wb_compose_language.specs.declared.addition.Addition.{Addition}
-use Rattle.wb_compose_language.specs.Inner.Known.{AreBases, ArePatternsAdded, AreTexts, HasPlaces, IsAdded, IsOneText, IsText}
+use Rattle.wb_compose_language.specs.Inner.Known.{AreBases, ArePatternsAdded, AreTexts, HasOwnPlaces, HasPlaces, IsAdded, IsOneText}
+use Rattle.wb_compose_language.specs.Inner.Known.{IsText, Keeps}
 
 -- one expression more
 pub patterns_none : (own : ℕ) (x : Addition) (patterns : List Tree) → ArePatternsAdded own own x patterns patterns
@@ -36,33 +37,56 @@ patterns_more own n x old new row at was = record {
 }
 
 -- no extension, and one extension more
-pub no_bases : (own : ℕ) (patterns : List Tree) (bases : List ℕ) → bases ≡ [] → AreBases own [] patterns bases
-no_bases own patterns bases e = record { len = ap length e; each = λ k x base at. absurd (nothing_at x k at) }
+pub no_bases : (own hosts : ℕ) (patterns : List Tree) (bases : List ℕ) → bases ≡ [] → AreBases own hosts [] patterns bases
+no_bases own hosts patterns bases e = record { len = ap length e; each = λ k x base at. absurd (nothing_at x k at) }
 
-bases_push : (own : ℕ) (xs : List Addition) (x : Addition) (p p' : List Tree) (b b' : List ℕ) → IsAdded own x p b p' b'
-    → AreBases own xs p b → AreBases own (xs ++ x ∷ []) p' b'
-bases_push own xs x p p' b b' added was = record {
+-- places stay where expressions do
+places_keep : (from bound base : ℕ) (x : Addition) (p p' : List Tree) → Keeps p p' → HasPlaces from bound x p base
+    → HasPlaces from bound x p' base
+places_keep from bound base x p p' keeps has i row lt at = keeps (base + i) row.pattern (has i row lt at)
+
+-- the places of an extension that was added
+added_places : (own hosts : ℕ) (x : Addition) (p p' : List Tree) (b b' : List ℕ) → own ≤ x.grammar.now.terminals
+    → IsAdded own hosts x p b p' b' → HasOwnPlaces own hosts x p' (length p)
+added_places own hosts x p p' b b' more added =
+    let len = added.terminals_are.len in
+    let e : length added.between ≡ length p + (x.grammar.now.terminals - own) = omega (arith, len, more) in record {
+      terminals = places_keep own x.grammar.now.terminals (length p) x added.between p' added.layouts_are.keeps added.terminals_are.places;
+      layouts = subst (HasPlaces (x.grammar.now.terminals + hosts) (length x.terminals.now) x p') e added.layouts_are.places;
+    }
+
+bases_push : (own hosts : ℕ) (xs : List Addition) (x : Addition) (p p' : List Tree) (b b' : List ℕ) → own ≤ x.grammar.now.terminals
+    → IsAdded own hosts x p b p' b' → AreBases own hosts xs p b → AreBases own hosts (xs ++ x ∷ []) p' b'
+bases_push own hosts xs x p p' b b' more added was = record {
   len = (let a = length-append xs (x ∷ []) in let c = length-append b (length p ∷ []) in let d = was.len in
       let e = ap length added.bases_are in omega (arith, a, c, d, e));
   each = λ k y base at base_at. elim (at_push xs x y k at) [
     | inl here ↦ elim (at_push b (length p) base k (subst (λ z. slice_get z k ≡ Some base) added.bases_are base_at)) [
-      | inl there ↦ λ i row lt row_at. added.patterns_are.keeps (base + i) row.pattern (was.each k y base here there i row lt row_at)
+      | inl there ↦ (let old = was.each k y base here there in record {
+        terminals = places_keep own y.grammar.now.terminals base y p p' keeps old.terminals;
+        layouts = places_keep (y.grammar.now.terminals + hosts) (length y.terminals.now) (base + (y.grammar.now.terminals - own)) y
+            p p' keeps old.layouts;
+      })
       | inr (last, same) ↦ (let w = slice_get_within xs k y here in let d = was.len in absurd (omega (arith, w, d, last)))
     ]
     | inr (last, same) ↦ elim (at_push b (length p) base k (subst (λ z. slice_get z k ≡ Some base) added.bases_are base_at)) [
       | inl there ↦ (let w = slice_get_within b k base there in let d = was.len in absurd (omega (arith, w, d, last)))
-      | inr (e, alike) ↦ subst (λ (z : Addition). HasPlaces own z.grammar.now.terminals z p' base) same
-          (subst (HasPlaces own x.grammar.now.terminals x p') alike added.patterns_are.places)
+      | inr (e, alike) ↦ subst (λ (z : Addition). HasOwnPlaces own hosts z p' base) same
+          (subst (HasOwnPlaces own hosts x p') alike (added_places own hosts x p p' b b' more added))
     ]
   ];
 }
+  where
+    keeps : Keeps p p'
+    keeps k q there = added.layouts_are.keeps k q (added.terminals_are.keeps k q there)
 
-pub bases_more : (own : ℕ) (xs : List Addition) (i : ℕ) (x : Addition) (p p' : List Tree) (b b' : List ℕ) → slice_get xs i ≡ Some x
-    → IsAdded own x p b p' b' → AreBases own (take i xs) p b → AreBases own (take (i + 1) xs) p' b'
-bases_more own xs i x p p' b b' at added was =
+pub bases_more : (own hosts : ℕ) (xs : List Addition) (i : ℕ) (x : Addition) (p p' : List Tree) (b b' : List ℕ)
+    → own ≤ x.grammar.now.terminals → slice_get xs i ≡ Some x → IsAdded own hosts x p b p' b' → AreBases own hosts (take i xs) p b
+    → AreBases own hosts (take (i + 1) xs) p' b'
+bases_more own hosts xs i x p p' b b' more at added was =
     let e : take (i + 1) xs ≡ take i xs ++ x ∷ [] = take_more xs i x (slice_get_within xs i x at) ∙
     ap (λ z. take i xs ++ z ∷ []) (get_or_from_slice_get xs i x x at) in
-    subst (λ ys. AreBases own ys p' b') (sym e) (bases_push own (take i xs) x p p' b b' added was)
+    subst (λ ys. AreBases own hosts ys p' b') (sym e) (bases_push own hosts (take i xs) x p p' b b' more added was)
 
 -- the text of one expression more, if it is one text alone
 pub no_texts : (texts : List (Option (List ℕ))) → texts ≡ [] → AreTexts [] texts
@@ -89,7 +113,7 @@ pub texts_more : (patterns : List Tree) (i : ℕ) (d : Tree) (texts : List (Opti
 texts_more patterns i d texts found lt was is =
     subst (λ ys. AreTexts ys (texts ++ found ∷ [])) (sym (take_more patterns i d lt)) (texts_push (take i patterns) (get_or patterns i d) texts found was is)
 
--- where an own terminal is
+-- where a row is
 pub place_at : (own bound t base : ℕ) (x : Addition) (patterns : List Tree) (row : Terminal) → HasPlaces own bound x patterns base → own ≤ t
     → t < bound → slice_get x.terminals.now t ≡ Some row → slice_get patterns (base + (t - own)) ≡ Some row.pattern
 place_at own bound t base x patterns row has far lt at =

@@ -6,6 +6,8 @@ mod TextMachineLemmas
 pub mod WithdrawnLemmas
 pub mod MadeLemmas
 pub mod WholeLemmas
+pub mod LayoutLemmas
+mod SpanLemmas
 pub mod SharingLemmas
 pub mod OpenedLemmas
 mod TableLemmas

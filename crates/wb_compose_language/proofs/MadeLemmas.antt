@@ -17,7 +17,7 @@ use Rattle.wb_compose_language.specs.declared.addition.Lent.{Lent}
 use Rattle.wb_compose_language.specs.declared.union_forms.UnitedForms.{UnitedForms}
 use Rattle.wb_compose_language.specs.Inner.FormsMade.{AreFormsBelow, AreMadeBelow, AreWithdrawnBelow, IsBareAdded, IsChosen, IsFormIn}
 use Rattle.wb_compose_language.specs.Inner.FormsMade.{IsPrefixedAdded, IsWithdrawnIn, Writes}
-use Rattle.wb_compose_language.specs.Lents.{IsUnitable, all_in, own_in, written_in}
+use Rattle.wb_compose_language.specs.Lents.{IsUnitable, all_in, own_in, written_beside}
 use Rattle.wb_compose_language.proofs.FormLemmas.{one_more, two_more}
 use Rattle.wb_compose_language.proofs.KindLemmas.{bare_writes, host_form, host_writes, listed, marker_form, number_in, own_marker}
 use Rattle.wb_compose_language.proofs.KindLemmas.{plain_form}
@@ -60,24 +60,24 @@ module _ (lent : Lent) where
         (row_at : slice_get x.terminals.now t ≡ Some row) where
       -- a terminal of an extension that is no marker
       pub plain_step : (made new : UnitedForms) →
-          IsOwn lent.grammar.now lent.extensible.now (pieces_of (all_in lent)) (written_in x).piece t → IsBareAdded made new (number_in lent ok k t) row.pattern → AreMadeBelow lent (number_in lent ok k t) made →
+          IsOwn lent.grammar.now lent.extensible.now (pieces_of (all_in lent)) (written_beside lent x).piece t → IsBareAdded made new (number_in lent ok k t) row.pattern → AreMadeBelow lent (number_in lent ok k t) made →
           AreMadeBelow lent (number_in lent ok k t + 1) new
       plain_step made new mine added was = bare_step (number_in lent ok k t) row.pattern made new
-          (of_extension k (written_in x) t (listed lent ok k x at) mine refl refl)
+          (of_extension k (written_beside lent x) t (listed lent ok k x at) mine refl refl)
           (bare_writes lent ok k x at t row mine.within row_at)
-          (λ f f_is e. plain_form lent ok k (written_in x) (listed lent ok k x at) t mine f f_is e)
-          (plain_kept lent ok k (written_in x) (listed lent ok k x at) t mine) added was
+          (λ f f_is e. plain_form lent ok k (written_beside lent x) (listed lent ok k x at) t mine f f_is e)
+          (plain_kept lent ok k (written_beside lent x) (listed lent ok k x at) t mine) added was
 
-      module _ (marker : IsMarkerRow lent.grammar.now lent.extensible.now (own_in lent) (written_in x) t) where
+      module _ (marker : IsMarkerRow lent.grammar.now lent.extensible.now (own_in lent) (written_beside lent x) t) where
         within : t < x.grammar.now.terminals
-        within = (own_marker lent ok k (written_in x) (listed lent ok k x at) t marker).1
+        within = (own_marker lent ok k (written_beside lent x) (listed lent ok k x at) t marker).1
 
         abbrev the_prefixed : Form
-        the_prefixed = record { terminal = number_in lent ok k t; prefix = prefix_of (written_in x) }
+        the_prefixed = record { terminal = number_in lent ok k t; prefix = prefix_of (written_beside lent x) }
 
         prefixed_is : IsFormIn lent the_prefixed
         prefixed_is =
-            prefixed k (written_in x) (record { listed = listed lent ok k x at; terminal = t; marker = marker; is = refl }) refl
+            prefixed k (written_beside lent x) (record { listed = listed lent ok k x at; terminal = t; marker = marker; is = refl }) refl
 
         -- a marker that is withdrawn
         pub withdrawn_step : (tree : Tree) (made new : UnitedForms) → Writes lent tree the_prefixed →
@@ -93,7 +93,7 @@ module _ (lent : Lent) where
           where
             only : (form : Form) → IsFormIn lent form → form.terminal ≡ number_in lent ok k t → form ≡ the_prefixed
             only form is n_is =
-                elim (marker_form lent ok k (written_in x) (listed lent ok k x at) t marker form is n_is) [
+                elim (marker_form lent ok k (written_beside lent x) (listed lent ok k x at) t marker form is n_is) [
                   | inl p ↦ same_form form the_prefixed n_is p
                   | inr (p, kept_is) ↦ absurd (kept_is out)
                 ]
@@ -115,12 +115,12 @@ module _ (lent : Lent) where
           where
             bare_is : IsFormIn lent (bare (number_in lent ok k t))
             bare_is =
-                kept k (written_in x) (record { listed = listed lent ok k x at; terminal = t; marker = marker; is = refl }) kept_is refl
+                kept k (written_beside lent x) (record { listed = listed lent ok k x at; terminal = t; marker = marker; is = refl }) kept_is refl
 
             only : (form : Form) → IsFormIn lent form → form.terminal ≡ number_in lent ok k t →
                 (form ≡ the_prefixed) ⊎ (form ≡ bare (number_in lent ok k t))
             only form is n_is =
-                elim (marker_form lent ok k (written_in x) (listed lent ok k x at) t marker form is n_is) [
+                elim (marker_form lent ok k (written_beside lent x) (listed lent ok k x at) t marker form is n_is) [
                   | inl p ↦ inl (same_form form the_prefixed n_is p)
                   | inr (p, kept_is) ↦ inr (same_form form (bare (number_in lent ok k t)) n_is p)
                 ]
@@ -128,7 +128,7 @@ module _ (lent : Lent) where
         -- as they are made: the prefixed form, and then the bare one or none
         pub marker_step : (withdrawn : Bool) (made mid new : UnitedForms) →
             IsPrefixedAdded made.forms.items mid.forms.items made.expressions.items mid.expressions.items (number_in lent ok k t)
-            (prefix_of (written_in x)) row.pattern → mid.withdrawn.items ≡ made.withdrawn.items →
+            (prefix_of (written_beside lent x)) row.pattern → mid.withdrawn.items ≡ made.withdrawn.items →
             IsTrue withdrawn ↔ IsWithdrawnIn lent (number_in lent ok k t) →
             IsChosen withdrawn mid new (number_in lent ok k t) row.pattern → AreMadeBelow lent (number_in lent ok k t) made →
             AreMadeBelow lent (number_in lent ok k t + 1) new

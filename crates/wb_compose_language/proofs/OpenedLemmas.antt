@@ -25,10 +25,11 @@ use Rattle.wb_compose_language.specs.declared.addition.Lent.{Lent}
 use Rattle.wb_compose_language.specs.declared.extension_forms.OwnTerminal.{OwnTerminal}
 use Rattle.wb_compose_language.specs.declared.union_forms.UnitedForms.{UnitedForms}
 use Rattle.wb_compose_language.specs.Inner.Known.{HasOwnRows}
+use Rattle.wb_compose_language.specs.Inner.Layouts.{hosts_in}
 use Rattle.wb_compose_language.specs.Inner.FormsMade.{AreMadeBelow, IsBareAdded, IsChosen, IsPrefixOf, IsPrefixedAdded, IsWithdrawnIn}
 use Rattle.wb_compose_language.specs.Inner.Opened.{IsOwnTerminal, sizes_in, union_terminals}
 use Rattle.wb_compose_language.specs.Inner.Sharing.{SharesWithOther}
-use Rattle.wb_compose_language.specs.Lents.{HasBridges, IsUnitable, all_in, is_marker_row, is_marking, own_in, written_in}
+use Rattle.wb_compose_language.specs.Lents.{HasBridges, IsUnitable, all_in, is_marker_row, is_marking, own_in, written_beside}
 use Rattle.wb_compose_language.proofs.KindLemmas.{listed, number_in, pattern_of}
 use Rattle.wb_compose_language.proofs.MadeLemmas.{marker_step, plain_step}
 use Rattle.wb_compose_language.proofs.WholeLemmas.{count_all, count_more}
@@ -67,31 +68,35 @@ module _ (lent : Lent) where
         let e = length-map lent.terminals.now pattern_of in
         let le = ok.apart.of_host.clear.rows.no_fewer in omega (arith, e, le)
 
-    pub own_rows : All (HasOwnRows lent.grammar.now.terminals) lent.extensions.now
-    own_rows = all_from_places (HasOwnRows lent.grammar.now.terminals) lent.extensions.now rows
+    pub own_rows : All (HasOwnRows lent.grammar.now.terminals (hosts_in lent)) lent.extensions.now
+    own_rows = all_from_places (HasOwnRows lent.grammar.now.terminals (hosts_in lent)) lent.extensions.now rows
       where
-        rows : (k : ℕ) (x : Addition) → slice_get lent.extensions.now k ≡ Some x → HasOwnRows lent.grammar.now.terminals x
+        rows : (k : ℕ) (x : Addition) → slice_get lent.extensions.now k ≡ Some x → HasOwnRows lent.grammar.now.terminals (hosts_in lent) x
         rows k x at =
-            let le = more lent.grammar.now lent.extensible.now (own_in lent) (all_in lent) ok.certified.are_pieces k (written_in x)
+            let le = more lent.grammar.now lent.extensible.now (own_in lent) (all_in lent) ok.certified.are_pieces k (written_beside lent x)
             (listed lent ok k x at) in
             let e = length-map x.terminals.now pattern_of in
             let fewer = (apart_at lent.grammar.now lent.extensible.now (own_in lent) (all_in lent) ok.certified.are_pieces ok.apart k
-            (written_in x) (listed lent ok k x at)).clear.rows.no_fewer in
+            (written_beside lent x) (listed lent ok k x at)).clear.rows.no_fewer in
             (le, omega (arith, e, fewer))
+
+    pub extension_rows : (k : ℕ) (x : Addition) → slice_get lent.extensions.now k ≡ Some x →
+        HasOwnRows lent.grammar.now.terminals (hosts_in lent) x
+    extension_rows k x at = all_at (HasOwnRows lent.grammar.now.terminals (hosts_in lent)) lent.extensions.now k x own_rows at
 
     pub extension_more : (k : ℕ) (x : Addition) → slice_get lent.extensions.now k ≡ Some x →
         lent.grammar.now.terminals ≤ x.grammar.now.terminals
-    extension_more k x at = (all_at (HasOwnRows lent.grammar.now.terminals) lent.extensions.now k x own_rows at).0
+    extension_more k x at = (all_at (HasOwnRows lent.grammar.now.terminals (hosts_in lent)) lent.extensions.now k x own_rows at).0
 
     -- where the next extension's begin
     pub extension_end : (k : ℕ) (x : Addition) → slice_get lent.extensions.now k ≡ Some x →
         x.grammar.now.terminals + count_before (sizes_in lent) k ≡ lent.grammar.now.terminals + count_before (sizes_in lent) (k + 1)
     extension_end k x at =
         let size = size_at lent.grammar.now lent.extensible.now (pieces_of (all_in lent)) (added_terminals lent.grammar.now) k
-        (written_in x).piece (piece_there lent.grammar.now lent.extensible.now (own_in lent) (all_in lent) ok.certified.are_pieces k
-        (written_in x) (listed lent ok k x at)) in
+        (written_beside lent x).piece (piece_there lent.grammar.now lent.extensible.now (own_in lent) (all_in lent) ok.certified.are_pieces k
+        (written_beside lent x) (listed lent ok k x at)) in
         let e = count_more (sizes_in lent) k (added_terminals lent.grammar.now x.grammar.now) size in
-        let le = (all_at (HasOwnRows lent.grammar.now.terminals) lent.extensions.now k x own_rows at).0 in omega (arith, e, le)
+        let le = (all_at (HasOwnRows lent.grammar.now.terminals (hosts_in lent)) lent.extensions.now k x own_rows at).0 in omega (arith, e, le)
 
     -- and where all end
     pub all_end : lent.grammar.now.terminals + count_before (sizes_in lent) (length lent.extensions.now) ≡ union_terminals lent
@@ -103,14 +108,14 @@ module _ (lent : Lent) where
         sizes_len =
             length-map (map (λ (z : _). z.grammar) (pieces_of (all_in lent))) (added_terminals lent.grammar.now) ∙
             (length-map (pieces_of (all_in lent)) (λ z. z.grammar) ∙ (length-map (all_in lent) (λ z. z.piece) ∙
-            length-map lent.extensions.now written_in))
+            length-map lent.extensions.now (written_beside lent)))
 
     -- an own terminal
     pub own_terminal : (k n before : ℕ) (x : Addition) → slice_get lent.extensions.now k ≡ Some x → lent.grammar.now.terminals ≤ n →
         n < x.grammar.now.terminals → before ≡ count_before (sizes_in lent) k →
         IsOwnTerminal lent (record { extension = k; number = n; before = before })
     own_terminal k n before x at own within before_is =
-        let le = (all_at (HasOwnRows lent.grammar.now.terminals) lent.extensions.now k x own_rows at).1 in
+        let le = (all_at (HasOwnRows lent.grammar.now.terminals (hosts_in lent)) lent.extensions.now k x own_rows at).1 in
         let (row, row_at) = at_within x.terminals.now n (omega (arith, within, le)) in
         record { x = x; listed = at; own = own; within = within; before_is = before_is; row = row; at = row_at }
 
@@ -162,7 +167,7 @@ module _ (lent : Lent) where
 
       -- a marker
       module _ (kind : is_marking row.kind ≡ true) where
-        marker : IsMarkerRow lent.grammar.now lent.extensible.now (own_in lent) (written_in x) terminal.number
+        marker : IsMarkerRow lent.grammar.now lent.extensible.now (own_in lent) (written_beside lent x) terminal.number
         marker = marker_row lent x terminal.number (all_at (HasBridges lent) lent.extensions.now terminal.extension x ok.bridges at)
             (ap is_marker_row row_at ∙ kind)
 
@@ -182,9 +187,9 @@ module _ (lent : Lent) where
             (subst (λ n. IsChosen withdrawn mid new n row.pattern) (sym number_is) chosen)
             (subst (λ n. AreMadeBelow lent n made) (sym number_is) was))
 
-        pub withdrawn_terminal : SharesWithOther lent.grammar.now.terminals lent.extensions.now terminal.extension row.pattern ↔
+        pub withdrawn_terminal : SharesWithOther lent.grammar.now.terminals (hosts_in lent) lent.extensions.now terminal.extension row.pattern ↔
             IsWithdrawnIn lent (terminal.number + terminal.before)
         withdrawn_terminal =
-            subst (λ n. SharesWithOther lent.grammar.now.terminals lent.extensions.now terminal.extension row.pattern ↔
-            IsWithdrawnIn lent n) number_is (shares_is_withdrawn lent ok terminal.extension x at terminal.number row
-            (λ l y there. (all_at (HasOwnRows lent.grammar.now.terminals) lent.extensions.now l y own_rows there).1) marker row_at)
+            subst (λ n. SharesWithOther lent.grammar.now.terminals (hosts_in lent) lent.extensions.now terminal.extension row.pattern ↔
+            IsWithdrawnIn lent n) number_is (shares_is_withdrawn lent ok terminal.extension x at terminal.number row marker row_at
+            (λ l y there. (all_at (HasOwnRows lent.grammar.now.terminals (hosts_in lent)) lent.extensions.now l y own_rows there).1))

@@ -1,4 +1,4 @@
--- Numbers of the union by block, and sums of blocks.
+-- Numbers of the union by blocks, and sums of blocks.
 use Rattle.std.proofs.Common.{◌≡◌, ◌∙◌, ◌+◌, ℕ, zero, suc, List, [], ◌∷◌, ◌++◌, Some, slice_get, ap, arith}
 use Rattle.std.specs.List.{range_with_len}
 use Rattle.std.proofs.lemmas.Option.{same_Some}
@@ -6,22 +6,29 @@ use Rattle.wb_lemmas.proofs.Places.{nothing_at}
 use Rattle.wb_compose_theory.specs.Blocks.{spread}
 use Rattle.wb_compose_theory_grammar.specs.Places.{count_before}
 use Rattle.wb_compose_language.specs.declared.row.Block.{Block}
-use Rattle.wb_compose_language.specs.Inner.Rows.{row_in}
+use Rattle.wb_compose_language.specs.declared.addition.Lent.{Lent}
+use Rattle.wb_compose_language.specs.declared.row.Blocks.{Blocks}
+use Rattle.wb_compose_language.specs.Inner.Rows.{AreBlocks, among, layout_total, layouts_begin, row_in}
+use Rattle.wb_compose_language.specs.Inner.Rows as rows
 
 -- the number in a block of these sizes
-pub row_is : (block : Block) (own before size total : ℕ) → block.own ≡ own → block.before ≡ before → block.size ≡ size →
-    block.total ≡ total → (t : ℕ) → row_in block t ≡ spread own before size total t
-row_is block own before size total own_is before_is size_is total_is t =
+among_is : (block : Block) (own before size total : ℕ) → block.own ≡ own → block.before ≡ before → block.size ≡ size →
+    block.total ≡ total → (t : ℕ) → among block t ≡ spread own before size total t
+among_is block own before size total own_is before_is size_is total_is t =
     ap (λ z. spread z block.before block.size block.total t) own_is ∙
     (ap (λ z. spread own z block.size block.total t) before_is ∙
     (ap (λ z. spread own before z block.total t) size_is ∙ ap (λ z. spread own before size z t) total_is))
 
--- what comes before the next
-pub count_next : (sizes : List ℕ) (k size : ℕ) → slice_get sizes k ≡ Some size → count_before sizes (suc k) ≡ count_before sizes k + size
-count_next [] k size at = absurd (nothing_at size k at)
-count_next (s ∷ []) zero size at = let same : s ≡ size = same_Some s size at in omega (arith, same)
-count_next (s ∷ (u ∷ sizes)) zero size at = let same : s ≡ size = same_Some s size at in omega (arith, same)
-count_next (s ∷ sizes) (suc k) size at = let rest = count_next sizes k size at in omega (arith, rest)
+-- and in two, one after the other
+pub row_is : (lent : Lent) (blocks : Blocks) (before size layouts_before layouts : ℕ) →
+    AreBlocks lent blocks before size layouts_before layouts → (t : ℕ) →
+    row_in blocks t ≡ spread (layouts_begin lent) layouts_before layouts (layout_total lent)
+    (spread lent.grammar.now.terminals before size (rows.total lent) t)
+row_is lent blocks before size layouts_before layouts are t =
+    ap (among blocks.layouts)
+    (among_is blocks.terminals lent.grammar.now.terminals before size (rows.total lent) are.own_is are.before_is are.size_is are.total_is t)
+    ∙ among_is blocks.layouts (layouts_begin lent) layouts_before layouts (layout_total lent) are.from_is are.layouts_before_is
+    are.layouts_is are.layout_total_is (spread lent.grammar.now.terminals before size (rows.total lent) t)
 
 -- numbers with one more
 pub range_more : (a n : ℕ) → range_with_len a (n + 1) ≡ range_with_len a n ++ (a + n) ∷ []

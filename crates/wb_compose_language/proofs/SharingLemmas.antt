@@ -19,13 +19,14 @@ none_before own n x pattern row at apart before s = elim (cases_lt s.terminal n)
       apart (subst (λ (z : Terminal). ShareText pattern z.pattern) same s.share)
 ]
 
-pub none_among : (own n : ℕ) (xs : List Addition) (number : ℕ) (pattern : Tree) (x : Addition) → slice_get xs n ≡ Some x →
-    (¬ (n ≡ number) → ¬ SharesWith own x pattern) → (¬ SharesAmong own n xs number pattern) → ¬ SharesAmong own (n + 1) xs number pattern
-none_among own n xs number pattern x at apart before s = elim (cases_lt s.other n) [
+pub none_among : (own hosts n : ℕ) (xs : List Addition) (number : ℕ) (pattern : Tree) (x : Addition) → slice_get xs n ≡ Some x →
+    (¬ (n ≡ number) → ¬ SharesWith own hosts x pattern) → (¬ SharesAmong own hosts n xs number pattern) →
+    ¬ SharesAmong own hosts (n + 1) xs number pattern
+none_among own hosts n xs number pattern x at apart before s = elim (cases_lt s.other n) [
   | inl less ↦ before (record { other = s.other; less = less; different = s.different; x = s.x; at = s.at; shares = s.shares })
   | inr far ↦
       let low = s.less in
       let e : s.other ≡ n = omega (arith, far, low) in
       let same = at_once xs n s.x x (subst (λ z. slice_get xs z ≡ Some (s.x)) e s.at) at in
-      apart (λ is. s.different (subst (λ z. z ≡ number) (sym e) is)) (subst (λ (z : Addition). SharesWith own z pattern) same s.shares)
+      apart (λ is. s.different (subst (λ z. z ≡ number) (sym e) is)) (subst (λ (z : Addition). SharesWith own hosts z pattern) same s.shares)
 ]

@@ -1,12 +1,14 @@
 -- The union of what is lent: its grammar is deterministic, and its forms are of its terminals.
-use Rattle.std.proofs.Common.{◌≡◌, ◌∙◌, ◌<◌, ◌≤◌, ◌-◌, [], ◌∷◌, ℕ, List, Some, All, length, map, slice_get, refl, sym, ap, subst, arith}
+use Rattle.std.proofs.Common.{◌≡◌, ◌∙◌, ◌<◌, ◌≤◌, ◌+◌, ◌-◌, [], ◌∷◌, ℕ, List, Option, Some, All, length, map, slice_get, refl, sym, ap, subst, arith}
 use Rattle.std.proofs.lemmas.List.{length-map}
+use Rattle.std.proofs.lemmas.List.FromFn.{length-range_with_len}
 use Rattle.wb_base.specs.Grammar.{GrammarView}
 use Rattle.wb_scan_theory.specs.declared.form.Form.{Form}
 use Rattle.wb_scan_theory.specs.Facts.{IsDeterministic}
 use Rattle.wb_scan_theory.specs.Parts.{AreTablesOf}
 use Rattle.wb_lemmas.proofs.Elements.{all_from_places}
 use Rattle.wb_lookahead.specs.Contents.{TablesView, valid_of}
+use Rattle.wb_regex.specs.Tree.{Tree}
 use Rattle.wb_syntax_resolved.specs.declared.terminal.Terminal.{Terminal}
 use Rattle.wb_compose_theory_grammar.proofs.ApartLemmas.{into_is}
 use Rattle.wb_compose_theory_grammar.proofs.BridgeLemmas.{piece_ok}
@@ -23,7 +25,9 @@ use Rattle.wb_compose_theory_language.specs.Written.{WrittenPiece, pieces_of}
 use Rattle.wb_compose_language.specs.Additions.{grammar_in}
 use Rattle.wb_compose_language.specs.declared.addition.Addition.{Addition}
 use Rattle.wb_compose_language.specs.declared.addition.Lent.{Lent}
-use Rattle.wb_compose_language.specs.Lents.{IsUnitable, all_in, own_in, written_in}
+use Rattle.wb_compose_language.specs.Lents.{IsUnitable, all_in, own_in, written_beside}
+use Rattle.wb_compose_language.specs.Expressions.{AreExpressions}
+use Rattle.wb_compose_language.specs.Inner.Layouts.{AreSpansBelow, layouts_in}
 use Rattle.wb_compose_language.specs.Inner.Rows.{grammar_of, total}
 use Rattle.wb_compose_language.specs.Inner.Sets.{HaveRoom}
 
@@ -33,9 +37,17 @@ module _ (lent : Lent) where
   grammar_is = ap (union_of lent.grammar.now) (grammars lent.extensions.now)
     where
       grammars : (xs : List Addition) →
-          map grammar_in xs ≡ map (λ (x : Piece). x.grammar) (map (λ (x : WrittenPiece). x.piece) (map written_in xs))
+          map grammar_in xs ≡ map (λ (x : Piece). x.grammar) (map (λ (x : WrittenPiece). x.piece) (map (written_beside lent) xs))
       grammars [] = refl
       grammars (x ∷ xs) = ap (λ z. x.grammar.now ∷ z) (grammars xs)
+
+  -- there is an expression for each form and each layout
+  pub forms_count : (forms : List Form) (expressions : List Tree) (spans : List (Option (ℕ × ℕ))) → AreExpressions lent forms expressions →
+      AreSpansBelow lent (layouts_in lent) spans → length expressions ≡ length forms + length spans
+  forms_count forms expressions spans are spans_are =
+      let a = are.len in
+      let b = spans_are.len in
+      let c = length-range_with_len (grammar_of lent).terminals (layouts_in lent) in omega (arith, a, b, c)
 
   -- the terminals that it has beyond the host's
   pub total_is : (terminals own : ℕ) → terminals ≡ (grammar_of lent).terminals → own ≡ lent.grammar.now.terminals →
@@ -46,9 +58,9 @@ module _ (lent : Lent) where
     -- each extension has the host's grammar with more
     pub extends_all : All (λ (x : Addition). Extends lent.grammar.now (grammar_in x)) lent.extensions.now
     extends_all = all_from_places (λ (x : Addition). Extends lent.grammar.now (grammar_in x)) lent.extensions.now (λ k x at.
-        (piece_ok lent.grammar.now lent.extensible.now (pieces_of (all_in lent)) ok.certified.are_pieces k ((written_in x).piece)
-        (piece_there lent.grammar.now lent.extensible.now (own_in lent) (all_in lent) ok.certified.are_pieces k (written_in x)
-        (at_map written_in lent.extensions.now k x at))).extends)
+        (piece_ok lent.grammar.now lent.extensible.now (pieces_of (all_in lent)) ok.certified.are_pieces k ((written_beside lent x).piece)
+        (piece_there lent.grammar.now lent.extensible.now (own_in lent) (all_in lent) ok.certified.are_pieces k (written_beside lent x)
+        (at_map (written_beside lent) lent.extensions.now k x at))).extends)
 
     -- the union is deterministic
     pub deterministic : IsDeterministic (grammar_of lent)

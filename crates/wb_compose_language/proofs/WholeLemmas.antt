@@ -4,12 +4,12 @@ use Rattle.std.proofs.Common.{slice_get}
 use Rattle.std.proofs.Common.{refl, sym, ap, subst, arith, append_assoc, length-append}
 use Rattle.std.specs.Prelude.{◌↔◌}
 use Rattle.std.proofs.lemmas.List.{length-drop, length-map}
-use Rattle.std.proofs.lemmas.List.FromFn.{get_or-range_with_len, length-range_with_len}
+use Rattle.std.proofs.lemmas.List.FromFn.{length-range_with_len}
 use Rattle.std.proofs.lemmas.Option.{same_Some, slice_get_within}
 use Rattle.wb_automata.specs.Automata.{IsMatch}
 use Rattle.wb_scan_theory.specs.declared.form.Form.{Form}
 use Rattle.wb_scan_theory.specs.Languages.{bare}
-use Rattle.wb_lemmas.proofs.Places.{append_after, append_keeps, at_append, at_default, at_drop, at_once, at_within, nothing_at}
+use Rattle.wb_lemmas.proofs.Places.{append_after, append_keeps, at_append, at_drop, at_once, at_within, nothing_at}
 use Rattle.wb_regex.specs.Matches.{Matches}
 use Rattle.wb_regex.specs.Tree.{Tree}
 use Rattle.wb_syntax_resolved.specs.declared.terminal.Terminal.{Terminal}
@@ -19,18 +19,17 @@ use Rattle.wb_compose_theory_grammar.proofs.FactLemmas.{map_at, size_at}
 use Rattle.wb_compose_theory_grammar.proofs.PlaceLemmas.{lift_past, within_total}
 use Rattle.wb_compose_theory_language.specs.Forms.{kept, of_extension, of_host, prefixed}
 use Rattle.wb_compose_theory_language.specs.Languages.{AreForms, AreWithdrawn, IsTextOf}
-use Rattle.wb_compose_theory_language.specs.Rows as reads
-use Rattle.wb_compose_theory_language.specs.Rows.{layout_count}
-use Rattle.wb_compose_theory_language.specs.Written.{IsOwnRow, WrittenPiece, pieces_of}
-use Rattle.wb_compose_theory_language.proofs.ReadLemmas.{reads_host}
-use Rattle.wb_compose_theory_language.proofs.RowLemmas.{host_past, piece_there}
+use Rattle.wb_compose_theory_language.specs.Written.{IsOwnTerminal, WrittenPiece, pieces_of}
+use Rattle.wb_compose_theory_language.proofs.DecidedLemmas.{range_at}
+use Rattle.wb_compose_theory_language.proofs.RowLemmas.{piece_there}
 use Rattle.wb_compose_language.specs.declared.addition.Lent.{Lent}
 use Rattle.wb_compose_language.specs.Expressions.{AreExpressions, layout_in}
-use Rattle.wb_compose_language.specs.Inner.FormsMade.{AreFormsBelow, AreLayoutAdded, AreWithdrawnBelow, IsFormIn, IsWithdrawnIn, Writes}
+use Rattle.wb_compose_language.specs.Inner.FormsMade.{AreFormsBelow, AreWithdrawnBelow, IsFormIn, IsWithdrawnIn, Writes}
+use Rattle.wb_compose_language.specs.Inner.Layouts.{AreLayoutAdded, layouts_in}
 use Rattle.wb_compose_language.specs.Inner.Opened.{sizes_in, union_terminals}
 use Rattle.wb_compose_language.specs.Lents.{IsUnitable, all_in, own_in}
 use Rattle.wb_compose_language.proofs.GrammarLemmas.{element_more}
-use Rattle.wb_compose_language.proofs.KindLemmas.{ReadsIn, at_match, match_at, number_in, own_marker, pattern_of}
+use Rattle.wb_compose_language.proofs.KindLemmas.{number_in, own_marker, pattern_of}
 
 -- none come before the first
 pub count_none : (ys : List ℕ) → count_before ys 0 ≡ 0
@@ -53,23 +52,16 @@ count_all [] = refl
 count_all (x ∷ xs) = let rest = count_all xs in omega (arith, rest)
 
 module _ (lent : Lent) where
-  -- the rows of the host's layout, and how many there are
-  abbrev more_rows : List Terminal
-  more_rows = drop lent.grammar.now.terminals lent.terminals.now
-
-  abbrev layouts_in : ℕ
-  layouts_in = layout_count lent.grammar.now lent.extensible.now (own_in lent) (all_in lent)
-
-  -- the expression at a place, with those of layout after all others, matches the texts of the form
+  -- the expression at a place matches the texts of the form
   abbrev Answers : List Tree → ℕ → Form → Type 0
   Answers expressions place form =
-      (text : List ℕ) → IsMatch (expressions ++ map pattern_of more_rows) place text ↔
+      (text : List ℕ) → IsMatch expressions place text ↔
       IsTextOf lent.grammar.now lent.extensible.now (own_in lent) (all_in lent) form text
 
   module _ (ok : IsUnitable lent) where
     -- an extension's own terminal is one of the union
     pub number_below : (k : ℕ) (x : WrittenPiece) (t : ℕ) → slice_get (all_in lent) k ≡ Some x →
-        IsOwnRow lent.grammar.now (own_in lent) x t → number_in lent ok k t < union_terminals lent
+        IsOwnTerminal lent.grammar.now (own_in lent) x t → number_in lent ok k t < union_terminals lent
     number_below k x t at mine =
         let size = size_at lent.grammar.now lent.extensible.now (pieces_of (all_in lent)) (added_terminals lent.grammar.now) k x.piece
         (piece_there lent.grammar.now lent.extensible.now (own_in lent) (all_in lent) ok.certified.are_pieces k x at) in
@@ -118,93 +110,59 @@ module _ (lent : Lent) where
       rising = w.rising;
     }
 
-    -- the expression of a layout of the host writes its form
-    layout_writes : (j : ℕ) (row : Terminal) → slice_get lent.terminals.now (lent.grammar.now.terminals + j) ≡ Some row →
-        Writes lent row.pattern (bare (union_terminals lent + j))
-    layout_writes j row at text = (
-      λ (m : Matches row.pattern text). record {
-        lexeme = text;
-        reads = reads.of_host (lent.grammar.now.terminals + j) (sym here)
-            (match_at lent.terminals.now (lent.grammar.now.terminals + j) row text at m);
-        is = refl;
-      },
-      λ (w : IsTextOf lent.grammar.now lent.extensible.now (own_in lent) (all_in lent) (bare (union_terminals lent + j)) text).
-          at_match lent.terminals.now (lent.grammar.now.terminals + j) row text at (reads_host lent.grammar.now lent.extensible.now
-          (own_in lent) (all_in lent) ok.certified.are_pieces ok.apart (lent.grammar.now.terminals + j) text
-          (subst (λ z. ReadsIn lent ok z text) (sym here) (subst (ReadsIn lent ok (union_terminals lent + j)) (sym w.is) w.reads))),
-    )
-      where
-        here : reads.host_row lent.grammar.now lent.extensible.now (own_in lent) (all_in lent) (lent.grammar.now.terminals + j)
-            ≡ union_terminals lent + j
-        here =
-            let e = host_past lent.grammar.now lent.extensible.now (own_in lent) (all_in lent) ok.certified.are_pieces j in omega (arith, e)
-
     -- all expressions
     pub all_expressions : (forms : List Form) (expressions whole : List Tree) →
         AreFormsBelow lent (union_terminals lent) forms expressions → AreLayoutAdded lent expressions whole → AreExpressions lent forms whole
-    all_expressions forms expressions whole b added = subst (AreExpressions lent forms) (sym added) (record { len = len_is; each = each })
+    all_expressions forms expressions whole b (trees, is, laid) =
+        subst (AreExpressions lent forms) (sym is) (record { len = len_is; each = each })
       where
-        count_is : length (map pattern_of more_rows) ≡ layouts_in
-        count_is =
-            let a = length-map more_rows pattern_of in
-            let c = length-drop lent.grammar.now.terminals lent.terminals.now in
-            let d = length-map lent.terminals.now pattern_of in omega (arith, a, c, d)
-
-        len_is : length (expressions ++ map pattern_of more_rows) ≡ length forms + length (layout_in lent)
+        len_is : length (expressions ++ trees) ≡ length forms + length (layout_in lent)
         len_is =
-            let a = length-append expressions (map pattern_of more_rows) in
+            let a = length-append expressions trees in
             let c = b.sound.len in
-            let d = count_is in
-            let e = length-range_with_len (union_terminals lent) layouts_in in omega (arith, a, c, d, e)
+            let d = laid.len in
+            let e = length-range_with_len (union_terminals lent) (layouts_in lent) in omega (arith, a, c, d, e)
 
         -- a tree that is there is what matches
-        by_tree : (place : ℕ) (form : Form) (tree : Tree) → slice_get (expressions ++ map pattern_of more_rows) place ≡ Some tree →
-            Writes lent tree form → Answers expressions place form
+        by_tree : (place : ℕ) (form : Form) (tree : Tree) → slice_get (expressions ++ trees) place ≡ Some tree →
+            Writes lent tree form → Answers (expressions ++ trees) place form
         by_tree place form tree at writes text = (
-          λ m. (writes text).0 (subst (λ z. Matches z text)
-              (at_once (expressions ++ map pattern_of more_rows) place m.tree tree m.at at) m.matches),
+          λ m. (writes text).0 (subst (λ z. Matches z text) (at_once (expressions ++ trees) place m.tree tree m.at at) m.matches),
           λ w. record { tree = tree; at = at; matches = (writes text).1 w },
         )
 
-        of_form : (place : ℕ) (form : Form) → slice_get forms place ≡ Some form → Answers expressions place form
+        of_form : (place : ℕ) (form : Form) → slice_get forms place ≡ Some form → Answers (expressions ++ trees) place form
         of_form place form at =
             let w = slice_get_within forms place form at in
             let len = b.sound.len in
             let (tree, there) = at_within expressions place (omega (arith, w, len)) in
-            by_tree place form tree (append_keeps expressions (map pattern_of more_rows) place tree there)
-            (b.sound.written place form tree at there)
+            by_tree place form tree (append_keeps expressions trees place tree there) (b.sound.written place form tree at there)
 
         of_layout : (j : ℕ) (form : Form) → slice_get (map bare (layout_in lent)) j ≡ Some form →
-            Answers expressions (length forms + j) form
+            Answers (expressions ++ trees) (length forms + j) form
         of_layout j form at =
             let (number, listed, form_is) = map_at bare (layout_in lent) j form at in
-            let w = slice_get_within (layout_in lent) j number listed in
-            let size = length-range_with_len (union_terminals lent) layouts_in in
-            let all = count_is in
+            let (number_is, less) = range_at (union_terminals lent) (layouts_in lent) j number listed in
+            let all = laid.len in
             let len = b.sound.len in
-            let (tree, tree_at) = at_within (map pattern_of more_rows) j (omega (arith, w, size, all)) in
-            let (row, row_at, tree_is) = map_at pattern_of more_rows j tree tree_at in
-            let number_is : number ≡ union_terminals lent + j =
-            same_Some number (union_terminals lent + j) (sym listed ∙ (at_default (layout_in lent) j 0 w ∙
-            ap Some (get_or-range_with_len (union_terminals lent) layouts_in j 0 (omega (arith, w, size))))) in
+            let (tree, tree_at) = at_within trees j (omega (arith, less, all)) in
             let place_is : length expressions + j ≡ length forms + j = omega (arith, len) in
             by_tree (length forms + j) form tree
-            (subst (λ z. slice_get (expressions ++ map pattern_of more_rows) z ≡ Some tree) place_is
-            (append_after expressions (map pattern_of more_rows) j ∙ tree_at))
-            (subst (Writes lent tree) (sym (form_is ∙ ap bare number_is))
-            (subst (λ z. Writes lent z (bare (union_terminals lent + j))) (sym tree_is) (layout_writes j row (at_drop lent.terminals.now lent.grammar.now.terminals j row row_at))))
+            (subst (λ z. slice_get (expressions ++ trees) z ≡ Some tree) place_is (append_after expressions trees j ∙ tree_at))
+            (subst (Writes lent tree) (sym (form_is ∙ ap bare number_is)) (laid.each j tree tree_at))
 
-        each : (place : ℕ) (form : Form) → slice_get (forms ++ map bare (layout_in lent)) place ≡ Some form → Answers expressions place form
+        each : (place : ℕ) (form : Form) → slice_get (forms ++ map bare (layout_in lent)) place ≡ Some form →
+            Answers (expressions ++ trees) place form
         each place form at = elim (at_append forms (map bare (layout_in lent)) form place at) [
           | inl here ↦ of_form place form here
-          | inr (j, place_is, there) ↦ subst (λ z. Answers expressions z form) (sym place_is) (of_layout j form there)
+          | inr (j, place_is, there) ↦ subst (λ z. Answers (expressions ++ trees) z form) (sym place_is) (of_layout j form there)
         ]
 
--- one layout more
-pub layout_more : (rows : List Terminal) (own i : ℕ) (old was now : List Tree) (tree : Tree) (row : Terminal) → own ≤ i →
+-- the expression of one row more
+pub pattern_more : (rows : List Terminal) (own i : ℕ) (old was now : List Tree) (tree : Tree) (row : Terminal) → own ≤ i →
     slice_get rows i ≡ Some row → tree ≡ row.pattern → was ≡ old ++ map pattern_of (take (i - own) (drop own rows)) →
     now ≡ was ++ tree ∷ [] → now ≡ old ++ map pattern_of (take (i + 1 - own) (drop own rows))
-layout_more rows own i old was now tree row far at tree_is before is =
+pattern_more rows own i old was now tree row far at tree_is before is =
     let within = slice_get_within rows i row at in
     let len = length-drop own rows in
     let (other, there) = at_within (drop own rows) (i - own) (omega (arith, within, len, far)) in

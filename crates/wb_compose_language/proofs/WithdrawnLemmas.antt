@@ -1,8 +1,9 @@
--- Which terminals of the union are withdrawn: markers that share a text with a terminal of another extension.
-use Rattle.std.proofs.Common.{◌≡◌, ◌∙◌, ◌<◌, ◌+◌, ◌++◌, ◌∷◌, [], ℕ, zero, suc, Bool, true, false, cond, List, Some}
+-- Which terminals of the union are withdrawn: markers that share a text with a terminal or layout of another extension.
+use Rattle.std.proofs.Common.{◌≡◌, ◌≢◌, ◌∙◌, ◌<◌, ◌≤◌, ◌+◌, ◌++◌, ◌∷◌, [], ℕ, zero, suc, Bool, true, false, cond, List, Some, length}
 use Rattle.std.proofs.Common.{slice_get, refl, sym, ap, subst, inl, inr, arith}
 use Rattle.std.specs.Prelude.{◌↔◌, Contains}
 use Rattle.std.proofs.lemmas.Bool.{cases_lt, eq-eqb}
+use Rattle.std.proofs.lemmas.List.{length-map}
 use Rattle.std.proofs.lemmas.Option.{same_Some, slice_get_within}
 use Rattle.wb_base.specs.declared.symbol.Symbol.{Symbol}
 use Rattle.wb_base.specs.declared.symbol.Symbol.TheVariants as symbol
@@ -15,14 +16,19 @@ use Rattle.wb_compose_theory_grammar.specs.Bridges.{begins, bridge_in_list, mark
 use Rattle.wb_compose_theory_grammar.specs.Laws.{IsOwn}
 use Rattle.wb_compose_theory_grammar.proofs.FactLemmas.{map_at}
 use Rattle.wb_compose_theory_language.specs.Apart.{IsMarkerRow}
-use Rattle.wb_compose_theory_language.specs.Written.{IsOwnRow, WrittenPiece, pieces_of}
+use Rattle.wb_compose_theory_language.specs.Rows as reads
+use Rattle.wb_compose_theory_language.specs.Rows.{piece_row}
+use Rattle.wb_compose_theory_language.proofs.ReadLemmas.{reads_piece}
+use Rattle.wb_compose_theory_language.specs.Written.{IsOwnLayoutRow, IsOwnRow, IsOwnTerminal, WrittenPiece, pieces_of}
 use Rattle.wb_compose_language.specs.declared.addition.Addition.{Addition}
 use Rattle.wb_compose_language.specs.declared.addition.Lent.{Lent}
-use Rattle.wb_compose_language.specs.Inner.Known.{HasTerminals}
+use Rattle.wb_compose_language.specs.Inner.Known.{HasLayoutRows}
 use Rattle.wb_compose_language.specs.Inner.FormsMade.{AreWithdrawnBelow, IsWithdrawnIn}
-use Rattle.wb_compose_language.specs.Inner.Sharing.{SharesWithOther}
-use Rattle.wb_compose_language.specs.Lents.{HasBridges, IsUnitable, all_in, is_marker_in, own_in, written_in}
-use Rattle.wb_compose_language.proofs.KindLemmas.{ReadsIn, listed, marker_same, number_in, own_marker, past_host, reads_there, there_reads}
+use Rattle.wb_compose_language.specs.Inner.Layouts.{hosts_in}
+use Rattle.wb_compose_language.specs.Inner.Sharing.{SharesBefore, SharesWith, SharesWithOther}
+use Rattle.wb_compose_language.specs.Lents.{HasBridges, IsUnitable, all_in, is_marker_in, own_in, written_beside}
+use Rattle.wb_compose_language.proofs.KindLemmas.{ReadsIn, at_match, listed, marker_same, match_at, number_in, own_marker, past_host}
+use Rattle.wb_compose_language.proofs.KindLemmas.{pattern_of, reads_there, there_reads}
 
 -- a bridge is found
 bridge_some : (first t p a : ℕ) (rest : List Symbol) (rules : List Production) → slice_get rules p ≡ Some ((a, symbol.Terminal t ∷ rest)) →
@@ -43,11 +49,11 @@ bridge_some first t (suc p) a rest (rule ∷ rules) at = choose (begins t rule.1
 
 module _ (lent : Lent) where
   -- a row that is no marker has no mark, and a marker has one
-  pub bare_row : (x : Addition) (t : ℕ) → is_marker_in x t ≡ false → (written_in x).piece.mark t ≡ world.bare
+  pub bare_row : (x : Addition) (t : ℕ) → is_marker_in x t ≡ false → (written_beside lent x).piece.mark t ≡ world.bare
   bare_row x t is = ap (λ z. mark_by z (bridge_in_list 0 t x.grammar.now.productions)) is
 
   pub marker_row : (x : Addition) (t : ℕ) → HasBridges lent x → is_marker_in x t ≡ true →
-      IsMarkerRow lent.grammar.now lent.extensible.now (own_in lent) (written_in x) t
+      IsMarkerRow lent.grammar.now lent.extensible.now (own_in lent) (written_beside lent x) t
   marker_row x t bridges is =
       let b = bridges t is in
       let (q, found) = bridge_some 0 t b.number b.left b.rest x.grammar.now.productions b.rule in
@@ -110,65 +116,113 @@ module _ (lent : Lent) where
         (subst (λ (z : WrittenPiece). z.piece.mark w.marker.terminal ≡ world.on a) y_is mark) in
         let bad : world.bare ≡ world.on a = sym mine.unmarked ∙ there in cc
 
-    -- a marker is, exactly where it shares a text with an own terminal of another extension
-    pub shares_is_withdrawn : (k : ℕ) (x : Addition) (at : slice_get lent.extensions.now k ≡ Some x) (t : ℕ) (row : Terminal) →
-        ((l : ℕ) (y : Addition) → slice_get lent.extensions.now l ≡ Some y → HasTerminals y) →
-        IsMarkerRow lent.grammar.now lent.extensible.now (own_in lent) (written_in x) t → slice_get x.terminals.now t ≡ Some row →
-        SharesWithOther lent.grammar.now.terminals lent.extensions.now k row.pattern ↔ IsWithdrawnIn lent (number_in lent ok k t)
-    shares_is_withdrawn k x at t row rows marker row_at = (to, from)
-      where
-        mine : IsOwnRow lent.grammar.now (own_in lent) (written_in x) t
-        mine = own_marker lent ok k (written_in x) (listed lent ok k x at) t marker
+    -- a row of an extension's own, as it is read
+    own_terminal : (y : Addition) (u : ℕ) → lent.grammar.now.terminals ≤ u → u < y.grammar.now.terminals →
+        IsOwnRow lent.grammar.now (own_in lent) (written_beside lent y) u
+    own_terminal y u far less = inl (far, less)
 
-        to : SharesWithOther lent.grammar.now.terminals lent.extensions.now k row.pattern → IsWithdrawnIn lent (number_in lent ok k t)
-        to s = record {
-          k = k;
-          x = written_in x;
-          marker = record { listed = listed lent ok k x at; terminal = t; marker = marker; is = refl };
-          rival = number_in lent ok s.other s.shares.terminal;
-          of_other = record {
-            other = s.other;
-            extension = written_in s.x;
-            listed = listed lent ok s.other s.x s.at;
-            different = s.different;
-            terminal = s.shares.terminal;
-            own_row = (s.shares.far, s.shares.less);
-            is = refl;
-          };
-          share = record {
-            text = s.shares.share.text;
-            one_reads = reads_there lent ok k x at t row s.shares.share.text mine.1 row_at s.shares.share.one;
-            other_reads = reads_there lent ok s.other s.x s.at s.shares.terminal s.shares.row s.shares.share.text s.shares.less s.shares.at
-                s.shares.share.other;
-          };
-        }
+    own_layout : (y : Addition) (u : ℕ) → y.grammar.now.terminals + hosts_in lent ≤ u → u < length y.terminals.now →
+        IsOwnRow lent.grammar.now (own_in lent) (written_beside lent y) u
+    own_layout y u far less = let len = length-map y.terminals.now pattern_of in inr (far, omega (arith, less, len))
 
-        from : IsWithdrawnIn lent (number_in lent ok k t) → SharesWithOther lent.grammar.now.terminals lent.extensions.now k row.pattern
-        from w =
-            let (k_is, y_is, t_is) = marker_same lent ok k w.k (written_in x) w.x (listed lent ok k x at) t (number_in lent ok k t) mine
-            refl w.marker in
-            let (y, y_at, extension_is) = map_at written_in lent.extensions.now w.of_other.other w.of_other.extension w.of_other.listed in
-            let own_row = subst (λ (z : WrittenPiece). IsOwnRow lent.grammar.now (own_in lent) z w.of_other.terminal) extension_is
-            w.of_other.own_row in
-            let has = rows w.of_other.other y y_at in
-            let (other_row, other_at) = at_within y.terminals.now w.of_other.terminal (omega (arith, own_row.1, has)) in
-            record {
-              other = w.of_other.other;
-              less = slice_get_within lent.extensions.now w.of_other.other y y_at;
-              different = λ e. w.of_other.different (e ∙ k_is);
-              x = y;
-              at = y_at;
-              shares = record {
-                terminal = w.of_other.terminal;
-                far = own_row.0;
-                less = own_row.1;
-                row = other_row;
-                at = other_at;
-                share = record {
-                  text = w.share.text;
-                  one = there_reads lent ok k x at t row w.share.text mine.1 row_at w.share.one_reads;
-                  other = there_reads lent ok w.of_other.other y y_at w.of_other.terminal other_row w.share.text own_row.1 other_at
-                      (subst (λ z. ReadsIn lent ok z w.share.text) w.of_other.is w.share.other_reads);
-                };
-              };
-            }
+    -- a marker is, exactly where it shares a text with an own terminal or layout of another extension
+    module _ (k : ℕ) (x : Addition) (at : slice_get lent.extensions.now k ≡ Some x) (t : ℕ) (row : Terminal)
+        (marker : IsMarkerRow lent.grammar.now lent.extensible.now (own_in lent) (written_beside lent x) t)
+        (row_at : slice_get x.terminals.now t ≡ Some row) where
+      mine : IsOwnTerminal lent.grammar.now (own_in lent) (written_beside lent x) t
+      mine = own_marker lent ok k (written_beside lent x) (listed lent ok k x at) t marker
+
+      withdrawn_by : (l : ℕ) (y : Addition) → slice_get lent.extensions.now l ≡ Some y → l ≢ k → (from bound : ℕ) →
+          (s : SharesBefore from bound y row.pattern) → IsOwnRow lent.grammar.now (own_in lent) (written_beside lent y) s.terminal →
+          IsWithdrawnIn lent (number_in lent ok k t)
+      withdrawn_by l y there differ from bound s own_row = record {
+        k = k;
+        x = written_beside lent x;
+        marker = record { listed = listed lent ok k x at; terminal = t; marker = marker; is = refl };
+        rival = piece_row lent.grammar.now lent.extensible.now (own_in lent) (all_in lent) l (written_beside lent y) s.terminal;
+        of_other = record {
+          other = l;
+          extension = written_beside lent y;
+          listed = listed lent ok l y there;
+          different = differ;
+          terminal = s.terminal;
+          own_row = own_row;
+          is = refl;
+        };
+        share = record {
+          text = s.share.text;
+          one_reads = reads_there lent ok k x at t row s.share.text mine.1 row_at s.share.one;
+          other_reads = reads.of_extension l (written_beside lent y) s.terminal (listed lent ok l y there) refl
+              (match_at y.terminals.now s.terminal s.row s.share.text s.at s.share.other);
+        };
+      }
+
+      to : SharesWithOther lent.grammar.now.terminals (hosts_in lent) lent.extensions.now k row.pattern →
+          IsWithdrawnIn lent (number_in lent ok k t)
+      to s = elim s.shares [
+        | inl one ↦ withdrawn_by s.other s.x s.at s.different lent.grammar.now.terminals s.x.grammar.now.terminals one
+            (own_terminal s.x one.terminal one.far one.less)
+        | inr one ↦ withdrawn_by s.other s.x s.at s.different (s.x.grammar.now.terminals + hosts_in lent) (length s.x.terminals.now) one
+            (own_layout s.x one.terminal one.far one.less)
+      ]
+
+      -- the row shares the text that is read there
+      shared_by : (l : ℕ) (y : Addition) → slice_get lent.extensions.now l ≡ Some y → (from bound u : ℕ) (text : List ℕ) → from ≤ u →
+          u < bound → bound ≤ length y.terminals.now → ReadsIn lent ok (number_in lent ok k t) text →
+          ReadsIn lent ok (piece_row lent.grammar.now lent.extensible.now (own_in lent) (all_in lent) l (written_beside lent y) u) text →
+          SharesBefore from bound y row.pattern
+      shared_by l y there from bound u text far less within one other =
+          let (other_row, other_at) = at_within y.terminals.now u (omega (arith, less, within)) in
+          record {
+            terminal = u;
+            far = far;
+            less = less;
+            row = other_row;
+            at = other_at;
+            share = record {
+              text = text;
+              one = there_reads lent ok k x at t row text mine.1 row_at one;
+              other = at_match y.terminals.now u other_row text other_at
+                  (reads_piece lent.grammar.now lent.extensible.now (own_in lent) (all_in lent) ok.certified.are_pieces ok.apart l
+                  (written_beside lent y) (listed lent ok l y there) u text other);
+            };
+          }
+
+      shares : (l : ℕ) (y : Addition) → slice_get lent.extensions.now l ≡ Some y → HasLayoutRows (hosts_in lent) y → (u : ℕ)
+          (text : List ℕ) → IsOwnRow lent.grammar.now (own_in lent) (written_beside lent y) u →
+          ReadsIn lent ok (number_in lent ok k t) text →
+          ReadsIn lent ok (piece_row lent.grammar.now lent.extensible.now (own_in lent) (all_in lent) l (written_beside lent y) u) text →
+          SharesWith lent.grammar.now.terminals (hosts_in lent) y row.pattern
+      shares l y there has u text (inl (far, less)) one other = inl (shared_by l y there lent.grammar.now.terminals y.grammar.now.terminals
+          u text far less (omega (arith, has)) one other)
+      shares l y there has u text (inr (far, less)) one other =
+          let len = length-map y.terminals.now pattern_of in
+          inr (shared_by l y there (y.grammar.now.terminals + hosts_in lent) (length y.terminals.now) u text far
+          (omega (arith, less, len)) (omega arith) one other)
+
+      from : ((l : ℕ) (y : Addition) → slice_get lent.extensions.now l ≡ Some y → HasLayoutRows (hosts_in lent) y) →
+          IsWithdrawnIn lent (number_in lent ok k t) →
+          SharesWithOther lent.grammar.now.terminals (hosts_in lent) lent.extensions.now k row.pattern
+      from rows w =
+          let (k_is, y_is, t_is) = marker_same lent ok k w.k (written_beside lent x) w.x (listed lent ok k x at) t (number_in lent ok k t)
+          mine refl w.marker in
+          let (y, y_at, extension_is) = map_at (written_beside lent) lent.extensions.now w.of_other.other w.of_other.extension
+          w.of_other.listed in
+          let own_row = subst (λ (z : WrittenPiece). IsOwnRow lent.grammar.now (own_in lent) z w.of_other.terminal) extension_is
+          w.of_other.own_row in
+          let rival_is = w.of_other.is ∙ ap (λ z. piece_row lent.grammar.now lent.extensible.now (own_in lent) (all_in lent)
+          w.of_other.other z w.of_other.terminal) extension_is in
+          record {
+            other = w.of_other.other;
+            less = slice_get_within lent.extensions.now w.of_other.other y y_at;
+            different = λ e. w.of_other.different (e ∙ k_is);
+            x = y;
+            at = y_at;
+            shares = shares w.of_other.other y y_at (rows w.of_other.other y y_at) w.of_other.terminal w.share.text own_row
+                w.share.one_reads (subst (λ z. ReadsIn lent ok z w.share.text) rival_is w.share.other_reads);
+          }
+
+      pub shares_is_withdrawn : ((l : ℕ) (y : Addition) → slice_get lent.extensions.now l ≡ Some y → HasLayoutRows (hosts_in lent) y) →
+          SharesWithOther lent.grammar.now.terminals (hosts_in lent) lent.extensions.now k row.pattern ↔
+          IsWithdrawnIn lent (number_in lent ok k t)
+      shares_is_withdrawn rows = (to, from rows)

@@ -10,6 +10,8 @@ pub mod Opened
 pub mod Sharing
 -- forms of the union as they are made
 pub mod FormsMade
+-- layout of the union as it is made
+pub mod Layouts
 -- numbers of the union, and preferences as they are gathered
 pub mod Rows
 -- which forms are considered at each state

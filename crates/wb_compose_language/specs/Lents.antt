@@ -1,5 +1,5 @@
 -- A host with extensions as they are lent, as what unions are made of.
-use Rattle.std.specs.Prelude.{ℕ, Bool, true, false, IsTrue, List, Option, Some, None, All, map, slice_get}
+use Rattle.std.specs.Prelude.{◌==◌, ℕ, Bool, true, false, IsTrue, List, Option, Some, None, All, if◌then◌else◌, length, map, slice_get}
 use Rattle.wb_base.specs.Grammar.{GrammarView}
 use Rattle.wb_determinism_contexts.specs.Considered.{LexiconView}
 use Rattle.wb_syntax_resolved.specs.declared.terminal.Preference.{Preference}
@@ -29,12 +29,33 @@ abbrev pub is_marker_row : Option Terminal → Bool
 is_marker_row None = false
 is_marker_row (Some t) = is_marking t.kind
 
--- what is scanned of a grammar with these rows and preferences
+-- layout of the host
+abbrev pub is_host_layout : Terminal → Bool
+is_host_layout t = if t.owner == 0 then (is_layout t.kind) else false
+
+-- layout of an extension
+abbrev pub is_own_layout : Terminal → Bool
+is_own_layout t = if t.owner == 0 then false else (is_layout t.kind)
+
+-- what is scanned of a host's grammar with these rows and preferences: all layout is the host's
 abbrev pub lexicon_with : GrammarView → List Terminal → List Preference → LexiconView
 lexicon_with g terminals preferences = record {
   expressions = map (λ (t : Terminal). t.pattern) terminals;
   scanned = g.terminals;
   layout = map (λ (t : Terminal). is_layout t.kind) terminals;
+  own_layout = map (λ (t : Terminal). false) terminals;
+  own_productions = (0, 0);
+  preferences = map (λ (p : Preference). (p.first, p.second)) preferences;
+}
+
+-- what is scanned of a host with an extension, whose productions are those from this number on
+abbrev pub lexicon_from : ℕ → GrammarView → List Terminal → List Preference → LexiconView
+lexicon_from first g terminals preferences = record {
+  expressions = map (λ (t : Terminal). t.pattern) terminals;
+  scanned = g.terminals;
+  layout = map is_host_layout terminals;
+  own_layout = map is_own_layout terminals;
+  own_productions = (first, length g.productions);
   preferences = map (λ (p : Preference). (p.first, p.second)) preferences;
 }
 
@@ -42,20 +63,24 @@ lexicon_with g terminals preferences = record {
 abbrev pub is_marker_in : Addition → ℕ → Bool
 is_marker_in x t = is_marker_row (slice_get x.terminals.now t)
 
--- an extension as it is written
-abbrev pub written_in : Addition → WrittenPiece
-written_in x = record {
+-- an extension as it is written, where the host's grammar has so many productions
+abbrev pub written_in : ℕ → Addition → WrittenPiece
+written_in first x = record {
   piece = piece_of x.grammar.now (is_marker_in x);
   name = x.name.now;
-  lexicon = lexicon_with x.grammar.now x.terminals.now x.preferences.now;
+  lexicon = lexicon_from first x.grammar.now x.terminals.now x.preferences.now;
 }
 
--- what is scanned of the host's grammar, and the extensions
+-- what is scanned of the host's grammar, and an extension as it is written beside it
 abbrev pub own_in : Lent → LexiconView
 own_in lent = lexicon_with lent.grammar.now lent.terminals.now lent.preferences.now
 
+abbrev pub written_beside : Lent → Addition → WrittenPiece
+written_beside lent x = written_in (length lent.grammar.now.productions) x
+
+-- the extensions
 abbrev pub all_in : Lent → List WrittenPiece
-all_in lent = map written_in lent.extensions.now
+all_in lent = map (written_beside lent) lent.extensions.now
 
 -- each marker of the extension begins one of its productions, whose left side is extensible
 abbrev pub HasBridges : Lent → Addition → Type 0

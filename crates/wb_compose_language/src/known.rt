@@ -1,9 +1,9 @@
-//! Which terminals of extensions share a text?
+//! Which terminals and layouts of extensions share a text?
 //!
-//! The own terminals of all extensions are listed one after another. Two that are one text each are compared as texts. Where one of two is,
+//! The own terminals and own layout of all extensions are listed one after another. Two that are one text each are compared as texts. Where one of two is,
 //! an automaton of the other is followed along it (`text_machine`). All other pairs that are asked later are asked at once, by one walk.
 
-ghost use Rattle.std.specs.Prelude.{◌≡◌, ◌<◌, ◌↔◌, All, IfOk, IfSome, IsTrue, List, OnOk, Some, length, slice_get, true};
+ghost use Rattle.std.specs.Prelude.{◌≡◌, ◌≤◌, ◌<◌, ◌↔◌, All, IfOk, IfSome, IsTrue, List, OnOk, Some, length, slice_get, true};
 ghost use Rattle.wb_automata.specs.Automata.{IsMatch};
 ghost use Rattle.wb_automata.specs.Sharing.{ArePairsBelow, Share};
 ghost use Rattle.wb_regex.specs.Matches.{ShareText};
@@ -11,6 +11,7 @@ ghost use Rattle.wb_regex.specs.Tree.{Tree};
 ghost use Rattle.wb_compose_language.specs.Inner.Known.{AreBases, ArePatternsAdded, AreTexts, AreTold, HasOwnRows, IsAdded, IsKnown, IsOneText, IsText};
 
 use crate::Addition;
+use crate::addition::own_from;
 use crate::text_machine::is_match;
 use indexmap::IndexSet;
 use std::alloc::{AllocError, Global};
@@ -19,7 +20,7 @@ use wb_base::{Sequence, push};
 use wb_regex::Regex;
 use wb_syntax_resolved::TerminalKind;
 
-// The own terminals of all extensions, and for each extension the place of the first.
+// The own terminals and layouts of all extensions, and for each extension the place of the first.
 #[derive(Drop)]
 pub(crate) struct Owns {
     pub(crate) patterns: Vec<Regex>,
@@ -47,14 +48,15 @@ pub(crate) struct Known<'a> {
     pub(crate) told: &'a Told,
 }
 
-// The own terminals of these extensions.
+// The own terminals and layouts of these extensions, where the host has so many of both.
 pub(crate) fn owns_of(
     alloc: Global,
     own: usize,
+    hosts: usize,
     extensions: &[Addition],
 ) -> Result<Owns, AllocError>
-    requires { All (HasOwnRows own) extensions.now }
-    ensures { IfOk result (λ owns. AreBases own extensions.now owns.patterns.items owns.bases.items) }
+    requires { All (HasOwnRows own hosts) extensions.now }
+    ensures { IfOk result (λ owns. AreBases own hosts extensions.now owns.patterns.items owns.bases.items) }
 {
     let mut owns = Owns {
         patterns: Vec::new(alloc),
@@ -63,27 +65,41 @@ pub(crate) fn owns_of(
         markers: Vec::new(alloc),
     };
     'extensions: for extension in extensions {
-        add_extension(own, extension, &mut owns)?;
+        add_extension(own, hosts, extension, &mut owns)?;
     }
     Ok(owns)
 }
 
-// Adds the own terminals of one.
-fn add_extension(own: usize, extension: &Addition, owns: &mut Owns) -> Result<(), AllocError>
-    requires { HasOwnRows own extension.now }
-    ensures { OnOk result (IsAdded own extension.now owns.old.patterns.items owns.old.bases.items owns.new.patterns.items owns.new.bases.items) }
+// Adds the own terminals of one, and then its own layout.
+fn add_extension(
+    own: usize,
+    hosts: usize,
+    extension: &Addition,
+    owns: &mut Owns,
+) -> Result<(), AllocError>
+    requires { HasOwnRows own hosts extension.now }
+    ensures { OnOk result (IsAdded own hosts extension.now owns.old.patterns.items owns.old.bases.items owns.new.patterns.items owns.new.bases.items) }
 {
     let base = owns.patterns.len();
     push(&mut owns.bases, base)?;
-    add_terminals(own, extension, owns)
+    let from = own_from(extension, hosts);
+    add_rows(extension, own, extension.grammar.terminals(), owns)?;
+    add_rows(extension, from, extension.terminals.len(), owns)
 }
 
-fn add_terminals(own: usize, extension: &Addition, owns: &mut Owns) -> Result<(), AllocError>
-    requires { HasOwnRows own extension.now }
-    ensures patterns { OnOk result (ArePatternsAdded own extension.now.grammar.now.terminals extension.now owns.old.patterns.items owns.new.patterns.items) }
+// Adds the rows from the first number to before the end.
+fn add_rows(
+    extension: &Addition,
+    first: usize,
+    end: usize,
+    owns: &mut Owns,
+) -> Result<(), AllocError>
+    requires first { first ≤ end }
+    requires end { end ≤ length extension.now.terminals.now }
+    ensures patterns { OnOk result (ArePatternsAdded first end extension.now owns.old.patterns.items owns.new.patterns.items) }
     ensures bases { owns.new.bases.items ≡ owns.old.bases.items }
 {
-    'terminals: for number in own..extension.grammar.terminals() {
+    'rows: for number in first..end {
         let terminal = &extension.terminals[number];
         push(&mut owns.patterns, terminal.pattern.copy()?)?;
         push(&mut owns.groups, owns.bases.len())?;
@@ -110,7 +126,7 @@ pub(crate) fn texts_of(
     Ok(texts)
 }
 
-// What is told of all pairs of a marker and a terminal of another extension of which neither is a text alone.
+// What is told of all pairs of a marker and a terminal or layout of another extension of which neither is a text alone.
 pub(crate) fn told_of(
     alloc: Global,
     owns: &Owns,

@@ -1,26 +1,25 @@
-//! Builds the tables of a deterministic grammar.
+//! Builds the kernels and tables of a deterministic grammar.
 //!
 //! The only refusal is out of memory.
 
 ghost use Rattle.std.specs.Prelude.{IfOk};
 ghost use Rattle.wb_grammar.specs.Facts.{AreFacts};
+ghost use Rattle.wb_determinism_contexts.specs.Parts.{ArePartsOf};
 ghost use Rattle.wb_scan_theory.specs.Facts.{IsDeterministic};
-ghost use Rattle.wb_scan_theory.specs.Parts.{AreTablesOf};
 
 use std::alloc::{AllocError, Global};
 use wb_base::Grammar;
-use wb_determinism_contexts::{PartsRefusal, parts_of};
+use wb_determinism_contexts::{Parts, PartsRefusal, parts_of};
 use wb_grammar::{Facts, GrammarRefusal, analyse};
-use wb_lookahead::Tables;
 
-// The tables of the grammar.
-pub(crate) fn tables_of(alloc: Global, grammar: &Grammar) -> Result<Tables, AllocError>
+// The kernels of the grammar, and its tables.
+pub(crate) fn parts_in(alloc: Global, grammar: &Grammar) -> Result<Parts, AllocError>
     requires { IsDeterministic grammar.now }
-    ensures { IfOk result (AreTablesOf grammar.now) }
+    ensures { IfOk result (ArePartsOf grammar.now) }
 {
     let facts = facts_of(alloc, grammar)?;
     match parts_of(alloc, grammar, &facts) {
-        Ok(parts) => Ok(parts.tables),
+        Ok(parts) => Ok(parts),
         Err(PartsRefusal::NoMemory(error)) => Err(error),
         Err(PartsRefusal::Conflict(_)) => unreachable!(),
     }

@@ -1,17 +1,20 @@
 //! Builds the forms of the language of a union with their expressions, and finds the markers that are withdrawn.
 //!
-//! The host's terminals come first, then those of each extension (`extension_forms`), and the expressions of layout last.
+//! The host's terminals come first, then those of each extension (`extension_forms`), and the expressions of layout last, of the host's
+//! and then of each extension's own.
 
 ghost use Rattle.std.specs.Prelude.{◌≡◌, ◌≤◌, ◌<◌, [], IfOk, OnOk, length};
 ghost use Rattle.wb_compose_theory_language.specs.Languages.{AreForms, AreWithdrawn};
 ghost use Rattle.wb_compose_language.specs.Expressions.{AreExpressions};
 ghost use Rattle.wb_compose_language.specs.Lents.{IsUnitable, all_in, own_in};
-ghost use Rattle.wb_compose_language.specs.Inner.FormsMade.{AreLayoutAdded, AreMadeBelow};
+ghost use Rattle.wb_compose_language.specs.Inner.FormsMade.{AreMadeBelow};
 ghost use Rattle.wb_compose_language.specs.Inner.Known.{AreBases, AreTexts};
+ghost use Rattle.wb_compose_language.specs.Inner.Layouts.{AreLayoutAdded, ArePatternsFrom, hosts_in};
 ghost use Rattle.wb_compose_language.specs.Inner.Opened.{IsOpened, union_terminals};
 ghost use Rattle.wb_compose_language.specs.Inner.TextMachines.{IsTextMachine};
 
 use crate::Lent;
+use crate::addition::{host_layouts, own_from};
 use crate::extension_forms::add_extension;
 use crate::known::{Known, Owns, owns_of, texts_of, told_of};
 use crate::own_productions::sum;
@@ -22,12 +25,13 @@ use wb_automata::Automaton;
 use wb_base::{Sequence, push};
 use wb_regex::Regex;
 use wb_scan_theory::Form;
+use wb_syntax_resolved::Terminal;
 
 /// The forms of a union, and what they match. A form is named by its place, and a marker by its number in the union.
 #[derive(Drop)]
 pub struct UnitedForms {
     pub forms: Vec<Form>,
-    /// One for each form, and then one for each layout of the host.
+    /// One for each form, then one for each layout of the host, and then for each layout of an extension's own.
     pub expressions: Vec<Regex>,
     /// The markers without a bare form, in the order of their numbers.
     pub withdrawn: Vec<usize>,
@@ -35,7 +39,7 @@ pub struct UnitedForms {
 
 /// The forms of the union of a host and its extensions.
 ///
-/// Markers and terminals of other extensions that are one text each are compared as texts; where one of two is, the other is read along it;
+/// Markers and terminals or layouts of other extensions that are one text each are compared as texts; where one of two is, the other is read along it;
 /// and all other pairs of them are met by one walk over pairs of places.
 pub fn united_forms(alloc: Global, lent: &Lent) -> Result<UnitedForms, AllocError>
     requires { IsUnitable lent.now }
@@ -43,21 +47,22 @@ pub fn united_forms(alloc: Global, lent: &Lent) -> Result<UnitedForms, AllocErro
     ensures expressions { IfOk result (λ made. AreExpressions lent.now made.forms.items made.expressions.items) }
     ensures withdrawn { IfOk result (λ made. AreWithdrawn lent.now.grammar.now lent.now.extensible.now (own_in lent.now) (all_in lent.now) made.withdrawn.items) }
 {
-    let owns = owns_of(alloc, lent.grammar.terminals(), lent.extensions)?;
+    let hosts = host_layouts(lent);
+    let owns = owns_of(alloc, lent.grammar.terminals(), hosts, lent.extensions)?;
     forms_of(alloc, lent, &owns)
 }
 
-// A host with extensions, and what is known of their own terminals.
+// A host with extensions, and what is known of their own terminals and layouts.
 #[derive(Clone, Copy)]
 pub(crate) struct Opened<'a> {
     pub(crate) lent: Lent<'a>,
     pub(crate) known: &'a Known<'a>,
 }
 
-// Like `united_forms`, where the own terminals are listed.
+// Like `united_forms`, where the own terminals and layouts are listed.
 fn forms_of(alloc: Global, lent: &Lent, owns: &Owns) -> Result<UnitedForms, AllocError>
     requires unitable { IsUnitable lent.now }
-    requires owns { AreBases lent.now.grammar.now.terminals lent.now.extensions.now owns.now.patterns.items owns.now.bases.items }
+    requires owns { AreBases lent.now.grammar.now.terminals (hosts_in lent.now) lent.now.extensions.now owns.now.patterns.items owns.now.bases.items }
     ensures forms { IfOk result (λ made. AreForms lent.now.grammar.now lent.now.extensible.now (own_in lent.now) (all_in lent.now) made.forms.items) }
     ensures expressions { IfOk result (λ made. AreExpressions lent.now made.forms.items made.expressions.items) }
     ensures withdrawn { IfOk result (λ made. AreWithdrawn lent.now.grammar.now lent.now.extensible.now (own_in lent.now) (all_in lent.now) made.withdrawn.items) }
@@ -76,7 +81,7 @@ fn forms_by(
     texts: &[Option<Sequence<u8>>],
 ) -> Result<UnitedForms, AllocError>
     requires unitable { IsUnitable lent.now }
-    requires owns { AreBases lent.now.grammar.now.terminals lent.now.extensions.now owns.now.patterns.items owns.now.bases.items }
+    requires owns { AreBases lent.now.grammar.now.terminals (hosts_in lent.now) lent.now.extensions.now owns.now.patterns.items owns.now.bases.items }
     requires texts { AreTexts owns.now.patterns.items texts.now }
     ensures forms { IfOk result (λ made. AreForms lent.now.grammar.now lent.now.extensible.now (own_in lent.now) (all_in lent.now) made.forms.items) }
     ensures expressions { IfOk result (λ made. AreExpressions lent.now made.forms.items made.expressions.items) }
@@ -97,7 +102,7 @@ fn forms_told(
     machine: &Automaton,
 ) -> Result<UnitedForms, AllocError>
     requires unitable { IsUnitable lent.now }
-    requires owns { AreBases lent.now.grammar.now.terminals lent.now.extensions.now owns.now.patterns.items owns.now.bases.items }
+    requires owns { AreBases lent.now.grammar.now.terminals (hosts_in lent.now) lent.now.extensions.now owns.now.patterns.items owns.now.bases.items }
     requires texts { AreTexts owns.now.patterns.items texts.now }
     requires machine { IsTextMachine owns.now.patterns.items texts.now machine.now }
     ensures forms { IfOk result (λ made. AreForms lent.now.grammar.now lent.now.extensible.now (own_in lent.now) (all_in lent.now) made.forms.items) }
@@ -182,13 +187,31 @@ fn add_extensions(alloc: Global, opened: &Opened, made: &mut UnitedForms) -> Res
     Ok(())
 }
 
-// Adds the expressions of the host's layout.
+// Adds the expressions of the host's layout, and then those of each extension's own.
 fn add_layout(lent: &Lent, expressions: &mut Vec<Regex>) -> Result<(), AllocError>
-    requires { lent.now.grammar.now.terminals ≤ length lent.now.terminals.now }
+    requires { IsUnitable lent.now }
     ensures { OnOk result (AreLayoutAdded lent.now expressions.old.items expressions.new.items) }
 {
-    'layout: for row in lent.grammar.terminals()..lent.terminals.len() {
-        push(expressions, lent.terminals[row].pattern.copy()?)?;
+    let hosts = host_layouts(lent);
+    add_patterns(lent.terminals, lent.grammar.terminals(), expressions)?;
+    'extensions: for number in 0..lent.extensions.len() {
+        let extension = &lent.extensions[number];
+        add_patterns(extension.terminals, own_from(extension, hosts), expressions)?;
+    }
+    Ok(())
+}
+
+// Adds the expressions of the rows from the first on.
+fn add_patterns(
+    rows: &[Terminal],
+    first: usize,
+    expressions: &mut Vec<Regex>,
+) -> Result<(), AllocError>
+    requires { first ≤ length rows.now }
+    ensures { OnOk result (ArePatternsFrom first rows.now expressions.old.items expressions.new.items) }
+{
+    'rows: for row in first..rows.len() {
+        push(expressions, rows[row].pattern.copy()?)?;
     }
     Ok(())
 }

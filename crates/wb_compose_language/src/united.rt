@@ -1,25 +1,31 @@
 //! Builds the language of a host with its extensions.
 //!
-//! Its grammar, its forms and how they are written are those of `wb_compose_language`; what is considered at a state is of its tables.
+//! Its grammar, its forms and how they are written are those of `wb_compose_language`; what is considered at a state is of its tables, and an
+//! extension's own layout is of its kernels.
 
-ghost use Rattle.std.specs.Prelude.{◌≡◌, ◌≤◌, IfOk, length};
-ghost use Rattle.wb_scan_theory.specs.Parts.{AreTablesOf};
+ghost use Rattle.std.specs.Prelude.{◌≡◌, ◌+◌, IfOk, length};
+ghost use Rattle.wb_determinism_contexts.specs.Parts.{ArePartsOf};
+ghost use Rattle.wb_items.specs.Kernels.{count_of};
 ghost use Rattle.wb_lookahead.specs.Contents.{size_of};
 ghost use Rattle.wb_compose_language.specs.Expressions.{layout_in};
 ghost use Rattle.wb_compose_language.specs.Lents.{IsUnitable};
 ghost use Rattle.wb_compose_language.specs.United.{HasWithdrawn, IsUnion};
+ghost use Rattle.wb_compose_language.specs.Inner.Layouts.{AreSpansBelow, layouts_in};
 ghost use Rattle.wb_compose_language.specs.Inner.Made.{IsMade, IsScanned, IsWrittenBy};
-ghost use Rattle.wb_compose_language.specs.Inner.Rows.{ArePreferences, grammar_of};
+ghost use Rattle.wb_compose_language.specs.Inner.Rows.{ArePreferences, AreSums, grammar_of};
 ghost use Rattle.wb_compose_language.specs.Inner.Sets.{AreFormSets, HaveRoom};
 
-use crate::form_sets::form_sets;
-use crate::layout::numbers_from;
-use crate::preferences::united_preferences;
-use crate::tables::tables_of;
+use crate::addition::host_layouts;
+use crate::form_sets::{Considered, form_sets};
+use crate::layout::{numbers_from, spans_of};
+use crate::own_productions::sum;
+use crate::preferences::{Sums, united_preferences};
+use crate::tables::parts_in;
 use crate::{Lent, united_forms, united_grammar};
 use std::alloc::{AllocError, Global};
 use wb_automata::Automaton;
 use wb_base::Grammar;
+use wb_determinism_contexts::Parts;
 use wb_lookahead::Tables;
 use wb_regex::Regex;
 use wb_scan::Language;
@@ -35,7 +41,8 @@ pub struct UnitedLanguage {
 
 /// The language of a host and of extensions that are certified with it alone.
 ///
-/// Terminals are numbered by the host, then by each extension, and then comes the host's layout. No clause bounds the time.
+/// Terminals are numbered by the host, then by each extension, and then comes the host's layout, and after it each extension's own. No clause
+/// bounds the time.
 pub fn united_language(alloc: Global, lent: &Lent) -> Result<UnitedLanguage, AllocError>
     requires { IsUnitable lent.now }
     ensures language { IfOk result (λ made. IsUnion lent.now made.language.language) }
@@ -52,6 +59,7 @@ pub fn united_language(alloc: Global, lent: &Lent) -> Result<UnitedLanguage, All
             scanned.automaton,
             scanned.forms,
             rows.layout,
+            rows.spans,
             rows.preferences,
         ),
         withdrawn: scanned.withdrawn,
@@ -73,10 +81,11 @@ struct Written {
     scanned: Scanned,
 }
 
-// Numbers of its layout, and its preferences.
+// Numbers of its layout, the productions by which each is considered, and its preferences.
 #[derive(Drop)]
 struct Rows {
     layout: Vec<usize>,
+    spans: Vec<Option<(usize, usize)>>,
     preferences: Vec<(usize, usize)>,
 }
 
@@ -94,56 +103,87 @@ fn made_of(alloc: Global, lent: &Lent, grammar: &Grammar) -> Result<Made, AllocE
     requires grammar { grammar.now ≡ grammar_of lent.now }
     ensures { IfOk result (IsMade lent.now grammar.now) }
 {
-    let tables = tables_of(alloc, grammar)?;
-    let written = written_by(alloc, lent, grammar, &tables)?;
+    let parts = parts_in(alloc, grammar)?;
+    let written = written_by(alloc, lent, grammar, &parts)?;
     Ok(Made {
-        tables,
+        tables: parts.tables,
         rows: written.rows,
         scanned: written.scanned,
     })
 }
 
-// How the union is written, with what is considered at each state of these tables.
+// How the union is written, with what is considered at each of these kernels.
 fn written_by(
     alloc: Global,
     lent: &Lent,
     grammar: &Grammar,
-    tables: &Tables,
+    parts: &Parts,
 ) -> Result<Written, AllocError>
     requires unitable { IsUnitable lent.now }
     requires grammar { grammar.now ≡ grammar_of lent.now }
-    requires tables { AreTablesOf (grammar_of lent.now) tables.now }
-    ensures { IfOk result (IsWrittenBy lent.now tables.now) }
+    requires parts { ArePartsOf (grammar_of lent.now) parts.now }
+    ensures { IfOk result (IsWrittenBy lent.now parts.now) }
 {
     let rows = rows_of(alloc, lent, grammar)?;
-    let scanned = scanned_by(alloc, lent, tables)?;
+    let scanned = scanned_by(alloc, lent, parts, rows.spans.as_slice())?;
     Ok(Written { rows, scanned })
 }
 
-// Layout and preferences.
+// Layout with its productions, and preferences.
 fn rows_of(alloc: Global, lent: &Lent, grammar: &Grammar) -> Result<Rows, AllocError>
     requires unitable { IsUnitable lent.now }
     requires grammar { grammar.now ≡ grammar_of lent.now }
     ensures layout { IfOk result (λ rows. rows.layout.items ≡ layout_in lent.now) }
+    ensures spans { IfOk result (λ rows. AreSpansBelow lent.now (layouts_in lent.now) rows.spans.items) }
     ensures preferences { IfOk result (λ rows. ArePreferences lent.now rows.preferences.items) }
 {
-    let own = lent.grammar.terminals();
-    let layout = numbers_from(alloc, grammar.terminals(), lent.terminals.len() - own)?;
-    let preferences = united_preferences(alloc, lent, grammar.terminals() - own)?;
+    let spans = spans_of(alloc, lent)?;
+    let count = spans.len();
+    let sums = sums_of(lent, grammar, count)?;
+    let layout = numbers_from(alloc, grammar.terminals(), count)?;
+    let preferences = united_preferences(alloc, lent, sums)?;
     Ok(Rows {
         layout,
+        spans,
         preferences,
     })
 }
 
-// The forms, and the automaton for what is considered at each state.
-fn scanned_by(alloc: Global, lent: &Lent, tables: &Tables) -> Result<Scanned, AllocError>
+// What all extensions have of their own, where their union has so many layouts.
+fn sums_of(lent: &Lent, grammar: &Grammar, count: usize) -> Result<Sums, AllocError>
     requires unitable { IsUnitable lent.now }
-    requires tables { AreTablesOf (grammar_of lent.now) tables.now }
-    ensures { IfOk result (IsScanned lent.now tables.now) }
+    requires grammar { grammar.now ≡ grammar_of lent.now }
+    requires count { count ≡ layouts_in lent.now }
+    ensures { IfOk result (AreSums lent.now) }
+{
+    let hosts = host_layouts(lent);
+    Ok(Sums {
+        terminals: grammar.terminals() - lent.grammar.terminals(),
+        layouts: count - hosts,
+        from: sum(grammar.terminals(), hosts)?,
+    })
+}
+
+// The forms, and the automaton for what is considered at each state, where layout has these productions.
+fn scanned_by(
+    alloc: Global,
+    lent: &Lent,
+    parts: &Parts,
+    spans: &[Option<(usize, usize)>],
+) -> Result<Scanned, AllocError>
+    requires unitable { IsUnitable lent.now }
+    requires parts { ArePartsOf (grammar_of lent.now) parts.now }
+    requires spans { AreSpansBelow lent.now (layouts_in lent.now) spans.now }
+    ensures { IfOk result (IsScanned lent.now parts.now spans.now) }
 {
     let made = united_forms(alloc, lent)?;
-    let automaton = automaton_on(alloc, tables, &made.forms, &made.expressions)?;
+    let count = made.expressions.len();
+    let considered = Considered {
+        forms: &made.forms,
+        spans,
+        count,
+    };
+    let automaton = automaton_on(alloc, parts, &considered, &made.expressions)?;
     let _expressions = automaton.terminals();
     Ok(Scanned {
         automaton,
@@ -155,15 +195,16 @@ fn scanned_by(alloc: Global, lent: &Lent, tables: &Tables) -> Result<Scanned, Al
 // The automaton of the expressions of these forms and of layout.
 fn automaton_on(
     alloc: Global,
-    tables: &Tables,
-    forms: &[Form],
+    parts: &Parts,
+    considered: &Considered,
     expressions: &[Regex],
 ) -> Result<Automaton, AllocError>
-    requires room { HaveRoom forms.now tables.now }
-    requires count { length forms.now ≤ length expressions.now }
+    requires kernels { count_of parts.now.kernels ≡ size_of parts.now.tables }
+    requires room { HaveRoom considered.now.forms.now parts.now.tables }
+    requires count { considered.now.count ≡ length considered.now.forms.now + length considered.now.spans.now }
     ensures terminals { IfOk result (λ automaton. automaton.terminals ≡ expressions.now) }
-    ensures sets { IfOk result (λ automaton. AreFormSets tables.now forms.now (length expressions.now) (size_of tables.now) automaton.sets) }
+    ensures sets { IfOk result (λ automaton. AreFormSets parts.now.kernels parts.now.tables considered.now.forms.now considered.now.spans.now (size_of parts.now.tables) automaton.sets) }
 {
-    let sets = form_sets(alloc, tables, forms, expressions.len())?;
+    let sets = form_sets(alloc, parts, considered)?;
     Automaton::build(alloc, expressions, &sets)
 }

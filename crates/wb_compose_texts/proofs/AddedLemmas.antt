@@ -2,7 +2,7 @@
 use Rattle.std.proofs.Common.{◌≡◌, ◌<◌, ◌≤◌, ◌+◌, ◌-◌, ◌++◌, ◌∷◌, ◌∙◌, [], ℕ, List, Option, None, Some, drop, get_or, length, map}
 use Rattle.std.proofs.Common.{slice_get, slice_index_or, take, ap, refl, subst, sym, arith}
 use Rattle.std.specs.List.{AllZip}
-use Rattle.std.proofs.lemmas.List.{append-nil, length-take-le, map-append}
+use Rattle.std.proofs.lemmas.List.{append-nil, drop-drop, length-take-le, map-append, take_all}
 use Rattle.std.proofs.lemmas.Option.{slice_get_read}
 use Rattle.wb_compose.specs.Kept.{ExtensionView}
 use Rattle.wb_lemmas.proofs.Parts.{append_assoc}
@@ -13,7 +13,7 @@ use Rattle.wb_syntax_resolved.specs.declared.resolved.ResolvedParts.{ResolvedPar
 use Rattle.wb_syntax_resolved.specs.declared.terminal.Terminal.{Terminal}
 use Rattle.wb_certify_shown.specs.Names.{terminals_in}
 use Rattle.wb_compose_texts.specs.Unions.{all_resolved}
-use Rattle.wb_compose_texts.specs.Expressions.{AreUnitedExpressions, IsExpressionOf, Row, added_rows, rows_of}
+use Rattle.wb_compose_texts.specs.Expressions.{AreUnitedExpressions, IsExpressionOf, Row, added_layouts, added_rows, layouts_past, rows_of}
 use Rattle.wb_compose_texts.specs.Inner.Added.{AreAdded}
 use Rattle.wb_compose_texts.proofs.TableLemmas.{all_next, part_all, part_next, take_next}
 
@@ -71,25 +71,25 @@ module _ (name : Option (List ℕ)) (from to : ℕ) (rows : List Terminal) where
         subst (λ z. AreAdded (map (λ (row : Terminal). (name, row)) z) old new)
         (part_all (take to rows) from k to (length-take-le to rows inside) past) was
 
--- one extension more
-module _ (host : ResolvedParts) (es : List ExtensionView) where
+-- one extension more, of each of which there are such rows
+module _ (rows_in : ResolvedParts → List Row) (es : List ExtensionView) where
   abbrev pub blocks_to : ℕ → List Row
-  blocks_to i = all_of (map (added_rows host) (all_resolved (take i es)))
+  blocks_to i = all_of (map rows_in (all_resolved (take i es)))
 
   pub blocks_begun : (old : List Tree) → AreAdded (blocks_to 0) old old
   blocks_begun old = none_added old
 
   pub block_next : (i : ℕ) (e : ExtensionView) (old now new : List Tree) → i < length es → e ≡ get_or es i e →
-      AreAdded (blocks_to i) old now → AreAdded (added_rows host e.resolved) now new → AreAdded (blocks_to (i + 1)) old new
+      AreAdded (blocks_to i) old now → AreAdded (rows_in e.resolved) now new → AreAdded (blocks_to (i + 1)) old new
   block_next i e old now new less is was more =
       let at = slice_get_read es (length es) i e refl less is in
       let rs = all_resolved (take i es) in
       let resolved : all_resolved (take (i + 1) es) ≡ rs ++ e.resolved ∷ [] =
       ap all_resolved (take_next es i e at) ∙ map-append (λ (e : ExtensionView). e.resolved) (take i es) (e ∷ []) in
-      let blocks : map (added_rows host) (all_resolved (take (i + 1) es)) ≡ map (added_rows host) rs ++ added_rows host e.resolved ∷ [] =
-      ap (map (added_rows host)) resolved ∙ map-append (added_rows host) rs (e.resolved ∷ []) in
-      subst (λ z. AreAdded z old new) (sym (ap all_of blocks ∙ all_next (map (added_rows host) rs) (added_rows host e.resolved)))
-      (added_both (blocks_to i) (added_rows host e.resolved) old now new was more)
+      let blocks : map rows_in (all_resolved (take (i + 1) es)) ≡ map rows_in rs ++ rows_in e.resolved ∷ [] =
+      ap (map rows_in) resolved ∙ map-append rows_in rs (e.resolved ∷ []) in
+      subst (λ z. AreAdded z old new) (sym (ap all_of blocks ∙ all_next (map rows_in rs) (rows_in e.resolved)))
+      (added_both (blocks_to i) (rows_in e.resolved) old now new was more)
 
 -- the rows that an extension of this name adds
 pub added_is : (host r : ResolvedParts) (name : List ℕ) (own count : ℕ) (rows : List Terminal) → r.attributes.extensions ≡ name ∷ [] →
@@ -99,18 +99,36 @@ added_is host r name own count rows one own_is count_is rows_are =
     let named : name ≡ slice_index_or r.attributes.extensions 0 [] = sym (ap (λ xs. slice_index_or xs 0 []) one) in
     λ z. rows_of (Some (named z)) (own_is z) (count_is z) (rows_are z)
 
+-- the layouts of an extension of this name after its terminals and so many others
+pub layouts_are : (r : ResolvedParts) (name : List ℕ) (terminals count size : ℕ) (rows past left : List Terminal) →
+    r.attributes.extensions ≡ name ∷ [] →
+    terminals ≡ terminals_in r.grammar → rows ≡ r.terminals → past ≡ drop terminals rows → left ≡ drop count past → size ≡ length left →
+    rows_of (Some name) 0 size left ≡ layouts_past count r
+layouts_are r name terminals count size rows past left one terminals_are rows_are past_is left_is size_is =
+    let named : name ≡ slice_index_or r.attributes.extensions 0 [] = sym (ap (λ xs. slice_index_or xs 0 []) one) in
+    let all : take size left ≡ left = take_all size left (omega (arith, size_is)) in
+    let whole : take (length r.terminals) r.terminals ≡ r.terminals = take_all (length r.terminals) r.terminals (omega arith) in
+    let dropped : left ≡ drop (terminals + count) rows =
+    left_is ∙ (ap (drop count) past_is ∙ drop-drop count terminals rows) in
+    let same : take size left ≡ drop (terminals_in r.grammar + count) (take (length r.terminals) r.terminals) =
+    all ∙ (dropped ∙ ((λ z. drop (terminals_are z + count) (rows_are z)) ∙ ap (drop (terminals_in r.grammar + count)) (sym whole))) in
+    λ z. map (λ (row : Terminal). (Some (named z), row)) (same z)
+
 -- all of a union
-pub united : (host given : ResolvedParts) (es : List ExtensionView) (start own more made : List Tree) → host ≡ given → start ≡ [] →
+pub united : (host given : ResolvedParts) (es : List ExtensionView) (start own more behind made : List Tree) → host ≡ given → start ≡ [] →
     AreAdded (rows_of None 0 (terminals_in host.grammar) host.terminals) start own →
     AreAdded (all_of (map (added_rows host) (all_resolved es))) own more →
-    AreAdded (rows_of None (terminals_in host.grammar) (length host.terminals) host.terminals) more made →
+    AreAdded (rows_of None (terminals_in host.grammar) (length host.terminals) host.terminals) more behind →
+    AreAdded (all_of (map (added_layouts host) (all_resolved es))) behind made →
     AreUnitedExpressions given (all_resolved es) made
-united host given es start own more made same empty first second third =
+united host given es start own more behind made same empty first second third fourth =
     let terminals = rows_of None 0 (terminals_in host.grammar) host.terminals in
     let added = all_of (map (added_rows host) (all_resolved es)) in
     let layouts = rows_of None (terminals_in host.grammar) (length host.terminals) host.terminals in
+    let last = all_of (map (added_layouts host) (all_resolved es)) in
     let both = added_both terminals added start own more first second in
-    let whole = added_both (terminals ++ added) layouts start more made both third in
+    let three = added_both (terminals ++ added) layouts start more behind both third in
+    let whole = added_both (terminals ++ added ++ layouts) last start behind made three fourth in
     let of_host : AreUnitedExpressions host (all_resolved es) made =
     whole [] (subst (λ (z : List Tree). AllZip IsExpressionOf [] z) (sym empty) tt) in
     subst (λ z. AreUnitedExpressions z (all_resolved es) made) same of_host

@@ -158,7 +158,8 @@ module _ (host : ResolvedParts) (h : GrammarView) (operations : List OperationSi
 
   -- those that extensions add
   of_extensions : (t a : ℕ) (xs : List Extended) → All Both xs →
-      AreOf (signatures_after host a (resolved_in xs)) (productions_after h t a (grammars_of h host.extensible (pieces_of (written_in xs))))
+      AreOf (signatures_after host a (resolved_in xs))
+      (productions_after h t a (grammars_of h host.extensible (pieces_of (written_in h xs))))
   of_extensions t a [] each = of_none
   of_extensions t a (e ∷ xs) each =
       let both = All-head Both e xs each in
@@ -174,7 +175,7 @@ module _ (host : ResolvedParts) (h : GrammarView) (operations : List OperationSi
       λ z. a + (ap nonterminals_in (sym both.start) z - sym own_is z) in
       let rest = of_extensions (t + added_terminals h e.grammar) (a + added_nonterminals h e.grammar) xs (All-tail Both e xs each) in
       let rules = productions_after h (t + added_terminals h e.grammar) (a + added_nonterminals h e.grammar)
-      (grammars_of h host.extensible (pieces_of (written_in xs))) in
+      (grammars_of h host.extensible (pieces_of (written_in h xs))) in
       of_both (map (signature_by (lift (nonterminals_in host.grammar) a)) (added_signatures host e.resolved))
       (signatures_after host (a + added_count host e.resolved) (resolved_in xs))
       (map (renamed_production (lifted_by h t a 0)) (own_productions h e.grammar)) rules
@@ -186,7 +187,7 @@ pub agrees : (host : ResolvedParts) (operations : List OperationSignature) (exte
 agrees host operations extensions u p a right rule =
     let all : AreOf (signatures_of host (resolved_in u.extended)) (united_of host operations extensions u).productions =
     of_both (grammar_signatures host) (signatures_after host 0 (resolved_in u.extended)) u.grammar.productions
-    (productions_after u.grammar 0 0 (grammars_of u.grammar host.extensible (pieces_of (written_in u.extended))))
+    (productions_after u.grammar 0 0 (grammars_of u.grammar host.extensible (pieces_of (written_in u.grammar u.extended))))
     (of_grammar host u.grammar u.certified.host_resolved u.certified.host_start)
     (of_extensions host u.grammar operations u.certified.host_start 0 0 u.extended u.certified.each) in
     let (s, at, is) = all.each p (a, right) rule in

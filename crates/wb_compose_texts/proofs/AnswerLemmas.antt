@@ -119,11 +119,11 @@ module _ (host : ResolvedParts) (h : GrammarView) (operations : List OperationSi
       redone = re.redone;
     }
 
-    pub written_are : IsReordering to from (written_in xs) (written_in ys)
-    written_are = reordering_map (λ (e : Extended). written_with e.resolved e.grammar) reordered_are
+    pub written_are : IsReordering to from (written_in h xs) (written_in h ys)
+    written_are = reordering_map (λ (e : Extended). written_with h e.resolved e.grammar) reordered_are
 
     abbrev pub names : Renaming
-    names = names_to h host.extensible (written_in xs) (written_in ys) to
+    names = names_to h host.extensible (written_in h xs) (written_in h ys) to
 
     -- terminals have the same names
     pub named : (t : ℕ) → name_at (terminals_of host (resolved_in ys)) (names.terminal t) ≡ name_at (terminals_of host (resolved_in xs)) t
@@ -136,10 +136,10 @@ module _ (host : ResolvedParts) (h : GrammarView) (operations : List OperationSi
         (map length (map (added_names host) (resolved_in ys))) to t ≡ names.terminal t = λ z. number_to (own z) (first z) (second z) to t in
         ap (name_at (terminals_of host (resolved_in ys))) (sym number) ∙ ap or_end there
 
-    module _ (l m : LanguageView) (l_is : IsUnitedLanguage h host.extensible (lexicon_of host h) (written_in xs) l)
-        (m_is : IsUnitedLanguage h host.extensible (lexicon_of host h) (written_in ys) m) (ok : IsLanguage m) where
+    module _ (l m : LanguageView) (l_is : IsUnitedLanguage h host.extensible (lexicon_of host h) (written_in h xs) l)
+        (m_is : IsUnitedLanguage h host.extensible (lexicon_of host h) (written_in h ys) m) (ok : IsLanguage m) where
       same : HasSameAnswers names l m
-      same = same_union_answers h host.extensible (lexicon_of host h) (written_in xs) (written_in ys) to from
+      same = same_union_answers h host.extensible (lexicon_of host h) (written_in h xs) (written_in h ys) to from
           (all_certified host h operations xs one).are_pieces written_are l m l_is m_is
 
       -- and trees are printed alike
@@ -168,7 +168,7 @@ same_answer host operations extensions others to from re text x y first second =
     (subst (λ z. IsReordering to from z (resolved_in v.extended)) (sym u.extensions_are)
     (subst (IsReordering to from extensions) (sym v.extensions_are) re)) first.language second.language
     first.is_language.of_union
-    (subst (λ g. IsUnitedLanguage g host.extensible (lexicon_of host g) (written_in v.extended) second.language) grammars
+    (subst (λ g. IsUnitedLanguage g host.extensible (lexicon_of host g) (written_in g v.extended) second.language) grammars
     second.is_language.of_union) second.is_language.language text x y
     (subst (λ z. IsAnswerIn (terminals_of host z) (signatures_of host z) first.language text x) (sym u.extensions_are) first.is)
     (subst (λ z. IsAnswerIn (terminals_of host z) (signatures_of host z) second.language text y) (sym v.extensions_are) second.is)

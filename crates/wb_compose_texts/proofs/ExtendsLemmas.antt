@@ -44,12 +44,12 @@ module _ (host : ResolvedParts) (operations : List OperationSignature) (extensio
 
   -- a language of one union is one of every other
   pub language_in : (u v : Union host operations extensions) (l : LanguageView) →
-      IsUnitedLanguage v.grammar host.extensible (lexicon_of host v.grammar) (written_in v.extended) l →
-      IsUnitedLanguage u.grammar host.extensible (lexicon_of host u.grammar) (written_in u.extended) l
+      IsUnitedLanguage v.grammar host.extensible (lexicon_of host v.grammar) (written_in v.grammar v.extended) l →
+      IsUnitedLanguage u.grammar host.extensible (lexicon_of host u.grammar) (written_in u.grammar u.extended) l
   language_in u v l is =
-      subst (λ g. IsUnitedLanguage g host.extensible (lexicon_of host g) (written_in u.extended) l)
+      subst (λ g. IsUnitedLanguage g host.extensible (lexicon_of host g) (written_in g u.extended) l)
       (sym (one_grammar host operations extensions u v))
-      (subst (λ xs. IsUnitedLanguage v.grammar host.extensible (lexicon_of host v.grammar) (written_in xs) l)
+      (subst (λ xs. IsUnitedLanguage v.grammar host.extensible (lexicon_of host v.grammar) (written_in v.grammar xs) l)
       (sym (one_extended host operations extensions u v)) is)
 
   -- attributes of a union are those of every one
@@ -72,7 +72,7 @@ module _ (host : CertifiedView) (extensions : List ExtensionView) where
 
   pub markers_marking : (u : LanguageView) (withdrawn : List ℕ) (c : IsComposed host extensions u withdrawn) (markers : List Bool) →
       AreUnionMarkers host.resolved (all_resolved extensions) markers →
-      AreMarking c.grammar host.resolved.extensible (lexicon_of host.resolved c.grammar) (written_in c.extended) markers
+      AreMarking c.grammar host.resolved.extensible (lexicon_of host.resolved c.grammar) (written_in c.grammar c.extended) markers
   markers_marking u withdrawn c markers are =
       are_marking host.resolved c.grammar host.operations c.certified.host_start c.extended c.certified.each markers
       (subst (λ z. AreUnionMarkers host.resolved z markers) (sym (union_is host extensions u withdrawn c).extensions_are) are)

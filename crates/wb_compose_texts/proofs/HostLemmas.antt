@@ -170,7 +170,7 @@ same_texts host g l withdrawn start composed =
 
     language : IsUnitedLanguage composed.grammar host.resolved.extensible (lexicon_of host.resolved composed.grammar) [] l
     language = subst (λ xs. IsUnitedLanguage composed.grammar host.resolved.extensible (lexicon_of host.resolved composed.grammar)
-        (written_in xs) l) nothing_added composed.language
+        (written_in composed.grammar xs) l) nothing_added composed.language
 
 -- an answer in the union is one in the host's own language
 answer_alone : (host : ResolvedParts) (g : GrammarView) (operations : List OperationSignature) → AreCertifiedApart host g operations []
@@ -185,9 +185,9 @@ answer_alone host g operations apart text x answer =
     grammars = same_Some u.grammar g (sym u.certified.host_start ∙ apart.host_start)
 
     language : IsUnitedLanguage g host.extensible (lexicon_of host g) [] answer.language
-    language = subst (λ xs. IsUnitedLanguage g host.extensible (lexicon_of host g) (written_in xs) answer.language)
+    language = subst (λ xs. IsUnitedLanguage g host.extensible (lexicon_of host g) (written_in g xs) answer.language)
         (none_resolved u.extended u.extensions_are)
-        (subst (λ z. IsUnitedLanguage z host.extensible (lexicon_of host z) (written_in u.extended) answer.language) grammars
+        (subst (λ z. IsUnitedLanguage z host.extensible (lexicon_of host z) (written_in z u.extended) answer.language) grammars
         answer.is_language.of_union)
 
 -- a text has the same answers in both

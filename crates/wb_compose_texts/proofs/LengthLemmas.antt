@@ -1,6 +1,6 @@
--- A union's terminals and the host's layouts have an expression each, so that the first layout's is there where there is one.
-use Rattle.std.proofs.Common.{◌≡◌, ◌<◌, ◌≤◌, ◌+◌, ◌-◌, ◌++◌, ◌∷◌, ◌∙◌, [], ℕ, suc, List, Some, None, All, length, map, refl, ap, sym, arith}
-use Rattle.std.proofs.Common.{drop, take}
+-- A union's terminals and layouts have an expression each, so that the host's first layout's is there where there is one.
+use Rattle.std.proofs.Common.{◌≡◌, ◌<◌, ◌≤◌, ◌+◌, ◌-◌, ◌++◌, ◌∷◌, ◌∙◌, [], ℕ, suc, List, Some, None, All, length, map, refl, ap, arith}
+use Rattle.std.proofs.Common.{drop, subst, take}
 use Rattle.std.specs.Prelude.{IfSome, Option}
 use Rattle.std.specs.List.{AllZip}
 use Rattle.std.proofs.lemmas.List.{length-drop, length-map, length-take-le}
@@ -22,7 +22,8 @@ use Rattle.wb_certify_shown.specs.Names.{terminals_in}
 use Rattle.wb_certify_shown.proofs.HoleLemmas.{few_terminals}
 use Rattle.wb_compose_theory_grammar.specs.Places.{total_of}
 use Rattle.wb_compose_theory_grammar.specs.UnitedWorlds.{terminal_sizes}
-use Rattle.wb_compose_texts.specs.Expressions.{AreUnitedExpressions, IsExpressionOf, Row, added_rows, name_of, rows_of, united_rows}
+use Rattle.wb_compose_texts.specs.Expressions.{AreUnitedExpressions, IsExpressionOf, Row, added_layouts, added_rows, name_of, rows_of}
+use Rattle.wb_compose_texts.specs.Expressions.{united_rows}
 use Rattle.wb_compose.specs.WrittenLanguages.{pieces_of}
 use Rattle.wb_compose_texts.specs.Unions.{Union, all_resolved, united_of}
 use Rattle.wb_compose_texts.specs.Generated.{first_layout, place_behind}
@@ -47,12 +48,12 @@ module _ (host : ResolvedParts) (h : GrammarView) (operations : List OperationSi
 
   -- each extension has as many rows as it adds terminals
   added_len : (start : host.grammar ≡ Some h) (xs : List Extended) → All Both xs →
-      length (all_of (map (added_rows host) (resolved_in xs))) ≡ total_of (terminal_sizes h host.extensible (pieces_of (written_in xs)))
+      length (all_of (map (added_rows host) (resolved_in xs))) ≡ total_of (terminal_sizes h host.extensible (pieces_of (written_in h xs)))
   added_len start [] each = refl
   added_len start (e ∷ xs) each =
       let both = All-head Both e xs each in
       let rest : length (all_of (map (added_rows host) (resolved_in xs))) ≡ total_of (terminal_sizes h host.extensible (pieces_of
-      (written_in xs))) = added_len start xs (All-tail Both e xs each) in
+      (written_in h xs))) = added_len start xs (All-tail Both e xs each) in
       let one : length (added_rows host e.resolved) ≡ terminals_in e.resolved.grammar - terminals_in host.grammar =
       rows_len (Some (name_of e.resolved)) (terminals_in host.grammar) (terminals_in e.resolved.grammar) e.resolved.terminals
       (few_terminals e.resolved both.resolved) in
@@ -61,29 +62,32 @@ module _ (host : ResolvedParts) (h : GrammarView) (operations : List OperationSi
       length_append (added_rows host e.resolved) (all_of (map (added_rows host) (resolved_in xs))) ∙ (λ j. both_len j + rest j)
 
   module _ (xs : List Extended) (apart : AreCertifiedApart host h operations xs) where
-    rows_in_all : length (united_rows host (resolved_in xs)) ≡
-        h.terminals + total_of (terminal_sizes h host.extensible (pieces_of (written_in xs))) + (length host.terminals - h.terminals)
+    rows_in_all : h.terminals + total_of (terminal_sizes h host.extensible (pieces_of (written_in h xs))) + (length host.terminals - h.terminals)
+        ≤ length (united_rows host (resolved_in xs))
     rows_in_all =
         let own : List Row = rows_of None 0 (terminals_in host.grammar) host.terminals in
         let added : List Row = all_of (map (added_rows host) (resolved_in xs)) in
         let layouts : List Row = rows_of None (terminals_in host.grammar) (length host.terminals) host.terminals in
+        let last : List Row = all_of (map (added_layouts host) (resolved_in xs)) in
         let size : terminals_in host.grammar ≡ h.terminals = ap terminals_in apart.host_start in
         let one : length own ≡ terminals_in host.grammar - 0 =
         rows_len None 0 (terminals_in host.grammar) host.terminals (few_terminals host apart.host_resolved) in
-        let two : length added ≡ total_of (terminal_sizes h host.extensible (pieces_of (written_in xs))) =
+        let two : length added ≡ total_of (terminal_sizes h host.extensible (pieces_of (written_in h xs))) =
         added_len apart.host_start xs apart.each in
         let three : length layouts ≡ length host.terminals - terminals_in host.grammar =
         rows_len None (terminals_in host.grammar) (length host.terminals) host.terminals (omega arith) in
+        let d = length_append (own ++ added ++ layouts) last in
         let e = length_append (own ++ added) layouts in
         let f = length_append own added in
-        omega (arith, size, one, two, three, e, f)
+        omega (arith, size, one, two, three, d, e, f)
 
 module _ (host : ResolvedParts) (operations : List OperationSignature) (extensions : List ResolvedParts)
     (u : Union host operations extensions) (made : List Tree) (written : AreUnitedExpressions host extensions made) where
-  expressions_len : length made ≡ (united_of host operations extensions u).terminals + (length host.terminals - u.grammar.terminals)
+  expressions_len : (united_of host operations extensions u).terminals + (length host.terminals - u.grammar.terminals) ≤ length made
   expressions_len =
-      sym (length_all_zip_both (united_rows host extensions) made written)
-      ∙ (ap (λ z. length (united_rows host z)) (sym u.extensions_are) ∙ rows_in_all host u.grammar operations u.extended u.certified)
+      subst (λ n. (united_of host operations extensions u).terminals + (length host.terminals - u.grammar.terminals) ≤ n)
+      (ap (λ z. length (united_rows host z)) u.extensions_are ∙ length_all_zip_both (united_rows host extensions) made written)
+      (rows_in_all host u.grammar operations u.extended u.certified)
     where
       length_all_zip_both : (rows : List Row) (ys : List Tree) → AllZip IsExpressionOf rows ys → length rows ≡ length ys
       length_all_zip_both [] [] all = refl

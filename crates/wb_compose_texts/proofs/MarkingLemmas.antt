@@ -76,20 +76,20 @@ module _ (host : ResolvedParts) (h : GrammarView) (operations : List OperationSi
   -- a marker of a certified extension has its mark, and nothing else has one
   module _ (e : Extended) (both : Both e) where
     marker_to : (n : ℕ) → IsTrue (is_marker_at e.resolved n) →
-        IsMarkerRow h host.extensible (lexicon_of host h) (written_with e.resolved e.grammar) n
+        IsMarkerRow h host.extensible (lexicon_of host h) (written_with h e.resolved e.grammar) n
     marker_to n is_marker =
         let (p, a, is, listed) = bridge_listed host e.resolved h e.grammar operations
         (certified_is_bridged host e.resolved h e.grammar operations both) n is_marker in
         (a, ap (λ z. mark_by z (bridge_in_list 0 n e.grammar.productions)) is_marker ∙ ap (mark_by true) is)
 
-    marker_from : (n : ℕ) → IsMarkerRow h host.extensible (lexicon_of host h) (written_with e.resolved e.grammar) n →
+    marker_from : (n : ℕ) → IsMarkerRow h host.extensible (lexicon_of host h) (written_with h e.resolved e.grammar) n →
         IsTrue (is_marker_at e.resolved n)
     marker_from n (a, is) = marked_true (is_marker_at e.resolved n) (bridge_in_list 0 n e.grammar.productions) a is
 
   module _ (start : host.grammar ≡ Some h) where
     -- each extension has a flag for each terminal that it adds
     pub flag_lens : (xs : List Extended) → All Both xs →
-        map length (map (added_markers host) (resolved_in xs)) ≡ terminal_sizes h host.extensible (pieces_of (written_in xs))
+        map length (map (added_markers host) (resolved_in xs)) ≡ terminal_sizes h host.extensible (pieces_of (written_in h xs))
     flag_lens [] each = refl
     flag_lens (e ∷ xs) each =
         let both = All-head Both e xs each in
@@ -112,16 +112,16 @@ module _ (host : ResolvedParts) (h : GrammarView) (operations : List OperationSi
       own_len = length-replicate (terminals_in host.grammar) false ∙ ap terminals_in start
 
       -- where a terminal of an extension is
-      place_is : (k i : ℕ) → in_union h host.extensible (pieces_of (written_in xs)) k (h.terminals + i) ≡
+      place_is : (k i : ℕ) → in_union h host.extensible (pieces_of (written_in h xs)) k (h.terminals + i) ≡
           length own + (count_before (map length blocks) k + i)
       place_is k i =
-          let up = lift_past h.terminals (count_before (terminal_sizes h host.extensible (pieces_of (written_in xs))) k) (h.terminals + i)
+          let up = lift_past h.terminals (count_before (terminal_sizes h host.extensible (pieces_of (written_in h xs))) k) (h.terminals + i)
           (omega arith) in
           let before = ap (λ z. count_before z k) (flag_lens xs each) in
           let len = own_len in
           omega (arith, up, before, len)
 
-      to : (t : ℕ) → IsMember (union_markers host rs) t → IsMarking h host.extensible (lexicon_of host h) (written_in xs) t
+      to : (t : ℕ) → IsMember (union_markers host rs) t → IsMarking h host.extensible (lexicon_of host h) (written_in h xs) t
       to t has = elim (at_append own (all_of blocks) true t (flag_at (union_markers host rs) t has)) [
         | inl here ↦ absurd (IsEmpty-replicate (terminals_in host.grammar) t (at_flag own t here))
         | inr (j, is, there) ↦
@@ -136,9 +136,9 @@ module _ (host : ResolvedParts) (h : GrammarView) (operations : List OperationSi
             (sym (drop_at (terminals_in host.grammar) b.i (grammar_markers e.resolved)) ∙ at) in
             record {
               k = b.k;
-              x = written_with e.resolved e.grammar;
+              x = written_with h e.resolved e.grammar;
               of_extension = record {
-                listed = at_map (λ (e : Extended). written_with e.resolved e.grammar) xs b.k e e_at;
+                listed = at_map (λ (e : Extended). written_with h e.resolved e.grammar) xs b.k e e_at;
                 terminal = h.terminals + b.i;
                 marker = marker_to e (all_at Both xs b.k e each e_at) (h.terminals + b.i) (flag_row e.resolved (h.terminals + b.i) flag);
                 is = is ∙ (ap (λ z. length own + z) b.place ∙ sym (place_is b.k b.i));
@@ -146,9 +146,9 @@ module _ (host : ResolvedParts) (h : GrammarView) (operations : List OperationSi
             }
       ]
 
-      from : (t : ℕ) → IsMarking h host.extensible (lexicon_of host h) (written_in xs) t → IsMember (union_markers host rs) t
+      from : (t : ℕ) → IsMarking h host.extensible (lexicon_of host h) (written_in h xs) t → IsMember (union_markers host rs) t
       from t m =
-          let (e, e_at, x_is) = map_at (λ (e : Extended). written_with e.resolved e.grammar) xs m.k m.x m.of_extension.listed in
+          let (e, e_at, x_is) = map_at (λ (e : Extended). written_with h e.resolved e.grammar) xs m.k m.x m.of_extension.listed in
           let both = all_at Both xs m.k e each e_at in
           let n = m.of_extension.terminal in
           let marks = marker_from e both n (subst (λ z. IsMarkerRow h host.extensible
@@ -165,12 +165,12 @@ module _ (host : ResolvedParts) (h : GrammarView) (operations : List OperationSi
           let listed = at_map (added_markers host) rs m.k e.resolved r_at in
           let there = block_at blocks m.k (n - h.terminals) (added_markers host e.resolved) true listed flag in
           let t_is : t ≡ length own + (count_before (map length blocks) m.k + (n - h.terminals)) =
-          m.of_extension.is ∙ (ap (in_union h host.extensible (pieces_of (written_in xs)) m.k) (sym n_is) ∙
+          m.of_extension.is ∙ (ap (in_union h host.extensible (pieces_of (written_in h xs)) m.k) (sym n_is) ∙
           place_is m.k (n - h.terminals)) in
           at_flag (union_markers host rs) t (ap (slice_get (union_markers host rs)) t_is ∙
           (append_after own (all_of blocks) (count_before (map length blocks) m.k + (n - h.terminals)) ∙ there))
 
       -- a set with the markers by number has the marking terminals
       pub are_marking : (markers : List Bool) → AreUnionMarkers host rs markers →
-          AreMarking h host.extensible (lexicon_of host h) (written_in xs) markers
+          AreMarking h host.extensible (lexicon_of host h) (written_in h xs) markers
       are_marking markers is t = (λ has. to t ((is t).0 has), λ m. (is t).1 (from t m))

@@ -53,7 +53,7 @@ module _ (host : ResolvedParts) (h : GrammarView) (operations : List OperationSi
   module _ (start : host.grammar ≡ Some h) where
     -- each extension has as many names as it adds terminals
     pub terminal_lens : (xs : List Extended) → All Both xs →
-        map length (map (added_names host) (resolved_in xs)) ≡ terminal_sizes h host.extensible (pieces_of (written_in xs))
+        map length (map (added_names host) (resolved_in xs)) ≡ terminal_sizes h host.extensible (pieces_of (written_in h xs))
     terminal_lens [] each = refl
     terminal_lens (e ∷ xs) each =
         let both = All-head Both e xs each in
@@ -64,7 +64,7 @@ module _ (host : ResolvedParts) (h : GrammarView) (operations : List OperationSi
 
     -- and as many signatures as it adds productions
     pub production_lens : (xs : List Extended) → All Both xs →
-        map length (production_blocks host (resolved_in xs)) ≡ production_sizes h host.extensible (pieces_of (written_in xs))
+        map length (production_blocks host (resolved_in xs)) ≡ production_sizes h host.extensible (pieces_of (written_in h xs))
     production_lens [] each = refl
     production_lens (e ∷ xs) each =
         let both = All-head Both e xs each in
@@ -84,7 +84,7 @@ module _ (host : ResolvedParts) (h : GrammarView) (operations : List OperationSi
         length-map (grammar_signatures host) name_of ∙ (signatures_len host apart.host_resolved ∙ ap productions_in apart.host_start)
 
     -- the signatures have the names of the host's productions, and then those of each extension
-    pub in_turn_are : HasNamesInTurn h host.extensible (pieces_of (written_in xs)) (production_names host)
+    pub in_turn_are : HasNamesInTurn h host.extensible (pieces_of (written_in h xs)) (production_names host)
         (production_blocks host (resolved_in xs)) (signatures_of host (resolved_in xs))
     in_turn_are = record {
       own_len = own_productions;

@@ -87,7 +87,7 @@ one_grammar host operations extensions u v =
     subst (λ g. AreCertifiedApart host g operations v.extended) grammars v.certified in
     let extendeds : v.extended ≡ u.extended = same_extended host u.grammar operations v.extended u.extended apart.each u.certified.each
     (v.extensions_are ∙ sym u.extensions_are) in
-    λ j. united (grammars j) host.extensible (pieces_of (written_in (extendeds j)))
+    λ j. united (grammars j) host.extensible (pieces_of (written_in (grammars j) (extendeds j)))
 
 pub one_text : (host : ResolvedParts) (operations : List OperationSignature) (extensions : List ResolvedParts) (number size : ℕ) →
     HasOneText host operations extensions number size

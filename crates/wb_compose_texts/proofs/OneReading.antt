@@ -39,7 +39,7 @@ use Rattle.wb_compose_texts.proofs.SameLanguage.{still}
 flag_there : (host : ResolvedParts) (h : GrammarView) (operations : List OperationSignature) (xs ys : List Extended)
     (one : AreCertifiedApart host h operations xs) (two : AreCertifiedApart host h operations ys) (to from : ℕ → ℕ) →
     IsReordering to from (resolved_in xs) (resolved_in ys) → (t : ℕ) →
-    slice_get (union_markers host (resolved_in ys)) ((names_to h host.extensible (written_in xs) (written_in ys) to).terminal t) ≡
+    slice_get (union_markers host (resolved_in ys)) ((names_to h host.extensible (written_in h xs) (written_in h ys) to).terminal t) ≡
     slice_get (union_markers host (resolved_in xs)) t
 flag_there host h operations xs ys one two to from re t =
     let own = replicate (terminals_in host.grammar) false in
@@ -48,7 +48,7 @@ flag_there host h operations xs ys one two to from re t =
     let second = flag_lens host h operations two.host_start ys two.each in
     let number : number_to (length own) (map length (map (added_markers host) (resolved_in xs)))
     (map length (map (added_markers host) (resolved_in ys))) to t ≡
-    (names_to h host.extensible (written_in xs) (written_in ys) to).terminal t
+    (names_to h host.extensible (written_in h xs) (written_in h ys) to).terminal t
     = λ z. number_to (own_len z) (first z) (second z) to t in
     ap (slice_get (union_markers host (resolved_in ys))) (sym number) ∙ in_turn_there own (reordering_map (added_markers host) re) t
 
@@ -71,15 +71,16 @@ module _ (host : ResolvedParts) (operations : List OperationSignature) (extensio
   reordering = subst (λ z. IsReordering to from z (resolved_in v.extended)) (sym u.extensions_are)
       (subst (IsReordering to from extensions) (sym v.extensions_are) re)
 
-  united_there : IsUnitedLanguage u.grammar host.extensible (lexicon_of host u.grammar) (written_in v.extended) m
-  united_there = subst (λ g. IsUnitedLanguage g host.extensible (lexicon_of host g) (written_in v.extended) m) grammars also.of_union
+  united_there : IsUnitedLanguage u.grammar host.extensible (lexicon_of host u.grammar) (written_in u.grammar v.extended) m
+  united_there = subst (λ g. IsUnitedLanguage g host.extensible (lexicon_of host g) (written_in g v.extended) m) grammars also.of_union
 
   -- where numbers go
   abbrev pub r : Renaming
-  r = names_to u.grammar host.extensible (written_in u.extended) (written_in v.extended) to
+  r = names_to u.grammar host.extensible (written_in u.grammar u.extended) (written_in u.grammar v.extended) to
 
-  same : IsSameBy r (names_to u.grammar host.extensible (written_in v.extended) (written_in u.extended) from) l m
-  same = same_union u.grammar host.extensible (lexicon_of host u.grammar) (written_in u.extended) (written_in v.extended) to from
+  same : IsSameBy r (names_to u.grammar host.extensible (written_in u.grammar v.extended) (written_in u.grammar u.extended) from) l m
+  same = same_union u.grammar host.extensible (lexicon_of host u.grammar) (written_in u.grammar u.extended)
+      (written_in u.grammar v.extended) to from
       ((all_certified host u.grammar operations u.extended u.certified).are_pieces)
       (written_are host u.grammar operations u.extended v.extended u.certified apart to from reordering) l m is.of_union united_there
 

@@ -61,11 +61,11 @@ module _ (host : ResolvedParts) (operations : List OperationSignature) (extensio
       (subst (λ xs. IsAskedOn (attributes_of host v.grammar xs) name v.grammar.start attribute) (sym (one_extended u v)) asked)
 
   pub language_there : (u v : Union host operations extensions) (l : LanguageView) → IsLanguageOf host operations extensions v l →
-      IsUnitedLanguage u.grammar host.extensible (lexicon_of host u.grammar) (written_in u.extended) l
+      IsUnitedLanguage u.grammar host.extensible (lexicon_of host u.grammar) (written_in u.grammar u.extended) l
   language_there u v l is =
-      subst (λ g. IsUnitedLanguage g host.extensible (lexicon_of host g) (written_in u.extended) l) (sym (one_grammar u v))
-      (subst (λ xs. IsUnitedLanguage v.grammar host.extensible (lexicon_of host v.grammar) (written_in xs) l) (sym (one_extended u v))
-      is.of_union)
+      subst (λ g. IsUnitedLanguage g host.extensible (lexicon_of host g) (written_in g u.extended) l) (sym (one_grammar u v))
+      (subst (λ xs. IsUnitedLanguage v.grammar host.extensible (lexicon_of host v.grammar) (written_in v.grammar xs) l)
+      (sym (one_extended u v)) is.of_union)
 
   module _ (differ : Differ (map name_in extensions)) where
     -- the attributes of the union are an attribution

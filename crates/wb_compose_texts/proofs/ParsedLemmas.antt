@@ -80,9 +80,9 @@ module _ (host : ResolvedParts) (operations : List OperationSignature) (extensio
 
     agrees_there : AgreesWith a.signatures (united_of host operations extensions v)
     agrees_there =
-        subst (λ g. AgreesWith a.signatures (united g host.extensible (pieces_of (written_in v.extended))))
+        subst (λ g. AgreesWith a.signatures (united g host.extensible (pieces_of (written_in g v.extended))))
         (one_grammar host operations extensions its v)
-        (subst (λ xs. AgreesWith a.signatures (united of_union.grammar host.extensible (pieces_of (written_in xs))))
+        (subst (λ xs. AgreesWith a.signatures (united of_union.grammar host.extensible (pieces_of (written_in of_union.grammar xs))))
         (one_extended host operations extensions its v) of_union.agrees)
 
     asked_of : (top : Tree) → FitsTree a.signatures top v.grammar.start → (name : List ℕ) (attribute : ℕ)

@@ -73,7 +73,7 @@ still_is (node p a children rest) = let inner = still_is children in let after =
 
 module _ (host : ResolvedParts) (operations : List OperationSignature) (extensions : List ResolvedParts)
     (all : Union host operations extensions) (l u : GrammarView) (l_is : l ≡ all.grammar)
-    (u_is : u ≡ united all.grammar host.extensible (pieces_of (written_in all.extended))) where
+    (u_is : u ≡ united all.grammar host.extensible (pieces_of (written_in all.grammar all.extended))) where
   -- a terminal of the host, or the end of a text, has one name
   name_same : (k : ℕ) → name_at (terminals_of host extensions) (lift l.terminals (u.terminals - l.terminals) k) ≡
       name_at (terminals_of host []) k
@@ -94,7 +94,7 @@ module _ (host : ResolvedParts) (operations : List OperationSignature) (extensio
       rest =
           let first = ap (λ (g : GrammarView). g.terminals) l_is in
           let whole : u.terminals ≡ all.grammar.terminals +
-          total_of (terminal_sizes all.grammar host.extensible (pieces_of (written_in all.extended)))
+          total_of (terminal_sizes all.grammar host.extensible (pieces_of (written_in all.grammar all.extended)))
           = ap (λ (g : GrammarView). g.terminals) u_is in
           let sizes = all_len blocks ∙
           ap total_of (terminal_lens host all.grammar operations all.certified.host_start all.extended all.certified.each) in

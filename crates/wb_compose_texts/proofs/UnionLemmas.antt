@@ -118,11 +118,11 @@ module _ (host : ResolvedParts) (operations : List OperationSignature) (extensio
       after_below (length rows.nonterminals + lead.total + length rows.abstract_nonterminals) follow g.start (omega (arith, less))
 
   module _ (h u : LanguageView) (of_host : IsUnitedLanguage g host.extensible (lexicon_of host g) [] h)
-      (of_union : IsUnitedLanguage g host.extensible (lexicon_of host g) (written_in xs) u) (markers : List Bool)
+      (of_union : IsUnitedLanguage g host.extensible (lexicon_of host g) (written_in g xs) u) (markers : List Bool)
       (are : AreUnionMarkers host extensions markers) where
     language_extends : ExtendsLanguage h u markers
     language_extends =
-        extends_language g host.extensible (lexicon_of host g) (written_in xs) h u markers
+        extends_language g host.extensible (lexicon_of host g) (written_in g xs) h u markers
         (all_certified host g operations xs all.certified) (all_apart host g operations xs all.certified names_differ) of_host of_union
         (are_marking host g operations all.certified.host_start xs all.certified.each markers
         (subst (λ z. AreUnionMarkers host z markers) (sym all.extensions_are) are))

@@ -97,9 +97,9 @@ one_withdrawn host operations extensions names others first second =
     extendeds = same_extended host u.grammar operations v.extended u.extended apart.each u.certified.each
         (v.extensions_are ∙ sym u.extensions_are)
 
-    also : AreWithdrawn u.grammar host.extensible (lexicon_of host u.grammar) (written_in u.extended) second.numbers
-    also = subst (λ xs. AreWithdrawn u.grammar host.extensible (lexicon_of host u.grammar) (written_in xs) second.numbers) extendeds
-        (subst (λ g. AreWithdrawn g host.extensible (lexicon_of host g) (written_in v.extended) second.numbers) grammars second.withdrawn)
+    also : AreWithdrawn u.grammar host.extensible (lexicon_of host u.grammar) (written_in u.grammar u.extended) second.numbers
+    also = subst (λ xs. AreWithdrawn u.grammar host.extensible (lexicon_of host u.grammar) (written_in u.grammar xs) second.numbers)
+        extendeds (subst (λ g. AreWithdrawn g host.extensible (lexicon_of host g) (written_in g v.extended) second.numbers) grammars second.withdrawn)
 
     numbers : first.numbers ≡ second.numbers
     numbers = one_rising first.numbers second.numbers first.withdrawn.rising also.rising

@@ -1,6 +1,6 @@
 -- The regular expressions by which the terminals and layouts of a union are written: the host's terminals, those that each extension adds,
--- in turn, and the host's layouts. An extension is given by the host with it alone.
-use Rattle.std.specs.Prelude.{◌≡◌, ◌++◌, ◌∷◌, [], ℕ, List, Option, Some, None, drop, length, map, slice_index_or, take}
+-- in turn, the host's layouts, and then those that each extension has of its own. An extension is given by the host with it alone.
+use Rattle.std.specs.Prelude.{◌≡◌, ◌+◌, ◌-◌, ◌++◌, ◌∷◌, [], ℕ, List, Option, Some, None, drop, length, map, slice_index_or, take}
 use Rattle.std.specs.List.{AllZip}
 use Rattle.wb_regex.specs.Prefixed.{IsPrefixed}
 use Rattle.wb_regex.specs.Tree.{Tree}
@@ -47,11 +47,23 @@ name_of r = slice_index_or r.attributes.extensions 0 []
 abbrev pub added_rows : (host r : ResolvedParts) → List Row
 added_rows host r = rows_of (Some (name_of r)) (terminals_in host.grammar) (terminals_in r.grammar) r.terminals
 
--- the terminals of the union, by number, and then the host's layouts
+-- how many layouts the host has: what comes after its terminals
+abbrev pub layouts_in : ResolvedParts → ℕ
+layouts_in host = length host.terminals - terminals_in host.grammar
+
+-- what comes after an extension's terminals and so many layouts
+abbrev pub layouts_past : ℕ → ResolvedParts → List Row
+layouts_past count r = rows_of (Some (name_of r)) (terminals_in r.grammar + count) (length r.terminals) r.terminals
+
+-- the layouts that an extension has of its own: what comes after its terminals and the host's layouts
+abbrev pub added_layouts : (host r : ResolvedParts) → List Row
+added_layouts host r = layouts_past (layouts_in host) r
+
+-- the terminals of the union, by number, then the host's layouts, and then those of each extension
 abbrev pub united_rows : ResolvedParts → List ResolvedParts → List Row
 united_rows host extensions =
     rows_of None 0 (terminals_in host.grammar) host.terminals ++ all_of (map (added_rows host) extensions)
-    ++ rows_of None (terminals_in host.grammar) (length host.terminals) host.terminals
+    ++ rows_of None (terminals_in host.grammar) (length host.terminals) host.terminals ++ all_of (map (added_layouts host) extensions)
 
 -- each is written by its expression
 abbrev pub AreUnitedExpressions : ResolvedParts → List ResolvedParts → List Tree → Type 0

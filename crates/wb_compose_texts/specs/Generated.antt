@@ -19,8 +19,8 @@ abbrev pub place_behind : ℕ → Option Terminal → Option ℕ
 place_behind terminals None = None
 place_behind terminals (Some layout) = Some terminals
 
--- with the union's grammar and the expressions by which its terminals and the host's layouts are written, this is what the number makes of
--- at most so many leaves, with the host's first layout between two
+-- with the union's grammar and the expressions by which its terminals and layouts are written, this is what the number makes of at most so
+-- many leaves, with the host's first layout between two
 pub record IsGeneratedText (host : ResolvedParts) (operations : List OperationSignature) (extensions : List ResolvedParts)
     (number size : ℕ) (answer : Generated) : Type 0 where
   pub whole : Union host operations extensions

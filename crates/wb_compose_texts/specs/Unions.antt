@@ -27,7 +27,7 @@ module _ (host : ResolvedParts) (operations : List OperationSignature) (extensio
 
   -- the extensions of the union as they are written
   abbrev pub written_of : Union → List WrittenPiece
-  written_of u = written_in u.extended
+  written_of u = written_in u.grammar u.extended
 
   -- the grammar of the union
   abbrev pub united_of : Union → GrammarView

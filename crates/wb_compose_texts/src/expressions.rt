@@ -1,6 +1,6 @@
 //! Lists the expressions by which all terminals and layouts of a union are written.
 
-ghost use Rattle.std.specs.Prelude.{None, IfOk, OnOk, length, map};
+ghost use Rattle.std.specs.Prelude.{None, IfOk, OnOk, map};
 ghost use Rattle.wb_reading.specs.OrderedNames.{all_of};
 ghost use Rattle.wb_certify_shown.specs.Names as shown;
 ghost use Rattle.wb_compose_texts.specs.Expressions.{AreUnitedExpressions, added_rows, rows_of};
@@ -8,13 +8,15 @@ ghost use Rattle.wb_compose_texts.specs.Inner.Added.{AreAdded};
 ghost use Rattle.wb_compose_texts.specs.Unions.{all_resolved};
 
 use crate::expression_rows::{add_named, add_own};
+use crate::layout_expressions::{add_layouts, add_own_layouts};
 use std::alloc::{AllocError, Global};
 use wb_certify_shown::terminals_in;
 use wb_compose::{CertifiedExtension, CertifiedHost};
 use wb_regex::Regex;
 use wb_syntax_resolved::Resolved;
 
-/// The expressions of all terminals of the union, by number, and then those of the host's layouts.
+/// The expressions of all terminals of the union, by number, then those of the host's layouts, and then those of the layouts that each
+/// extension has of its own.
 ///
 /// Each terminal has one: a marker that of its prefixed form, and any other its own. It takes time and memory that are linear in the
 /// expressions and, for each marker, in the name of its extension.
@@ -30,6 +32,7 @@ pub fn united_expressions(
     add_terminals(&mut expressions, host)?;
     add_extensions(alloc, &mut expressions, host, extensions)?;
     add_layouts(&mut expressions, host)?;
+    add_own_layouts(alloc, &mut expressions, host, extensions)?;
     Ok(expressions)
 }
 
@@ -40,16 +43,6 @@ fn add_terminals(expressions: &mut Vec<Regex>, host: &Resolved) -> Result<(), Al
     let parts = host.parts();
     let count = terminals_in(&parts.grammar);
     add_own(expressions, parts.terminals.as_slice(), 0, count)
-}
-
-// Adds those of the host's layouts.
-fn add_layouts(expressions: &mut Vec<Regex>, host: &Resolved) -> Result<(), AllocError>
-    ensures { OnOk result (AreAdded (rows_of None (shown.terminals_in host.now.grammar) (length host.now.terminals) host.now.terminals) expressions.old.items expressions.new.items) }
-{
-    let parts = host.parts();
-    let count = terminals_in(&parts.grammar);
-    let rows = parts.terminals.as_slice();
-    add_own(expressions, rows, count, rows.len())
 }
 
 // Adds those of the terminals that each extension adds.

@@ -14,6 +14,7 @@ mod expressions;
 mod generated;
 pub mod generated_laws;
 mod halt;
+mod layout_expressions;
 mod line;
 mod lines;
 mod markers;

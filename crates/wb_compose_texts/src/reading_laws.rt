@@ -30,7 +30,7 @@ ghost use Rattle.wb_compose_texts.specs.UnionMarkers.{AreUnionMarkers};
 
 /// The markers of a union by number are its marking terminals.
 pub fn markers_law()
-    ensures { (host : CertifiedView) (extensions : List ExtensionView) (u : LanguageView) (withdrawn : List ℕ) → (c : IsComposed host extensions u withdrawn) → (markers : List Bool) → AreUnionMarkers host.resolved (all_resolved extensions) markers → AreMarking c.grammar host.resolved.extensible (lexicon_of host.resolved c.grammar) (written_in c.extended) markers }
+    ensures { (host : CertifiedView) (extensions : List ExtensionView) (u : LanguageView) (withdrawn : List ℕ) → (c : IsComposed host extensions u withdrawn) → (markers : List Bool) → AreUnionMarkers host.resolved (all_resolved extensions) markers → AreMarking c.grammar host.resolved.extensible (lexicon_of host.resolved c.grammar) (written_in c.grammar c.extended) markers }
 {}
 
 /// What is composed of a host and extensions extends what is composed of the host and none.

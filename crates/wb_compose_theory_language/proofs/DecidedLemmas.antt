@@ -1,6 +1,7 @@
 -- In the language of the union one form beats the other, and there are no rings; and each form has its expression.
-use Rattle.std.proofs.Common.{◌≡◌, ◌<◌, ◌+◌, ◌∙◌, ◌++◌, [], ℕ, List, Some, length, map, slice_get, sym, ap, subst}
+use Rattle.std.proofs.Common.{◌≡◌, ◌<◌, ◌+◌, ◌-◌, ◌∙◌, ◌++◌, [], ℕ, List, None, Some, length, map, slice_get, sym, ap, subst}
 use Rattle.std.proofs.Common.{inl, inr, arith}
+use Rattle.std.specs.Prelude.{slice_index_or}
 use Rattle.std.specs.List.{range_with_len}
 use Rattle.std.proofs.lemmas.List.FromFn.{get_or-range_with_len, length-range_with_len}
 use Rattle.std.proofs.lemmas.Option.{get_or_from_slice_get, slice_get_within}
@@ -12,22 +13,24 @@ use Rattle.wb_grammar_theory.specs.Lookaheads.{IsValidTerminal}
 use Rattle.wb_lemmas.proofs.Places.{at_append, at_once, at_within}
 use Rattle.wb_scan_theory.specs.declared.form.Form.{Form}
 use Rattle.wb_scan_theory.specs.Languages.{LanguageView, bare, forms_of}
-use Rattle.wb_scan_theory.specs.Winners.{IsConsideredForm, layout, valid}
+use Rattle.wb_scan_theory.specs.Winners.{HoldsOne, IsConsideredForm, layout, valid}
 use Rattle.wb_scan_theory.proofs.BareLemmas.{forms_count}
 use Rattle.wb_compose_theory_grammar.specs.Certificates.{AreCertified}
 use Rattle.wb_compose_theory_grammar.specs.UnitedWorlds.{united}
 use Rattle.wb_compose_theory_grammar.proofs.ApartLemmas.{into_is}
 use Rattle.wb_compose_theory_grammar.proofs.FactLemmas.{map_at}
 use Rattle.wb_compose_theory_grammar.proofs.UnionGrammarLemmas.{terminal_below}
-use Rattle.wb_compose_theory_language.specs.Written.{WrittenPiece, pieces_of}
+use Rattle.wb_compose_theory_layout.specs.Extensions.{HoldsExtension}
+use Rattle.wb_compose_theory_language.specs.Written.{IsOwnLayoutRow, WrittenPiece, pieces_of}
 use Rattle.wb_compose_theory_language.specs.Apart.{AreWrittenApart}
 use Rattle.wb_compose_theory_language.specs.Forms.{IsForm, IsMarkerOf, kept, of_extension, of_host, prefix_of, prefixed}
-use Rattle.wb_compose_theory_language.specs.Languages.{IsTextOf, IsUnitedLanguage}
-use Rattle.wb_compose_theory_language.specs.Rows.{Reads, host_row, layout_count}
+use Rattle.wb_compose_theory_language.specs.Languages.{IsTextOf, IsUnitedLanguage, span_of}
+use Rattle.wb_compose_theory_language.specs.Rows.{Reads, layout_count, piece_row}
 use Rattle.wb_compose_theory_language.proofs.BareLemmas.{marker_own}
 use Rattle.wb_compose_theory_language.proofs.PairLemmas.{BareRow}
 use Rattle.wb_compose_theory_language.proofs.PairLemmas as row
-use Rattle.wb_compose_theory_language.proofs.RowLemmas.{host_past, piece_there}
+use Rattle.wb_compose_theory_language.proofs.LayoutLemmas.{Layout, hosts, layout_of, owned}
+use Rattle.wb_compose_theory_language.proofs.RowLemmas.{piece_there}
 
 -- what a range has at a place
 pub range_at : (a n j t : ℕ) → slice_get (range_with_len a n) j ≡ Some t → (t ≡ a + j) × (j < n)
@@ -111,6 +114,28 @@ module _ (host : GrammarView) (extensible : List ℕ) (own : LexiconView) (writt
       let b = forms_count l in
       at_within (forms_of l) place (omega (arith, less, a, b))
 
+  -- where an extension's own layout is considered, the kernel holds an item of the extension
+  holds_at : (prefix : List Symbol) (place j k : ℕ) (x : WrittenPiece) (t : ℕ) → place ≡ length l.forms + j → slice_get written k ≡ Some x →
+      IsOwnLayoutRow host own x t → slice_get l.layout j ≡ Some (piece_row host extensible own written k x t) →
+      IsConsideredForm l prefix place → HoldsExtension host extensible (pieces_of written) k x.piece prefix
+  holds_at prefix place j k x t place_is x_at mine t_at (valid other there v) =
+      let a = slice_get_within l.forms place other there in absurd (omega (arith, a, place_is))
+  holds_at prefix place j k x t place_is x_at mine t_at (layout here holds) =
+      let at_j : place - length l.forms ≡ j = omega (arith, place_is) in
+      let span_is = is.spans.of_extension j k x t x_at mine t_at in
+      subst (λ g. HoldsOne g prefix (Some (span_of host extensible own written k x))) is.grammar
+      (subst (HoldsOne l.grammar prefix) (ap (λ i. slice_index_or l.spans i None) at_j ∙ span_is) holds)
+
+  -- layout that is considered at the prefix
+  row_at : (prefix : List Symbol) (place j u : ℕ) → place ≡ length l.forms + j → slice_get l.layout j ≡ Some u →
+      IsConsideredForm l prefix place → Layout host extensible own written certified.are_pieces (count + j) →
+      BareRow host extensible own written certified apart prefix u
+  row_at prefix place j u place_is u_at considered (hosts t t_is number_is) = row.of_layout t t_is ((layout_at j u u_at).0 ∙ number_is)
+  row_at prefix place j u place_is u_at considered (owned k x t x_at mine number_is) =
+      let u_is = (layout_at j u u_at).0 ∙ number_is in
+      row.of_own_layout k x t x_at mine u_is (holds_at prefix place j k x t place_is x_at mine
+      (u_at ∙ ap Some u_is) considered)
+
   -- a form that is considered at the prefix and matches the text: a bare one, or a marker's with its prefix
   pub data Kind (prefix : List Symbol) (form : Form) (text : List ℕ) : Type 0 where
     of_bare : form.prefix ≡ [] → BareRow host extensible own written certified apart prefix form.terminal →
@@ -128,7 +153,7 @@ module _ (host : GrammarView) (extensible : List ℕ) (own : LexiconView) (writt
       valid_here here (valid other there v) =
           subst (λ g. IsValidTerminal g prefix form.terminal) is.grammar
           (subst (λ (z : Form). IsValidTerminal l.grammar prefix z.terminal) (at_once l.forms place other form there here) v)
-      valid_here here (layout (past, under)) = let a = slice_get_within l.forms place form here in absurd (omega (arith, a, past))
+      valid_here here (layout (past, under) holds) = let a = slice_get_within l.forms place form here in absurd (omega (arith, a, past))
 
       bare_text : form.prefix ≡ [] → (t : IsTextOf host extensible own written form text) →
           Reads host extensible own written form.terminal text
@@ -147,8 +172,6 @@ module _ (host : GrammarView) (extensible : List ℕ) (own : LexiconView) (writt
       go (of_form here) t = form_kind (is.forms.each place form here) here t
       go (of_layout j u place_is u_at form_is) t =
           let bare_is = ap (λ (z : Form). z.prefix) form_is in
-          let (u_is, less) = layout_at j u u_at in
-          let there = host_past host extensible own written certified.are_pieces j in
-          of_bare bare_is (row.of_layout (host.terminals + j) (omega arith) (omega (arith, less))
-          (ap (λ (z : Form). z.terminal) form_is ∙ (u_is ∙ (let e : count + j ≡ host_row host extensible own written (host.terminals + j) =
-          omega (arith, there) in e)))) (bare_text bare_is t)
+          of_bare bare_is (subst (BareRow host extensible own written certified apart prefix) (sym (ap (λ (z : Form). z.terminal) form_is))
+          (row_at prefix place j u place_is u_at considered
+          (layout_of host extensible own written certified.are_pieces j (layout_at j u u_at).1))) (bare_text bare_is t)

@@ -1,6 +1,6 @@
 -- The union of a certified host and certified extensions has a language.
 use Rattle.std.proofs.Common.{◌≡◌, ◌<◌, ◌+◌, ◌⊎◌, ◌++◌, inl, inr, ℕ, zero, suc, List, [], ◌∷◌, length, refl, sym, ◌∙◌, subst, ap, arith}
-use Rattle.std.proofs.Common.{Contains, slice_get, Some, map, length-append}
+use Rattle.std.proofs.Common.{Contains, slice_get, Option, Some, map, length-append}
 use Rattle.std.specs.Prelude.{◌↔◌, All, slice_index_or}
 use Rattle.std.specs.List.{range_with_len}
 use Rattle.std.proofs.lemmas.List.{length-map}
@@ -27,7 +27,7 @@ use Rattle.wb_compose_theory_grammar.proofs.UnitedLemmas.{is_united}
 use Rattle.wb_compose_theory_language.specs.Written.{WrittenPiece, pieces_of}
 use Rattle.wb_compose_theory_language.specs.Apart.{AreWrittenApart, colon}
 use Rattle.wb_compose_theory_language.specs.Forms.{IsForm, IsMarkerOf, kept, of_extension, of_host, prefix_of, prefixed}
-use Rattle.wb_compose_theory_language.specs.Languages.{IsTextOf, IsUnitedLanguage}
+use Rattle.wb_compose_theory_language.specs.Languages.{AreSpans, IsTextOf, IsUnitedLanguage}
 use Rattle.wb_compose_theory_language.specs.Rows.{Reads, Prefers, by_host, by_extension, host_row, piece_row, layout_count}
 use Rattle.wb_compose_theory_language.specs.Rows as row
 use Rattle.wb_compose_theory_language.proofs.BareLemmas.{marker_own}
@@ -37,6 +37,7 @@ use Rattle.wb_lemmas.proofs.NotNot.{follows, bind, Chosen, choose}
 use Rattle.wb_scan_theory.proofs.TablesExist.{tables_exist}
 use Rattle.wb_compose_theory_language.specs.Spelled.{AreSpelled, HasNoEmpty}
 use Rattle.wb_compose_theory_language.proofs.Listings.{IsListing, listing, differs}
+use Rattle.wb_compose_theory_language.proofs.SpansExist.{spans_exist}
 use Rattle.wb_compose_theory_language.proofs.TreesExist.{any_of, any_has, any_only, behind, behind_is}
 
 module _ (host : GrammarView) (extensible : List ℕ) (own : LexiconView) (written : List WrittenPiece) where
@@ -319,9 +320,10 @@ module _ (host : GrammarView) (extensible : List ℕ) (own : LexiconView) (writt
             follows (form_tree form (place_bytes place form at)) (λ (tree, is).
             (tree, λ other at_other. subst (λ (z : Form). IsFormTree z tree) (at_once places place form other at at_other) is))
 
-        module _ (c : Chosen (length places) (Set []) IsExpression) where
+        module _ (c : Chosen (length places) (Set []) IsExpression) (spans : List (Option (ℕ × ℕ)))
+            (are_spans : AreSpans host extensible own written layouts spans) where
           abbrev view : LanguageView
-          view = record { grammar = union; forms = forms; layout = layouts; expressions = c.list; preferences = pairs }
+          view = record { grammar = union; forms = forms; layout = layouts; spans = spans; expressions = c.list; preferences = pairs }
 
           are_expressions : (place : ℕ) (form : Form) → slice_get places place ≡ Some form → (text : List ℕ) →
               IsMatch c.list place text ↔ IsTextOf host extensible own written form text
@@ -345,6 +347,7 @@ module _ (host : GrammarView) (extensible : List ℕ) (own : LexiconView) (writt
               once = differs forms are.unlike;
             };
             layout = refl;
+            spans = are_spans;
             expressions_len = let l = c.len in let a = length-append forms (map bare layouts) in let b = length-map layouts bare in omega (arith, l, a, b);
             expressions = are_expressions;
             preferences = λ one other. (
@@ -383,7 +386,9 @@ module _ (host : GrammarView) (extensible : List ℕ) (own : LexiconView) (writt
           bind (listing (IsForm host extensible own written) all_forms) (λ (forms, are).
           bind (listing IsPreferred all_pairs) (λ (pairs, prefer).
           bind (choose (length (forms ++ map bare layouts)) (Set []) (IsExpression forms are pairs prefer) (expression forms are pairs prefer)) (λ c.
-          follows (language forms are pairs prefer c) (λ is. (view forms are pairs prefer c, united_language forms are pairs prefer c, is)))))
+          bind (spans_exist host extensible own written certified.are_pieces) (λ (spans, are_spans).
+          follows (language forms are pairs prefer c spans are_spans) (λ is.
+          (view forms are pairs prefer c spans are_spans, united_language forms are pairs prefer c spans are_spans, is))))))
 
 pub law : (host : GrammarView) (extensible : List ℕ) (own : LexiconView) (written : List WrittenPiece)
     → AreCertified host extensible (pieces_of written) → AreWrittenApart host extensible own written → AreSpelled own written

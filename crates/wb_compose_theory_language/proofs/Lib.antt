@@ -5,11 +5,13 @@ pub mod ReadLemmas
 pub mod ClashLemmas
 pub mod PairLemmas
 pub mod BareLemmas
+pub mod LayoutLemmas
 pub mod DecidedLemmas
 pub mod BeatsLemmas
 pub mod LanguageLemmas
 pub mod Listings
 pub mod SpelledLemmas
+pub mod SpansExist
 pub mod LanguageExists
 pub mod TextsExist
 pub mod TreesExist

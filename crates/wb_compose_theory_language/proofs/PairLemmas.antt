@@ -1,10 +1,10 @@
 -- Two bare forms that are considered at one prefix of the union and match one text are ordered.
-use Rattle.std.proofs.Common.{◌≡◌, ◌<◌, ◌≤◌, ◌-◌, ◌∙◌, ◌⊎◌, [], ℕ, List, Some, length, slice_get, sym, ap, subst, inl}
+use Rattle.std.proofs.Common.{◌≡◌, ◌<◌, ◌≤◌, ◌+◌, ◌∙◌, ◌⊎◌, [], ℕ, List, Some, length, length-append, slice_get, sym, ap, subst, inl}
 use Rattle.std.proofs.Common.{inr, arith}
 use Rattle.wb_base.specs.declared.symbol.Symbol.{Symbol}
 use Rattle.wb_base.specs.Grammar.{GrammarView}
 use Rattle.wb_determinism_contexts.specs.Considered.{IsConsideredAt, LexiconView}
-use Rattle.wb_grammar_theory.specs.Items.{start, start_item}
+use Rattle.wb_grammar_theory.specs.Items.{HoldsFrom, IsViablePrefix, start, start_item}
 use Rattle.wb_grammar_theory.specs.Lookaheads.{IsValidTerminal}
 use Rattle.wb_grammar_theory.specs.Productions.{end_of}
 use Rattle.wb_marking_holes.specs.Holes.{with_holes_of}
@@ -15,11 +15,17 @@ use Rattle.wb_compose_theory_grammar.specs.Certificates.{AreCertified}
 use Rattle.wb_compose_theory_grammar.specs.Laws.{AreHostApart, HasTogether, IsOwn, IsTogether, in_union}
 use Rattle.wb_compose_theory_grammar.specs.Numberings.{up_of}
 use Rattle.wb_compose_theory_grammar.specs.Pieces.{Piece}
+use Rattle.wb_compose_theory.specs.Blocks.{lift}
+use Rattle.wb_compose_theory_grammar.specs.Unions.{added_productions, added_terminals}
 use Rattle.wb_compose_theory_grammar.specs.UnitedWorlds.{united}
+use Rattle.wb_compose_theory_grammar.proofs.BridgeLemmas.{piece_ok}
 use Rattle.wb_compose_theory_grammar.proofs.FactLemmas.{map_at}
 use Rattle.wb_compose_theory_grammar.proofs.PlaceLemmas.{lift_below, lift_past}
 use Rattle.wb_compose_theory_grammar.proofs.TogetherLemmas.{has_together}
-use Rattle.wb_compose_theory_language.specs.Written.{IsLayoutRow, WrittenPiece, pieces_of, row_up}
+use Rattle.wb_compose_theory_layout.specs.Extensions.{HasHeld, HoldsExtension, HoldsOwn}
+use Rattle.wb_compose_theory_layout.proofs.HeldLemmas.{has_held}
+use Rattle.wb_compose_theory_language.specs.Written.{IsHostLayoutRow, IsLayoutRow, IsOwnLayoutRow, WrittenPiece, host_layouts, own_layouts}
+use Rattle.wb_compose_theory_language.specs.Written.{pieces_of, row_up}
 use Rattle.wb_compose_theory_language.specs.Apart.{AreWrittenApart, IsMarkerRow, IsRivalRow}
 use Rattle.wb_compose_theory_language.specs.Forms.{IsMarkerOf, IsWithdrawn}
 use Rattle.wb_compose_theory_language.specs.Rows.{host_row, piece_row}
@@ -36,15 +42,21 @@ module _ (host : GrammarView) (extensible : List ℕ) (own : LexiconView) (writt
   abbrev pub IsValidHere : ℕ → Type 0
   IsValidHere t = IsValidTerminal (united host extensible (pieces_of written)) prefix t
 
+  -- the number is that of layout of the host, among the host's own rows
+  abbrev pub IsLayoutHere : ℕ → Type 0
+  IsLayoutHere t = IsHostLayoutRow host.terminals (host_layouts host own) t
+
   -- what has a bare form that is considered at the prefix: a terminal of the host; one of an extension that is no marker; a marker that
-  -- isn't withdrawn; and layout
+  -- isn't withdrawn; layout of the host; and layout of an extension of which the kernel holds an item
   pub data BareRow (number : ℕ) : Type 0 where
     of_host : number < host.terminals → IsValidHere number → BareRow number
     of_extension : (k : ℕ) (x : WrittenPiece) (t : ℕ) → slice_get written k ≡ Some x → IsOwn host extensible (pieces_of written) x.piece t →
         number ≡ in_union host extensible (pieces_of written) k t → IsValidHere number → BareRow number
     of_marker : (k : ℕ) (x : WrittenPiece) → IsMarkerOf host extensible own written k x number →
         ¬ IsWithdrawn host extensible own written number → IsValidHere number → BareRow number
-    of_layout : (t : ℕ) → host.terminals ≤ t → t < length own.expressions → number ≡ host_row host extensible own written t →
+    of_layout : (t : ℕ) → IsLayoutHere t → number ≡ host_row host extensible own written t → BareRow number
+    of_own_layout : (k : ℕ) (x : WrittenPiece) (t : ℕ) → slice_get written k ≡ Some x → IsOwnLayoutRow host own x t →
+        number ≡ piece_row host extensible own written k x t → HoldsExtension host extensible (pieces_of written) k x.piece prefix →
         BareRow number
 
   -- both match the text, and nothing orders them
@@ -74,8 +86,11 @@ module _ (host : GrammarView) (extensible : List ℕ) (own : LexiconView) (writt
   pub host_scanned : (t : ℕ) → t < host.terminals → t < own.scanned
   host_scanned t less = let e = apart.of_host.clear.rows.scanned in omega (arith, e, less)
 
-  is_host_layout : (t : ℕ) → host.terminals ≤ t → t < length own.expressions → IsMember own.layout t
-  is_host_layout t low high = (apart.of_host.clear.rows.layout t).1 (low, high)
+  is_host_layout : (t : ℕ) → IsLayoutHere t → IsMember own.layout t
+  is_host_layout t is = (apart.of_host.clear.rows.layout t).1 is
+
+  pub the_held : HasHeld host extensible (pieces_of written)
+  the_held = has_held host extensible (pieces_of written) certified
 
   -- an extension's piece
   module _ (k : ℕ) (x : WrittenPiece) (at : slice_get written k ≡ Some x) where
@@ -87,20 +102,30 @@ module _ (host : GrammarView) (extensible : List ℕ) (own : LexiconView) (writt
         omega (arith, e, less)
 
     -- layout of the host is layout there
-    pub layout_row : (t : ℕ) → host.terminals ≤ t → t < length own.expressions →
-        IsLayoutRow x.piece.grammar.terminals x.lexicon (row_up host own x t)
-    layout_row t low high =
-        let len = (apart_at host extensible own written certified.are_pieces apart k x at).beside.len in
+    pub layout_row : (t : ℕ) → IsLayoutHere t → IsHostLayoutRow x.piece.grammar.terminals (host_layouts host own) (row_up host own x t)
+    layout_row t (low, high) =
         let le = more host extensible own written certified.are_pieces k x at in
-        let up = lift_past host.terminals (x.piece.grammar.terminals - host.terminals) t low in
-        (omega (arith, up, le, low), omega (arith, up, len, high))
+        let up = lift_past host.terminals (added_terminals host x.piece.grammar) t low in
+        let stays = lift_below (x.piece.grammar.terminals + host_layouts host own) (own_layouts host own x)
+        (lift host.terminals (added_terminals host x.piece.grammar) t) (omega (arith, up, le, high)) in
+        (omega (arith, up, stays, le, low), omega (arith, up, stays, le, high))
 
-    pub is_layout : (t : ℕ) → host.terminals ≤ t → t < length own.expressions → IsMember x.lexicon.layout (row_up host own x t)
-    is_layout t low high = ((apart_at host extensible own written certified.are_pieces apart k x at).clear.rows.layout
-        (row_up host own x t)).1 (layout_row t low high)
+    pub layout_within : (t : ℕ) → IsLayoutHere t → IsLayoutRow x.piece.grammar.terminals x.lexicon (row_up host own x t)
+    layout_within t is =
+        let all = (apart_at host extensible own written certified.are_pieces apart k x at).clear.rows.no_fewer in
+        let (low, high) = layout_row t is in
+        (low, omega (arith, high, all))
+
+    pub is_layout : (t : ℕ) → IsLayoutHere t → IsMember x.lexicon.layout (row_up host own x t)
+    is_layout t is = ((apart_at host extensible own written certified.are_pieces apart k x at).clear.rows.layout
+        (row_up host own x t)).1 (layout_row t is)
 
     host_up : (t : ℕ) → t < host.terminals → row_up host own x t ≡ t
-    host_up t less = lift_below host.terminals (x.piece.grammar.terminals - host.terminals) t less
+    host_up t less =
+        let le = more host extensible own written certified.are_pieces k x at in
+        let here = lift_below host.terminals (added_terminals host x.piece.grammar) t less in
+        lift_below (x.piece.grammar.terminals + host_layouts host own) (own_layouts host own x)
+        (lift host.terminals (added_terminals host x.piece.grammar) t) (omega (arith, here, less, le)) ∙ here
 
     in_grammar : (t : ℕ) → t < host.terminals → t < x.piece.grammar.terminals
     in_grammar t less = let le = more host extensible own written certified.are_pieces k x at in omega (arith, less, le)
@@ -113,8 +138,8 @@ module _ (host : GrammarView) (extensible : List ℕ) (own : LexiconView) (writt
         IsValidHere (in_union host extensible (pieces_of written) k t) → ⊥
     with_own t u text mine beside rivals vt = the_law.of_extension k x.piece there t t mine mine.within (together
         (in_union host extensible (pieces_of written) k t) (in_union host extensible (pieces_of written) k t) vt vt)
-        (λ other v w. no_clash_beside host extensible own written certified.are_pieces apart k x at t u text rivals other
-        (valid_viable (with_holes_of x.piece.grammar extensible) other t v) (inl (scanned t mine.within, v)) (beside other v))
+        (λ other v w. no_clash_beside host extensible own written certified.are_pieces apart k x at t u text rivals
+        other (valid_viable (with_holes_of x.piece.grammar extensible) other t v) (inl (scanned t mine.within, v)) (beside other v))
 
     -- the same where it must be valid too
     pub with_valid : (t u : ℕ) (text : List ℕ) → IsOwn host extensible (pieces_of written) x.piece t → u < x.piece.grammar.terminals →
@@ -124,17 +149,79 @@ module _ (host : GrammarView) (extensible : List ℕ) (own : LexiconView) (writt
     with_valid t u text mine less rivals vt vu = the_law.of_extension k x.piece there t u mine less (together
         (in_union host extensible (pieces_of written) k t) (in_union host extensible (pieces_of written) k u) vt vu)
         (λ other v w. no_clash_beside host extensible own written certified.are_pieces apart k x at t u text rivals other
-        (valid_viable (with_holes_of x.piece.grammar extensible) other t v) (inl (scanned t mine.within, v)) (inl (scanned u less, w)))
+        (valid_viable (with_holes_of x.piece.grammar extensible) other t v)
+        (inl (scanned t mine.within, v)) (inl (scanned u less, w)))
 
     -- a marker of the extension with a rival of it
     pub with_marker : (m u : ℕ) (text : List ℕ) → IsMarkerRow host extensible own x m → IsRivalRow host extensible own x u →
-        Rivals (piece_row host extensible own written k x m) (piece_row host extensible own written k x u) text → ⊥
+        Rivals (piece_row host extensible own written k x m)
+        (piece_row host extensible own written k x u) text → ⊥
     with_marker m u text marker rival r =
         (apart_at host extensible own written certified.are_pieces apart k x at).markers m u text marker rival
         (λ e. r.different (ap (piece_row host extensible own written k x) e))
         (reads_piece host extensible own written certified.are_pieces apart k x at m text r.one_reads)
         (reads_piece host extensible own written certified.are_pieces apart k x at u text r.other_reads)
         (λ o. r.unordered (piece_orders host extensible own written certified.are_pieces apart k x at m u o))
+
+    -- the productions by which its layout is considered are its own
+    added_are : length host.productions + added_productions host x.piece.grammar ≡ length x.piece.grammar.productions
+    added_are =
+        let (rest, is) = (piece_ok host extensible (pieces_of written) certified.are_pieces k x.piece there).extends.productions in
+        let whole : length x.piece.grammar.productions ≡ length host.productions + length rest =
+        ap length is ∙ length-append host.productions rest in
+        omega (arith, whole)
+
+    holds_here : (other : List Symbol) → HoldsOwn host extensible (pieces_of written) x.piece other →
+        HoldsFrom (with_holes_of x.piece.grammar extensible) other x.lexicon.own_productions.0 x.lexicon.own_productions.1
+    holds_here other (i, kernel, low, high) =
+        let are = (apart_at host extensible own written certified.are_pieces apart k x at).beside.productions in
+        let whole = added_are in (
+          i,
+          kernel,
+          subst (λ (z : ℕ × ℕ). z.0 ≤ i.production) (sym are) low,
+          subst (λ (z : ℕ × ℕ). i.production < z.1) (sym are) (omega (arith, high, whole)),
+        )
+
+    holds_viable : (other : List Symbol) → HoldsOwn host extensible (pieces_of written) x.piece other →
+        IsViablePrefix (with_holes_of x.piece.grammar extensible) other
+    holds_viable other (i, kernel, low, high) = (i, kernel.0.0, kernel.0.1)
+
+    is_own_layout : (other : List Symbol) → HoldsOwn host extensible (pieces_of written) x.piece other → (b : ℕ) →
+        IsOwnLayoutRow host own x b → IsConsideredAt (with_holes_of x.piece.grammar extensible) x.lexicon other b
+    is_own_layout other holds b is =
+        inr (inr (
+          ((apart_at host extensible own written certified.are_pieces apart k x at).clear.rows.own_layout b).1 is,
+          holds_here other holds,
+        ))
+
+    -- layout of the extension's own, where the kernel holds an item of the extension: with a terminal that is valid there
+    pub own_layout_valid : (t b : ℕ) (text : List ℕ) → t < x.piece.grammar.terminals → IsOwnLayoutRow host own x b →
+        HoldsExtension host extensible (pieces_of written) k x.piece prefix →
+        Rivals (piece_row host extensible own written k x t) (piece_row host extensible own written k x b) text →
+        IsValidHere (in_union host extensible (pieces_of written) k t) → ⊥
+    own_layout_valid t b text less is held rivals vt =
+        let (other, v, holds) = the_held.valid k x.piece there prefix held t less vt in
+        no_clash_beside host extensible own written certified.are_pieces apart k x at t b text rivals other
+        (holds_viable other holds) (inl (scanned t less, v)) (is_own_layout other holds b is)
+
+    -- with layout of the host
+    pub own_layout_host : (t b : ℕ) (text : List ℕ) → IsLayoutHere t → IsOwnLayoutRow host own x b →
+        HoldsExtension host extensible (pieces_of written) k x.piece prefix →
+        Rivals (piece_row host extensible own written k x (row_up host own x t)) (piece_row host extensible own written k x b) text → ⊥
+    own_layout_host t b text layout_is is held rivals =
+        let (other, holds) = the_held.held k x.piece there prefix held in
+        no_clash_beside host extensible own written certified.are_pieces apart k x at (row_up host own x t) b text
+        rivals other (holds_viable other holds) (inr (inl (is_layout t layout_is)))
+        (is_own_layout other holds b is)
+
+    -- and with another of its own
+    pub own_layouts_both : (t b : ℕ) (text : List ℕ) → IsOwnLayoutRow host own x t → IsOwnLayoutRow host own x b →
+        HoldsExtension host extensible (pieces_of written) k x.piece prefix →
+        Rivals (piece_row host extensible own written k x t) (piece_row host extensible own written k x b) text → ⊥
+    own_layouts_both t b text t_is b_is held rivals =
+        let (other, holds) = the_held.held k x.piece there prefix held in
+        no_clash_beside host extensible own written certified.are_pieces apart k x at t b text rivals other
+        (holds_viable other holds) (is_own_layout other holds t t_is) (is_own_layout other holds b b_is)
 
   -- two terminals are nowhere valid together in the host with holes, in the grammar of an extension, or in an envelope there
   abbrev ApartIn : Piece → ℕ → ℕ → Type 0
@@ -178,7 +265,7 @@ module _ (host : GrammarView) (extensible : List ℕ) (own : LexiconView) (writt
   -- a terminal of the host, with what else is considered where it is valid: another terminal that is valid there, or layout
   pub with_host : (t u v : ℕ) (text : List ℕ) → t < host.terminals → v < host.terminals →
       Rivals (host_row host extensible own written t) (host_row host extensible own written u) text → IsValidHere t → IsValidHere v →
-      (u ≡ v) ⊎ ((host.terminals ≤ u) × (u < length own.expressions)) → ⊥
+      (u ≡ v) ⊎ IsLayoutHere u → ⊥
   with_host t u v text t_less v_less r vt vv which =
       the_law.of_host t v t_less v_less (together t v vt vv) (host_apart t v
       (λ other a b. no_clash_in_host host extensible own written certified.are_pieces apart t u text r other
@@ -198,24 +285,24 @@ module _ (host : GrammarView) (extensible : List ℕ) (own : LexiconView) (writt
       (in_envelope k x at other b which)))
     where
       in_host : (other : List Symbol) → IsValidTerminal (with_holes_of host extensible) other v →
-          (u ≡ v) ⊎ ((host.terminals ≤ u) × (u < length own.expressions)) → IsConsideredAt (with_holes_of host extensible) own other u
+          (u ≡ v) ⊎ IsLayoutHere u → IsConsideredAt (with_holes_of host extensible) own other u
       in_host other b (inl same) = subst (IsConsideredAt (with_holes_of host extensible) own other) (sym same)
           (inl (host_scanned v v_less, b))
-      in_host other b (inr (low, high)) = inr (is_host_layout u low high)
+      in_host other b (inr is) = inr (inl (is_host_layout u is))
 
       in_extension : (k : ℕ) (x : WrittenPiece) → slice_get written k ≡ Some x → (other : List Symbol) →
           IsValidTerminal (with_holes_of x.piece.grammar extensible) other v →
-          (u ≡ v) ⊎ ((host.terminals ≤ u) × (u < length own.expressions)) →
+          (u ≡ v) ⊎ IsLayoutHere u →
           IsConsideredAt (with_holes_of x.piece.grammar extensible) x.lexicon other (row_up host own x u)
       in_extension k x at other b (inl same) =
           subst (IsConsideredAt (with_holes_of x.piece.grammar extensible) x.lexicon other)
           (sym (ap (row_up host own x) same ∙ host_up k x at v v_less)) (inl (scanned k x at v (in_grammar k x at v v_less), b))
-      in_extension k x at other b (inr (low, high)) = inr (is_layout k x at u low high)
+      in_extension k x at other b (inr is) = inr (inl (is_layout k x at u is))
 
       in_envelope : (k : ℕ) (x : WrittenPiece) → slice_get written k ≡ Some x → (other : List Symbol) →
           IsValidInEnvelope (with_holes_of host extensible)
           (HostKernel (with_holes_of x.piece.grammar extensible) (up_of host x.piece.grammar) other) v →
-          (u ≡ v) ⊎ ((host.terminals ≤ u) × (u < length own.expressions)) →
+          (u ≡ v) ⊎ IsLayoutHere u →
           IsConsideredInEnvelope (with_holes_of host extensible)
           (HostKernel (with_holes_of x.piece.grammar extensible) (up_of host x.piece.grammar) other)
           (record (x.lexicon) { scanned = host.terminals }) (row_up host own x u)
@@ -223,12 +310,12 @@ module _ (host : GrammarView) (extensible : List ℕ) (own : LexiconView) (writt
           subst (IsConsideredInEnvelope (with_holes_of host extensible)
           (HostKernel (with_holes_of x.piece.grammar extensible) (up_of host x.piece.grammar) other)
           (record (x.lexicon) { scanned = host.terminals })) (sym (ap (row_up host own x) same ∙ host_up k x at v v_less)) (inl (v_less, b))
-      in_envelope k x at other b (inr (low, high)) = inr (is_layout k x at u low high)
+      in_envelope k x at other b (inr is) = inr (is_layout k x at u is)
 
-  -- two layouts
-  pub layouts : (t u : ℕ) (text : List ℕ) → host.terminals ≤ t → t < length own.expressions → host.terminals ≤ u →
-      u < length own.expressions → Rivals (host_row host extensible own written t) (host_row host extensible own written u) text → ⊥
-  layouts t u text t_low t_high u_low u_high r =
+  -- two layouts of the host
+  pub layouts : (t u : ℕ) (text : List ℕ) → IsLayoutHere t → IsLayoutHere u →
+      Rivals (host_row host extensible own written t) (host_row host extensible own written u) text → ⊥
+  layouts t u text t_is u_is r =
       no_clash_in_host host extensible own written certified.are_pieces apart t u text r []
-      (start_item (with_holes_of host extensible), end_of (with_holes_of host extensible), start) (inr (is_host_layout t t_low t_high))
-      (inr (is_host_layout u u_low u_high))
+      (start_item (with_holes_of host extensible), end_of (with_holes_of host extensible), start) (inr (inl (is_host_layout t t_is)))
+      (inr (inl (is_host_layout u u_is)))

@@ -13,15 +13,15 @@ use Rattle.wb_marking_holes.specs.Holes.{with_holes_of}
 use Rattle.wb_compose_theory.specs.Numbered.{HostKernel, IsNewHostKernel}
 use Rattle.wb_compose_theory.specs.Worlds.{on}
 use Rattle.wb_compose_theory_grammar.specs.Numberings.{up_of}
-use Rattle.wb_compose_theory_language.specs.Written.{HasRows, IsLayoutRow, IsWrittenBeside, WrittenPiece}
+use Rattle.wb_compose_theory_language.specs.Written.{HasRows, IsLayoutRow, IsWrittenBeside, WrittenPiece, host_layouts}
 
 -- no preferences lead from a terminal to itself
 abbrev pub AreAcyclic : LexiconView → Type 0
 AreAcyclic lexicon = (cycle : List ℕ) → ¬ IsCycle lexicon.preferences cycle
 
--- its rows are those of a grammar with so many terminals, and its preferences are acyclic
-pub record IsClear (g : GrammarView) (lexicon : LexiconView) : Type 0 where
-  pub rows : HasRows g.terminals lexicon
+-- its rows are those of the grammar's terminals, of so many layouts of a host, and of an extension's own; and its preferences are acyclic
+pub record IsClear (g : GrammarView) (layouts : ℕ) (lexicon : LexiconView) : Type 0 where
+  pub rows : HasRows g.terminals layouts lexicon
   pub acyclic : AreAcyclic lexicon
 
 -- the colon, which is in no name
@@ -31,7 +31,7 @@ colon = 58
 module _ (host : GrammarView) (extensible : List ℕ) (own : LexiconView) where
   -- the host is written so that no two of its terminals or layouts clash at a prefix of the host with holes
   pub record IsWrittenApart : Type 0 where
-    pub clear : IsClear host own
+    pub clear : IsClear host (host_layouts host own) own
     pub no_clash : HasNoClashAt (with_holes_of host extensible) own
 
   module _ (x : WrittenPiece) where
@@ -39,7 +39,7 @@ module _ (host : GrammarView) (extensible : List ℕ) (own : LexiconView) where
     abbrev pub IsMarkerRow : ℕ → Type 0
     IsMarkerRow t = (a : ℕ) × (x.piece.mark t ≡ on a)
 
-    -- a terminal of the host, layout, or a marker of the extension
+    -- a terminal of the host, layout of the host or of the extension, or a marker of the extension
     abbrev pub IsRivalRow : ℕ → Type 0
     IsRivalRow t = (t < host.terminals) ⊎ (IsLayoutRow x.piece.grammar.terminals x.lexicon t ⊎ IsMarkerRow t)
 
@@ -61,7 +61,7 @@ module _ (host : GrammarView) (extensible : List ℕ) (own : LexiconView) where
     -- the extension is written so that with the host alone no two terminals or layouts clash at a prefix, and its markers can be told apart
     -- from what is the host's and from each other
     pub record IsPieceApart : Type 0 where
-      pub clear : IsClear x.piece.grammar x.lexicon
+      pub clear : IsClear x.piece.grammar (host_layouts host own) x.lexicon
       pub beside : IsWrittenBeside host own x
       pub no_clash : HasNoClashAt (with_holes_of x.piece.grammar extensible) x.lexicon
       pub no_new_clash : HasNoNewClash

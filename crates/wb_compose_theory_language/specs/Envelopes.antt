@@ -8,7 +8,7 @@ use Rattle.wb_lexical.specs.Clash.{AreOrdered}
 use Rattle.wb_termset.specs.Sets.{IsMember}
 use Rattle.wb_compose_theory.specs.Numbered.{IsValidInEnvelope}
 
--- the terminal is considered at the set: it is scanned and valid with the envelope as lookaheads, or it is layout
+-- the terminal is considered at the set: it is scanned and valid with the envelope as lookaheads, or it is layout of the host
 abbrev pub IsConsideredInEnvelope : GrammarView → (Item → Type 0) → LexiconView → ℕ → Type 0
 IsConsideredInEnvelope g Kernel lexicon t = ((t < lexicon.scanned) × IsValidInEnvelope g Kernel t) ⊎ IsMember lexicon.layout t
 

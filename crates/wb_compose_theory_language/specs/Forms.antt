@@ -6,7 +6,7 @@ use Rattle.wb_scan_theory.specs.declared.form.Form.{Form}
 use Rattle.wb_compose_theory_grammar.specs.Laws.{IsOwn, in_union}
 use Rattle.wb_compose_theory_language.specs.Written.{IsOwnRow, WrittenPiece, pieces_of}
 use Rattle.wb_compose_theory_language.specs.Apart.{IsMarkerRow, colon}
-use Rattle.wb_compose_theory_language.specs.Rows.{Reads}
+use Rattle.wb_compose_theory_language.specs.Rows.{Reads, piece_row}
 
 -- the name of the extension and two colons
 abbrev pub prefix_of : WrittenPiece → List ℕ
@@ -20,7 +20,7 @@ module _ (host : GrammarView) (extensible : List ℕ) (own : LexiconView) (writt
     pub marker : IsMarkerRow host extensible own x terminal
     pub is : number ≡ in_union host extensible (pieces_of written) k terminal
 
-  -- the terminal of the union is an extension's that isn't the one of this number
+  -- the terminal or layout of the union is an extension's own, and the extension isn't the one of this number
   pub record IsOfOther (k number : ℕ) : Type 0 where
     pub other : ℕ
     pub extension : WrittenPiece
@@ -28,7 +28,7 @@ module _ (host : GrammarView) (extensible : List ℕ) (own : LexiconView) (writt
     pub different : other ≢ k
     pub terminal : ℕ
     pub own_row : IsOwnRow host own extension terminal
-    pub is : number ≡ in_union host extensible (pieces_of written) other terminal
+    pub is : number ≡ piece_row host extensible own written other extension terminal
 
   -- both match the text
   pub record ShareText (one other : ℕ) : Type 0 where
@@ -36,7 +36,7 @@ module _ (host : GrammarView) (extensible : List ℕ) (own : LexiconView) (writt
     pub one_reads : Reads host extensible own written one text
     pub other_reads : Reads host extensible own written other text
 
-  -- a marker of an extension that shares a text with a terminal of another extension
+  -- a marker of an extension that shares a text with a terminal or layout of another extension
   pub record IsWithdrawn (number : ℕ) : Type 0 where
     pub k : ℕ
     pub x : WrittenPiece

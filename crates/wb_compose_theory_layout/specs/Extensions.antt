@@ -1,5 +1,5 @@
 -- The same of a host and its extensions, whose productions are blocks of the union's.
-use Rattle.std.specs.Prelude.{◌≡◌, ◌≢◌, ◌<◌, ◌≤◌, ◌+◌, ℕ, List, Some, length, slice_get}
+use Rattle.std.specs.Prelude.{◌≡◌, ◌≢◌, ◌<◌, ◌+◌, ℕ, List, Some, length, slice_get}
 use Rattle.wb_base.specs.Grammar.{GrammarView}
 use Rattle.wb_base.specs.declared.symbol.Symbol.{Symbol}
 use Rattle.wb_compose_theory_grammar.specs.Laws.{IsOwn, in_union}
@@ -7,14 +7,9 @@ use Rattle.wb_compose_theory_grammar.specs.Pieces.{Piece}
 use Rattle.wb_compose_theory_grammar.specs.Places.{count_before}
 use Rattle.wb_compose_theory_grammar.specs.Unions.{added_productions}
 use Rattle.wb_compose_theory_grammar.specs.UnitedWorlds.{production_sizes, united}
-use Rattle.wb_grammar_theory.specs.Items.{IsKernelItem}
+use Rattle.wb_grammar_theory.specs.Items.{HoldsFrom}
 use Rattle.wb_grammar_theory.specs.Lookaheads.{IsValidTerminal}
-use Rattle.wb_grammar_theory.specs.declared.item.Item.{Item}
 use Rattle.wb_marking_holes.specs.Holes.{with_holes_of}
-
--- the kernel of the prefix holds an item of a production from the one number to before the other
-abbrev pub HoldsFrom : GrammarView → List Symbol → ℕ → ℕ → Type 0
-HoldsFrom g prefix from to = (i : Item) × IsKernelItem g prefix i × (from ≤ i.production) × (i.production < to)
 
 module _ (host : GrammarView) (extensible : List ℕ) (pieces : List Piece) where
   -- the first production of an extension in the union

@@ -1,19 +1,22 @@
 -- What is considered, matches, beats and wins at a prefix does so in other numbers.
-use Rattle.std.proofs.Common.{◌∙◌, ◌≡◌, ◌+◌, ◌-◌, ℕ, List, Some, [], ap, inl, inr, length, map, slice_get, refl, subst, sym}
+use Rattle.std.proofs.Common.{◌∙◌, ◌≡◌, ◌+◌, ◌-◌, ℕ, List, Option, Some, [], ap, inl, inr, length, map, slice_get, refl, subst, sym}
 use Rattle.std.proofs.Common.{arith}
 use Rattle.std.specs.Prelude.{Contains, option_map}
 use Rattle.std.proofs.lemmas.List.{length-map}
 use Rattle.std.proofs.lemmas.Option.{slice_get-map, slice_get_within}
 use Rattle.wb_lemmas.proofs.Places.{append_after, append_keeps, at_append, at_once, at_within}
 use Rattle.wb_base.specs.declared.symbol.Symbol.{Symbol}
+use Rattle.wb_base.specs.Grammar.{GrammarView}
 use Rattle.wb_scan_theory.specs.declared.form.Form.{Form}
 use Rattle.wb_scan_theory.specs.Languages.{LanguageView, bare, forms_of, IsLayout}
-use Rattle.wb_scan_theory.specs.Winners.{Beats, BeatsAt, IsConsideredForm, MatchesAt, Wins, both_bare, both_prefixed, by_prefix}
+use Rattle.wb_scan_theory.specs.Winners.{Beats, BeatsAt, HoldsOne, IsConsideredForm, MatchesAt, Wins, both_bare, both_prefixed, by_prefix}
 use Rattle.wb_scan_theory.specs.Winners.{layout, valid}
-use Rattle.wb_compose_theory.specs.Renamings.{renamed}
+use Rattle.wb_compose_theory.specs.Renamings.{Renaming, renamed, renamed_item}
 use Rattle.wb_compose_theory_order.specs.Inner.SameGrammars.{IsSameGrammar}
-use Rattle.wb_compose_theory_order.specs.Languages.{IsSameLanguage, LanguageLeadsTo, Renumbering, renamed_form}
-use Rattle.wb_compose_theory_order.proofs.GrammarLemmas.{list_back}
+use Rattle.wb_compose_theory_order.specs.Grammars.{GrammarLeadsTo}
+use Rattle.wb_compose_theory_order.specs.Languages.{IsSameLanguage, LanguageLeadsTo, Renumbering, SpanLeadsTo, among, everywhere}
+use Rattle.wb_compose_theory_order.specs.Languages.{renamed_form}
+use Rattle.wb_compose_theory_order.proofs.GrammarLemmas.{kernel_there, list_back}
 use Rattle.wb_compose_theory_order.proofs.TerminalLemmas.{terminal_there}
 
 -- the other way round
@@ -100,12 +103,20 @@ beats_there {r} {l} {m} leads place other b =
     go one two (both_prefixed first second listed) =
         both_prefixed (λ e. first (sym one.same ∙ e)) (λ e. second (sym two.same ∙ e)) (preferred one two listed)
 
+-- where a kernel holds an item of one of the productions, it does so there
+holds_there : {r : Renaming} {g k : GrammarView} → GrammarLeadsTo r g k → {span other : Option (ℕ × ℕ)} → SpanLeadsTo r span other →
+    (prefix : List Symbol) → HoldsOne g prefix span → HoldsOne k (map (renamed r) prefix) other
+holds_there leads everywhere prefix holds = tt
+holds_there {r} leads (among span other inside) prefix (item, is, low, high) =
+    let there = inside item.production low high in (renamed_item r item, kernel_there leads prefix item is, there.0, there.1)
+
 module _ {r s : Renumbering} {l m : LanguageView} (same : IsSameLanguage r s l m) where
   pub considered_there : (prefix : List Symbol) (place : ℕ) → IsConsideredForm l prefix place →
       IsConsideredForm m (map (renamed r.names) prefix) (r.place place)
   considered_there prefix place (valid form at v) =
       valid (renamed_form r.names form) (same.there.forms place form at) (terminal_there (grammar_of same) prefix form.terminal v)
-  considered_there prefix place (layout is) = layout (same.there.layout place is)
+  considered_there prefix place (layout is holds) =
+      layout (same.there.layout place is) (holds_there same.there.grammar (same.there.spans place is) prefix holds)
 
   pub matches_there : (prefix : List Symbol) (text : List ℕ) (at place : ℕ) (piece : List ℕ) → MatchesAt l prefix text at place piece →
       MatchesAt m (map (renamed r.names) prefix) text at (r.place place) piece

@@ -119,6 +119,69 @@ module _ (own : ℕ) {to from : ℕ → ℕ} {sizes others : List ℕ} (re : IsR
           let goal = spread_past own 0 0 (total_of others) t (omega (arith, far)) in
           omega (arith, moved, goal, far)
 
+-- numbers past all extensions, of which there are more behind them, in two blocks
+module _ (own more : ℕ) {to from : ℕ → ℕ} {sizes others : List ℕ} (re : IsReordering to from sizes others) where
+  -- they stay as they are among themselves, whatever else is among them
+  pub to_above : (before size total y : ℕ) →
+      number_to own sizes others to (spread (own + total_of sizes + more) before size total y)
+      ≡ spread (own + total_of others + more) before size total (number_to own sizes others to y)
+  to_above before size total y = elim (cases_lt y (own + total_of sizes)) [ inl near ↦ low near | inr far ↦ high far ]
+    where
+      here : ℕ
+      here = spread (own + total_of sizes + more) before size total y
+
+      there : ℕ
+      there = number_to own sizes others to y
+
+      low : y < own + total_of sizes →
+          number_to own sizes others to here ≡ spread (own + total_of others + more) before size total there
+      low near =
+          let below = to_below own re y near in
+          ap (number_to own sizes others to) (spread_below (own + total_of sizes + more) before size total y (omega (arith, near))) ∙
+          sym (spread_below (own + total_of others + more) before size total there (omega (arith, below)))
+
+      high : own + total_of sizes ≤ y →
+          number_to own sizes others to here ≡ spread (own + total_of others + more) before size total there
+      high far =
+          let past = to_past own re (y - (own + total_of sizes)) y (omega (arith, far)) in
+          elim (cases_lt y (own + total_of sizes + more)) [
+            | inl near ↦
+                let is = spread_below (own + total_of sizes + more) before size total y near in
+                let goal = spread_below (own + total_of others + more) before size total there (omega (arith, past, far, near)) in
+                ap (number_to own sizes others to) is ∙ sym goal
+            | inr over ↦ elim (cases_lt y (own + total_of sizes + more + size)) [
+              | inl within ↦
+                  let is = spread_middle (own + total_of sizes + more) before size total y over within in
+                  let goal = spread_middle (own + total_of others + more) before size total there (omega (arith, past, far, over))
+                  (omega (arith, past, far, within)) in
+                  let moved = to_past own re (y + before - (own + total_of sizes)) here (omega (arith, is, far)) in
+                  omega (arith, moved, goal, past, far)
+              | inr after ↦
+                  let is = spread_past (own + total_of sizes + more) before size total y after in
+                  let goal = spread_past (own + total_of others + more) before size total there (omega (arith, past, far, after)) in
+                  let moved = to_past own re (y + (total - size) - (own + total_of sizes)) here (omega (arith, is, far)) in
+                  omega (arith, moved, goal, past, far)
+            ]
+          ]
+
+  -- a block of numbers after others
+  pub to_shift : (j : ℕ) → number_to (own + more) sizes others to (own + j) ≡ own + number_to more sizes others to j
+  to_shift j = go (located more sizes j)
+    where
+      go : Located more sizes j → number_to (own + more) sizes others to (own + j) ≡ own + number_to more sizes others to j
+      go (in_host below) =
+          let is = to_host (own + more) re (own + j) (omega (arith, below)) in
+          let also = to_host more re j below in
+          omega (arith, is, also)
+      go (in_extension k size i at within j_is) =
+          let is = to_extension (own + more) re k size i (own + j) at within (omega (arith, j_is)) in
+          let also = to_extension more re k size i j at within j_is in
+          omega (arith, is, also)
+      go (after_all i j_is) =
+          let is = to_past (own + more) re i (own + j) (omega (arith, j_is)) in
+          let also = to_past more re i j j_is in
+          omega (arith, is, also)
+
 -- there and back
 pub number_back : (own : ℕ) {to from : ℕ → ℕ} {sizes others : List ℕ} → IsReordering to from sizes others → (x : ℕ) →
     number_to own others sizes from (number_to own sizes others to x) ≡ x

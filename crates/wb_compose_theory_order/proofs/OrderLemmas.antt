@@ -43,11 +43,11 @@ apart_there {host} {extensible} {own} re ok = record {
 
 module _ {X : Type 0} (xs ys : List X) (one : Differ xs) (two : Differ ys) (same : (x : X) → Contains xs x ↔ Contains ys x) where
   -- where the members of the one list are in the other
-  abbrev there : (p : ℕ) → Spot (λ x. x) xs ys p
-  there = spot (λ x. x) xs ys (λ i x at. (same x).0 (contains_at xs x i at))
+  abbrev there : (p : ℕ) → Spot (λ x. x) (λ j. j) xs ys p
+  there = spot (λ x. x) (λ j. j) xs ys (λ i x at. (same x).0 (contains_at xs x i at))
 
-  abbrev back : (p : ℕ) → Spot (λ x. x) ys xs p
-  back = spot (λ x. x) ys xs (λ i x at. (same x).1 (contains_at ys x i at))
+  abbrev back : (p : ℕ) → Spot (λ x. x) (λ j. j) ys xs p
+  back = spot (λ x. x) (λ j. j) ys xs (λ i x at. (same x).1 (contains_at ys x i at))
 
   -- lists of the same members, each once
   pub same_members : (to from : ℕ → ℕ) × IsReordering to from xs ys
@@ -57,7 +57,7 @@ module _ {X : Type 0} (xs ys : List X) (one : Differ xs) (two : Differ ys) (same
     record {
       there = λ p x at. (there p).element x at;
       back = λ p x at. (back p).element x at;
-      undone = spot_back (λ x. x) (λ x. x) xs ys there back (λ x. refl) one;
-      redone = spot_back (λ x. x) (λ x. x) ys xs back there (λ x. refl) two;
+      undone = spot_back (λ x. x) (λ x. x) (λ j. j) (λ j. j) xs ys there back (λ x. refl) (λ j. refl) one;
+      redone = spot_back (λ x. x) (λ x. x) (λ j. j) (λ j. j) ys xs back there (λ x. refl) (λ j. refl) two;
     },
   )

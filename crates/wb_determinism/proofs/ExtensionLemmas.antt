@@ -7,7 +7,7 @@ use Rattle.wb_determinism_host.specs.declared.refusal.DeterminismRefusal.{Determ
 use Rattle.wb_determinism_host.specs.declared.refusal.DeterminismRefusal.TheVariants as d
 use Rattle.wb_determinism_host.specs.declared.refusal.EnvelopeFault.{EnvelopeFault}
 use Rattle.wb_determinism_host.specs.declared.refusal.EnvelopeFault.TheVariants as f
-use Rattle.wb_determinism_host.specs.Refusals.{IsHostRefusal}
+use Rattle.wb_determinism_host.specs.Refusals.{IsRefusalBy}
 use Rattle.wb_grammar_theory.specs.declared.item.Item.{Item}
 use Rattle.wb_grammar_theory.specs.Lookaheads.{IsLookahead}
 use Rattle.wb_syntax_resolved.specs.declared.resolved.ResolvedParts.{ResolvedParts}
@@ -17,7 +17,7 @@ use Rattle.wb_determinism.specs.declared.extension.Extended.{Extended}
 use Rattle.wb_determinism.specs.declared.numbers.Numbers.{Numbers}
 use Rattle.wb_determinism.specs.EnvelopeClash.{HasNoEnvelopeClash, IsEnvelopeClashFault}
 use Rattle.wb_determinism.specs.EnvelopeRule.{IsEnvelopeLookaheadFault, IsEnvelopeConflictFault}
-use Rattle.wb_determinism.specs.Extensions.{IsDeterministicExtension, extended_grammar, both_numbers}
+use Rattle.wb_determinism.specs.Extensions.{IsDeterministicExtension, both_lexicon, both_numbers, extended_grammar}
 use Rattle.wb_determinism.specs.Images.{StandsFor, stands_for}
 use Rattle.wb_determinism.specs.LookaheadRule.{IsLookaheadFault}
 use Rattle.wb_determinism.specs.Inner.Keeps.{KeepsHostLookaheads}
@@ -30,9 +30,9 @@ use Rattle.wb_determinism.specs.Inner.Extended.{IsContextOf, IsEnvelopeRefusal, 
 use Rattle.wb_determinism.specs.Inner.Extended.{lexicon_for}
 use Rattle.wb_determinism.proofs.RuleLemmas.{conflict_fault, envelope_fault, keeps_kernels, kernel_fault, lookahead_bound, stays_in}
 
--- a refusal of a host with this specification is one of the extension
-pub host_refusal : (r : ResolvedParts) (g host : GrammarView) (refusal : DeterminismRefusal) → IsHostRefusal r g refusal
-    → IsExtensionRefusal r g host refusal
+-- a refusal of the host with the extension is one of the extension
+pub host_refusal : (r : ResolvedParts) (g host : GrammarView) (refusal : DeterminismRefusal)
+    → IsRefusalBy r g (both_lexicon r g host) refusal → IsExtensionRefusal r g host refusal
 host_refusal r g host (d.Markers m) is = is
 host_refusal r g host (d.PreferenceCycle cycle) is = is
 host_refusal r g host (d.NotReduced reason) is = is

@@ -21,7 +21,7 @@ use Rattle.wb_compose_theory.specs.NumberLaws.{HasHostKernels}
 use Rattle.wb_compose_theory.specs.Renamings.{renamed}
 use Rattle.wb_determinism.specs.declared.numbers.Numbers.{Numbers}
 use Rattle.wb_determinism.specs.EnvelopeRule.{CanActInEnvelope, HasShownConflict}
-use Rattle.wb_determinism.specs.Extensions.{IsDeterministicExtension, both_numbers, extended_grammar}
+use Rattle.wb_determinism.specs.Extensions.{IsDeterministicExtension, both_lexicon, both_numbers, extended_grammar}
 use Rattle.wb_determinism.specs.Images.{stands_for}
 use Rattle.wb_determinism.specs.Numbers.{production_up, renaming_by, up_by}
 use Rattle.wb_determinism.specs.Refusals.{IsEnvelopeFault, IsExtensionRefusal}
@@ -60,12 +60,12 @@ fault_excluded r g host prefix (f.Clash left right text) x is = is.envelope.clea
 pub ruled_out : (r : ResolvedParts) (g host : GrammarView) (refusal : DeterminismRefusal) → IsExtensionRefusal r g host refusal
     → IsDeterministicExtension r g host → IsNoMemory refusal
 ruled_out r g host (d.Markers m) h is = absurd h
-ruled_out r g host (d.PreferenceCycle cycle) h is = excluded r g (d.PreferenceCycle cycle) h is.both
-ruled_out r g host (d.NotReduced reason) h is = excluded r g (d.NotReduced reason) h is.both
-ruled_out r g host (d.UnitCycle list) h is = excluded r g (d.UnitCycle list) h is.both
-ruled_out r g host (d.HiddenLeftRecursion list) h is = excluded r g (d.HiddenLeftRecursion list) h is.both
-ruled_out r g host (d.Conflict p t a b) h is = excluded r g (d.Conflict p t a b) h is.both
-ruled_out r g host (d.Clash p a b t) h is = excluded r g (d.Clash p a b t) h is.both
+ruled_out r g host (d.PreferenceCycle cycle) h is = excluded r g (both_lexicon r g host) (d.PreferenceCycle cycle) h is.both
+ruled_out r g host (d.NotReduced reason) h is = excluded r g (both_lexicon r g host) (d.NotReduced reason) h is.both
+ruled_out r g host (d.UnitCycle list) h is = excluded r g (both_lexicon r g host) (d.UnitCycle list) h is.both
+ruled_out r g host (d.HiddenLeftRecursion list) h is = excluded r g (both_lexicon r g host) (d.HiddenLeftRecursion list) h is.both
+ruled_out r g host (d.Conflict p t a b) h is = excluded r g (both_lexicon r g host) (d.Conflict p t a b) h is.both
+ruled_out r g host (d.Clash p a b t) h is = excluded r g (both_lexicon r g host) (d.Clash p a b t) h is.both
 ruled_out r g host (d.Lookahead prefix item t) (both, x) is =
     let (u, image, there) = is.lookaheads prefix x.host x.own t x.kernel x.has
     (subst (λ (i : Item). IsLookahead (extended_grammar r g host) prefix i t) x.is x.lookahead) in

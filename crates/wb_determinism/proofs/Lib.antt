@@ -4,7 +4,6 @@ mod ClashLemmas
 mod ConsideredLemmas
 mod EnvelopeLemmas
 mod ExtensionLemmas
-mod FlagLemmas
 mod ImageLemmas
 mod IndexLemmas
 mod JudgeLemmas

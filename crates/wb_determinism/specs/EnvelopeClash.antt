@@ -12,7 +12,8 @@ use Rattle.wb_compose_theory.specs.Numbered.{HostKernel, IsNewHostKernel, IsVali
 use Rattle.wb_determinism.specs.declared.numbers.Numbers.{Numbers}
 use Rattle.wb_determinism.specs.Numbers.{up_by}
 
--- the terminal is considered at the set: it is scanned and valid with the envelope as lookaheads, or it is layout
+-- the terminal is considered at the set: it is scanned and valid with the envelope as lookaheads, or it is layout that is considered at each
+-- prefix
 abbrev pub IsConsideredInEnvelope : GrammarView → (Item → Type 0) → LexiconView → ℕ → Type 0
 IsConsideredInEnvelope g Kernel lexicon t = ((t < lexicon.scanned) × IsValidInEnvelope g Kernel t) ⊎ IsMember lexicon.layout t
 

@@ -1,9 +1,9 @@
 -- Extensions that are deterministic beside their host alone, and what is kept of them.
-use Rattle.std.specs.Prelude.{◌≡◌, ◌≤◌, ◌-◌, ℕ, length}
+use Rattle.std.specs.Prelude.{◌≡◌, ◌≤◌, ◌-◌, ℕ, length, map}
 use Rattle.wb_base.specs.Grammar.{GrammarView}
 use Rattle.wb_determinism_contexts.specs.Considered.{LexiconView}
-use Rattle.wb_determinism_host.specs.Hosts.{IsDeterministicHost}
-use Rattle.wb_determinism_host.specs.Lexicons.{lexicon_of}
+use Rattle.wb_determinism_host.specs.Hosts.{IsDeterministicBy}
+use Rattle.wb_determinism_host.specs.Lexicons.{is_host_layout, lexicon_beside, lexicon_of}
 use Rattle.wb_determinism_host.specs.declared.parts.HostParts.{HostParts}
 use Rattle.wb_items.specs.Kernels.{AreKernels, count_of}
 use Rattle.wb_items.specs.LookaheadSets.{AreLookaheads}
@@ -45,19 +45,23 @@ module _ (r : ResolvedParts) (g host : GrammarView) where
   abbrev pub both_numbers : Numbers
   both_numbers = numbers_of host extended_grammar (length r.extensible)
 
-  -- what is scanned of the host's own terminals, and all layout
+  -- what is scanned of the host with the extension, whose productions come after the host's
+  abbrev pub both_lexicon : LexiconView
+  both_lexicon = lexicon_beside r g (length host.productions - length r.extensible)
+
+  -- what is scanned of the host's own terminals, and the host's layout
   abbrev pub host_lexicon : LexiconView
-  host_lexicon = record (lexicon_of r g) { scanned = host.terminals - length r.extensible }
+  host_lexicon = record (lexicon_of r g) { scanned = host.terminals - length r.extensible; layout = map is_host_layout r.terminals }
 
   -- the envelope rule: lookaheads stay in the envelope, and with the envelope there is no conflict and no clash
   pub record MeetsEnvelopeRule : Type 0 where
     pub stays : StaysInEnvelope host extended_grammar (up_by both_numbers) (stands_for r g)
     pub clear : HasNoEnvelopeClash host extended_grammar both_numbers host_lexicon
 
-  -- an extension is deterministic beside its host: the host with the extension passes what hosts are asked, and the lookahead rule and
-  -- the envelope rule hold
+  -- an extension is deterministic beside its host: the host with the extension passes what hosts are asked, with the extension's layout
+  -- considered where a kernel holds an item of one of its productions, and the lookahead rule and the envelope rule hold
   pub record IsDeterministicExtension : Type 0 where
-    pub both : IsDeterministicHost r g
+    pub both : IsDeterministicBy r g both_lexicon
     pub lookaheads : KeepsKernelLookaheads host extended_grammar (up_by both_numbers) (stands_for r g)
     pub envelope : MeetsEnvelopeRule
 

@@ -10,6 +10,5 @@ pub mod Considered
 pub mod Shown
 pub mod Clashes
 pub mod Images
-pub mod Flags
 pub mod Extended
 pub mod Index

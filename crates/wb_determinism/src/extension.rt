@@ -3,11 +3,11 @@
 //! Each test in the order in which refusals are shown: what is asked of hosts is asked of the host with the extension; then what the
 //! extension adds is compared with what the host allows. Marks are tested elsewhere, before all this or after.
 
-ghost use Rattle.std.specs.Prelude.{◌≡◌, ◌≤◌, ◌+◌, IfErr, IfOk, IfSome, IsSome, length};
+ghost use Rattle.std.specs.Prelude.{◌≡◌, ◌≤◌, ◌+◌, ◌-◌, IfErr, IfOk, IfSome, IsSome, length};
 ghost use Rattle.wb_determinism_host.specs.HostGrammar.{HasGrammar};
-ghost use Rattle.wb_determinism_host.specs.Hosts.{AreHostParts, IsDeterministicHost};
+ghost use Rattle.wb_determinism_host.specs.Hosts.{AreHostParts, IsDeterministicBy};
 ghost use Rattle.wb_determinism_host.specs.Judged.{IsReadyToJudge};
-ghost use Rattle.wb_determinism.specs.Extensions.{AreExtensionParts, IsDeterministicExtension, IsHostBeside, both_numbers, numbers_of};
+ghost use Rattle.wb_determinism.specs.Extensions.{AreExtensionParts, IsDeterministicExtension, IsHostBeside, both_lexicon, both_numbers, numbers_of};
 ghost use Rattle.wb_determinism.specs.Refusals.{IsExtensionRefusal};
 ghost use Rattle.wb_determinism.specs.Regions.{AreRegions};
 ghost use Rattle.wb_items.specs.Kernels.{count_of};
@@ -24,15 +24,18 @@ use crate::rules::{test_envelopes, test_lookaheads};
 use crate::{ExtensionParts, Region};
 use std::alloc::{AllocError, Global};
 use wb_base::{Grammar, Sequence};
-use wb_determinism_host::{AnalysedHost, DeterminismRefusal, HostParts, analysed_host, judge_host};
+use wb_determinism_host::{
+    AnalysedHost, DeterminismRefusal, HostParts, analysed_host, judge_beside,
+};
 use wb_grammar::Facts;
 use wb_items::{Kernels, Lookaheads};
 use wb_syntax_resolved::{Resolved, ResolvedParts};
 
 /// What is made of the grammar of a host with an extension, with holes, or why the extension isn't deterministic beside the host.
 ///
-/// The specification is that of the host with the one extension, and the parts are those of the host alone. The rules on marks aren't
-/// tested here, and their reasons don't come. No clause bounds the time.
+/// The specification is that of the host with the one extension, and the parts are those of the host alone. The extension's layout is
+/// considered where a kernel holds an item of one of its productions. The rules on marks aren't tested here, and their reasons don't come.
+/// No clause bounds the time.
 pub fn extension_determinism(
     alloc: Global,
     host: &HostParts,
@@ -72,7 +75,8 @@ pub fn judge_extension(
     ensures ok { IfOk result (λ parts. IfSome resolved.now.grammar (λ g. IsDeterministicExtension resolved.now g host.now.grammar × AreExtensionParts resolved.now g host.now parts)) }
     ensures refused { IfErr result (λ refusal. IfSome resolved.now.grammar (λ g. IsExtensionRefusal resolved.now g host.now.grammar refusal)) }
 {
-    let both = judge_host(alloc, resolved, grammar, facts, kernels, lookaheads)?;
+    let first = first_production(host, resolved);
+    let both = judge_beside(alloc, resolved, first, grammar, facts, kernels, lookaheads)?;
     match regions_beside(alloc, host, resolved, &both) {
         Ok(regions) => Ok(ExtensionParts {
             grammar: both.grammar,
@@ -87,6 +91,16 @@ pub fn judge_extension(
     }
 }
 
+// The number of the extension's first production, which comes after the host's.
+fn first_production(host: &HostParts, resolved: &Resolved) -> usize
+    requires grammar { IsSome resolved.now.grammar }
+    requires host { IfSome resolved.now.grammar (λ g. IsHostBeside resolved.now g host.now) }
+    ensures { result ≡ length host.now.grammar.productions - length resolved.now.extensible }
+{
+    let holes = resolved.parts().extensible.len();
+    host.grammar.productions() - holes
+}
+
 // The region of each kernel, where the rules hold that compare the host with the host with the extension, of which these are the parts.
 fn regions_beside(
     alloc: Global,
@@ -96,7 +110,7 @@ fn regions_beside(
 ) -> Result<Sequence<Region>, DeterminismRefusal>
     requires grammar { IsSome resolved.now.grammar }
     requires host { IfSome resolved.now.grammar (λ g. IsHostBeside resolved.now g host.now) }
-    requires both { IfSome resolved.now.grammar (λ g. IsDeterministicHost resolved.now g × AreHostParts resolved.now g both.now) }
+    requires both { IfSome resolved.now.grammar (λ g. IsDeterministicBy resolved.now g (both_lexicon resolved.now g host.now.grammar) × AreHostParts resolved.now g both.now) }
     ensures ok { IfOk result (λ regions. IfSome resolved.now.grammar (λ g. IsDeterministicExtension resolved.now g host.now.grammar)) }
     ensures regions { IfOk result (λ regions. IfSome resolved.now.grammar (λ g. AreRegions host.now.kernels both.now.kernels (both_numbers resolved.now g host.now.grammar) (count_of both.now.kernels) regions)) }
     ensures refused { IfErr result (λ refusal. IfSome resolved.now.grammar (λ g. IsExtensionRefusal resolved.now g host.now.grammar refusal)) }
@@ -117,7 +131,7 @@ fn regions_with(
 ) -> Result<Sequence<Region>, DeterminismRefusal>
     requires grammar { HasGrammar resolved.now grammar.now }
     requires host { IsHostBeside resolved.now grammar.now host.now }
-    requires deterministic { IsDeterministicHost resolved.now grammar.now }
+    requires deterministic { IsDeterministicBy resolved.now grammar.now (both_lexicon resolved.now grammar.now host.now.grammar) }
     requires both { AreHostParts resolved.now grammar.now both.now }
     ensures ok { IfOk result (λ regions. IsDeterministicExtension resolved.now grammar.now host.now.grammar) }
     ensures regions { IfOk result (AreRegions host.now.kernels both.now.kernels (both_numbers resolved.now grammar.now host.now.grammar) (count_of both.now.kernels)) }

@@ -15,7 +15,6 @@ mod extension;
 mod host_index;
 mod images;
 mod laws;
-mod layout;
 mod lookahead_rule;
 mod numbers;
 mod parts;

@@ -2,9 +2,8 @@
 
 ghost use Rattle.std.specs.Prelude.{◌≡◌, ◌≤◌, IfErr, IfOk, length, map};
 ghost use Rattle.wb_determinism_contexts.specs.Sets.{lent};
-ghost use Rattle.wb_determinism_host.specs.Lexicons.{is_layout};
+ghost use Rattle.wb_determinism_host.specs.Lexicons.{is_host_layout};
 ghost use Rattle.wb_items.specs.Kernels.{count_of};
-ghost use Rattle.wb_syntax_resolved.specs.declared.terminal.Terminal.{Terminal};
 ghost use Rattle.wb_determinism.specs.Inner.Keeps.{KeepsHostLookaheads};
 ghost use Rattle.wb_determinism.specs.Regions.{AreRegions};
 ghost use Rattle.wb_determinism.specs.Inner.Clashes.{HasSets};
@@ -17,12 +16,11 @@ use crate::Region;
 use crate::context::Context;
 use crate::envelope_clash::test_clashes;
 use crate::envelope_test::envelope_sets;
-use crate::layout::layout_of;
 use crate::lookahead_rule::lookahead_fault;
 use std::alloc::Global;
 use wb_base::Sequence;
 use wb_determinism_contexts::Lexicon;
-use wb_determinism_host::{DeterminismRefusal, expressions_of, pairs_of};
+use wb_determinism_host::{DeterminismRefusal, LayoutOwner, expressions_of, layout_of, pairs_of};
 use wb_items::production_numbers;
 use wb_syntax_resolved::ResolvedParts;
 use wb_termset::TermSet;
@@ -64,11 +62,11 @@ pub(crate) fn test_envelopes(
     ensures ok { IfOk result (λ done. MeetsEnvelope context.now (lexicon_for parts.now context.now.numbers.now.own_terminals)) }
     ensures refused { IfErr result (IsEnvelopeRefusal context.now (lexicon_for parts.now context.now.numbers.now.own_terminals)) }
 {
-    let layout = layout_of(alloc, parts.terminals.as_slice())?;
+    let layout = layout_of(alloc, parts.terminals.as_slice(), LayoutOwner::Host)?;
     test_with_layout(alloc, context, regions, parts, &layout)
 }
 
-// Like `test_envelopes`, with the set of layout.
+// Like `test_envelopes`, with the set of the host's layout.
 fn test_with_layout(
     alloc: Global,
     context: &Context,
@@ -79,7 +77,7 @@ fn test_with_layout(
     requires context { IsContext context.now }
     requires regions { AreRegions context.now.host.now context.now.both.now context.now.numbers.now (count_of context.now.both.now) regions.now }
     requires terminals { context.now.numbers.now.own_terminals ≤ length layout.now }
-    requires layout { layout.now ≡ map (λ (t : Terminal). is_layout t.kind) parts.now.terminals }
+    requires layout { layout.now ≡ map is_host_layout parts.now.terminals }
     ensures ok { IfOk result (λ done. MeetsEnvelope context.now (lexicon_for parts.now context.now.numbers.now.own_terminals)) }
     ensures refused { IfErr result (IsEnvelopeRefusal context.now (lexicon_for parts.now context.now.numbers.now.own_terminals)) }
 {
@@ -113,17 +111,20 @@ fn test_scanner(
     sets: &[TermSet],
 ) -> Result<(), DeterminismRefusal>
     requires context { IsContext context.now }
-    requires layout { layout.now ≡ map (λ (t : Terminal). is_layout t.kind) parts.now.terminals }
+    requires layout { layout.now ≡ map is_host_layout parts.now.terminals }
     requires sets { HasSets context.now layout.now sets.now }
     ensures ok { IfOk result (λ done. MeetsEnvelope context.now (lexicon_for parts.now context.now.numbers.now.own_terminals)) }
     ensures refused { IfErr result (IsEnvelopeRefusal context.now (lexicon_for parts.now context.now.numbers.now.own_terminals)) }
 {
     let expressions = expressions_of(alloc, parts.terminals.as_slice())?;
     let pairs = pairs_of(alloc, parts.preferences.as_slice())?;
+    let own_layout = layout_of(alloc, parts.terminals.as_slice(), LayoutOwner::Nobody)?;
     let lexicon = Lexicon {
         expressions: &expressions,
         scanned: context.numbers.own_terminals,
         layout,
+        own_layout: &own_layout,
+        own_productions: (0, 0),
         preferences: &pairs,
     };
     test_with_lexicon(alloc, context, parts, &lexicon, sets)

@@ -1,5 +1,5 @@
 -- From what is asked of a host and an extension to what finding new kernels asks for, and from what is seen of these to the answer.
-use Rattle.std.proofs.Common.{◌≡◌, ◌≤◌, ◌+◌, ◌-◌, ◌∙◌, ℕ, List, length, sym, ap, subst, arith}
+use Rattle.std.proofs.Common.{◌≡◌, ◌≤◌, ◌+◌, ◌-◌, ◌∙◌, ℕ, List, None, length, sym, ap, subst, arith}
 use Rattle.std.proofs.lemmas.List.{length-append}
 use Rattle.wb_base.specs.Grammar.{GrammarView, Production}
 use Rattle.wb_determinism.specs.Extensions.{IsDeterministicExtension, IsPartOf, numbers_of}
@@ -168,9 +168,9 @@ module _ (x : Fit) (is : IsFit x) where
     holes_alone = about (λ z k m. AreHolesAlone z (up_by m) (phi_by m b.images.now)) piece_is.alone
 
     -- what is scanned is in the grammar
-    pub lexicon_beside : FitsGrammar b.grammar.now.terminals (lexicon_of r g)
-    lexicon_beside =
-        subst (λ (z : GrammarView). FitsGrammar z.terminals (lexicon_of r g)) (sym grammar_is) (lexicon_fits r g is.asked.has)
+    pub scanned_fits : FitsGrammar b.grammar.now.terminals (lexicon_of r g)
+    scanned_fits =
+        subst (λ (z : GrammarView). FitsGrammar z.terminals (lexicon_of r g)) (sym grammar_is) (lexicon_fits r g None is.asked.has)
 
   -- where each new kernel has an item that isn't the host's, and neither a conflict nor a clash, the extension is deterministic
   pub answer_is : (y : Found) → IsFoundOf x y → AreForeign y → IsClearAtNew y (lexicon_of r g) → Answer (asked_in x)

@@ -19,9 +19,11 @@ use Rattle.wb_grammar_theory.specs.Lookaheads.{CanReduce, CanShift, HasConflict,
 use Rattle.wb_items.specs.declared.item_lookahead.ItemLookahead.{ItemLookahead}
 use Rattle.wb_items.specs.Lookaheads.{items_in}
 use Rattle.wb_lexical.specs.Clash.{HasNoClash}
-use Rattle.wb_termset.specs.Sets.{IsMember}
+use Rattle.wb_regex.specs.Tree.{Tree}
+use Rattle.wb_syntax_resolved.specs.declared.resolved.ResolvedParts.{ResolvedParts}
+use Rattle.wb_termset.specs.Sets.{IsEmpty, IsMember}
 use Rattle.wb_determinism_beside.specs.declared.found.Found.{Found}
-use Rattle.wb_determinism_beside.specs.Inner.Found.{AreClear, IsClear, IsClearAtNew, both_in, new_in, prefix_at}
+use Rattle.wb_determinism_beside.specs.Inner.Found.{AreClear, IsClear, IsClearAtNew, both_in, lexicon_for, new_in, prefix_at}
 use Rattle.wb_determinism_beside.specs.Inner.Rows.{HasLooks, IsRow}
 
 -- an item that a row has, has an entry there
@@ -171,11 +173,11 @@ module _ (k : GrammarView) (prefix : List Symbol) (row : List ItemLookahead) (is
         valid_in t (inr (p, can)) = inr (reduced_in p t can)
 
         there : (t : ℕ) → ((t < lexicon.scanned) × (IsMember shifts t ⊎ IsReduced k row (length row) t)) ⊎ IsMember lexicon.layout t
-            → IsConsideredAt k lexicon prefix t
+            → ((t < lexicon.scanned) × IsValidTerminal k prefix t) ⊎ IsMember lexicon.layout t
         there t (inl (below, x)) = inl (below, valid_out t x)
         there t (inr has) = inr has
 
-        back : (t : ℕ) → IsConsideredAt k lexicon prefix t
+        back : (t : ℕ) → ((t < lexicon.scanned) × IsValidTerminal k prefix t) ⊎ IsMember lexicon.layout t
             → ((t < lexicon.scanned) × (IsMember shifts t ⊎ IsReduced k row (length row) t)) ⊎ IsMember lexicon.layout t
         back t (inl (below, x)) = inl (below, valid_in t x)
         back t (inr has) = inr has
@@ -203,18 +205,47 @@ module _ (x : Found) (lexicon : LexiconView) where
       })
 
   -- where no two terminals of one set clash, no new kernel has a clash
-  pub clear_all : (n : ℕ) (sets : List (List Bool)) → new_in x ≡ n → AreClear x lexicon n sets
+  pub clear_all : IsEmpty lexicon.own_layout → (n : ℕ) (sets : List (List Bool)) → new_in x ≡ n → AreClear x lexicon n sets
       → HasNoClash lexicon.expressions sets lexicon.preferences → IsClearAtNew x lexicon
-  clear_all n sets n_is are never = record {
+  clear_all none n sets n_is are never = record {
     no_conflict = λ i t below. let (set, at) = at_within sets i (omega (arith, below, n_is, are.len)) in (are.each i set at).no_conflict t;
     no_clash = λ i left right text below clash.
         let (set, at) = at_within sets i (omega (arith, below, n_is, are.len)) in
         never i left right text (record {
           different = clash.different;
-          left_in = record { flags = set; at = at; has = ((are.each i set at).each left).1 clash.left_considered };
-          right_in = record { flags = set; at = at; has = ((are.each i set at).each right).1 clash.right_considered };
+          left_in = record { flags = set; at = at; has = ((are.each i set at).each left).1 (plain i left clash.left_considered) };
+          right_in = record { flags = set; at = at; has = ((are.each i set at).each right).1 (plain i right clash.right_considered) };
           left_matches = clash.left_matches;
           right_matches = clash.right_matches;
           unordered = clash.unordered;
         });
   }
+    where
+      plain : (i t : ℕ) → IsConsideredAt (both_in x) lexicon (prefix_at x i) t
+          → ((t < lexicon.scanned) × IsValidTerminal (both_in x) (prefix_at x i) t) ⊎ IsMember lexicon.layout t
+      plain i t (inl is) = inl is
+      plain i t (inr (inl is)) = inr is
+      plain i t (inr (inr (is, _))) = absurd (none t is)
+
+-- what is scanned, by its parts
+abbrev scanned_by : List Tree → ℕ → List Bool → List Bool → List (ℕ × ℕ) → LexiconView
+scanned_by expressions scanned layout own_layout preferences = record {
+  expressions = expressions;
+  scanned = scanned;
+  layout = layout;
+  own_layout = own_layout;
+  own_productions = (0, 0);
+  preferences = preferences;
+}
+
+-- with all layout
+pub lexicon_is : (r : ResolvedParts) (scanned : ℕ) (expressions : List Tree) (layout own_layout : List Bool) (preferences : List (ℕ × ℕ))
+    → expressions ≡ (lexicon_for r scanned).expressions → layout ≡ (lexicon_for r scanned).layout
+    → own_layout ≡ (lexicon_for r scanned).own_layout → preferences ≡ (lexicon_for r scanned).preferences
+    → scanned_by expressions scanned layout own_layout preferences ≡ lexicon_for r scanned
+lexicon_is r scanned expressions layout own_layout preferences one two three four =
+    let l = lexicon_for r scanned in
+    ap (λ z. scanned_by z scanned layout own_layout preferences) one
+    ∙ ap (λ z. scanned_by l.expressions scanned z own_layout preferences) two
+    ∙ ap (λ z. scanned_by l.expressions scanned l.layout z preferences) three
+    ∙ ap (λ z. scanned_by l.expressions scanned l.layout l.own_layout z) four

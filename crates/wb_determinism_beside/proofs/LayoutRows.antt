@@ -37,7 +37,7 @@ abbrev layout_of : Terminal → Bool
 layout_of t = is_layout t.kind
 
 -- layout alone is layout
-kind_layout : (kind : TerminalKind) → is_layout kind ≡ true → kind ≡ Ignore
+pub kind_layout : (kind : TerminalKind) → is_layout kind ≡ true → kind ≡ Ignore
 kind_layout Plain e = absurd (cc e)
 kind_layout Ignore e = refl
 kind_layout Marking e = absurd (cc e)

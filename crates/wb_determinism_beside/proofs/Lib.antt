@@ -19,5 +19,4 @@ pub mod SeenLemmas
 pub mod AskedLemmas
 pub mod ImageLemmas
 pub mod ValidLemmas
-pub mod FlagLemmas
 pub mod ListLemmas

@@ -87,6 +87,14 @@ module _ (host r : ResolvedParts) (h g : GrammarView) (same : r.extensible ≡ h
       ap (λ z. lift z ((g.terminals + length r.extensible) - (h.terminals + length host.extensible)) t) own
       ∙ ap (λ z. lift h.terminals z t) more
 
+  -- productions without holes
+  pub productions_own : length host_holes.productions - length r.extensible ≡ length h.productions
+  productions_own =
+      let counted = as_many in
+      let host_rules = length-append h.productions (hole_productions h.terminals host.extensible) in
+      let host_more = length-hole_productions h.terminals host.extensible in
+      omega (arith, counted, host_rules, host_more)
+
   -- productions
   pub productions_agree : (p : ℕ) → production_up (both_numbers r g host_holes) p ≡ (up_of h g).production p
   productions_agree p =
@@ -95,8 +103,7 @@ module _ (host r : ResolvedParts) (h g : GrammarView) (same : r.extensible ≡ h
       let both_rules = length-append g.productions (hole_productions g.terminals r.extensible) in
       let host_more = length-hole_productions h.terminals host.extensible in
       let both_more = length-hole_productions g.terminals r.extensible in
-      let own : length host_holes.productions - length r.extensible ≡ length h.productions =
-      omega (arith, counted, host_rules, host_more) in
+      let own = productions_own in
       let more : length (with_holes_of g r.extensible).productions - length host_holes.productions
       ≡ length g.productions - length h.productions = omega (arith, counted, host_rules, host_more, both_rules, both_more) in
       ap (λ z. lift z (length (with_holes_of g r.extensible).productions - length host_holes.productions) p) own

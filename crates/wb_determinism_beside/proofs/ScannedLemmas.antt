@@ -8,11 +8,12 @@ use Rattle.wb_lemmas.proofs.Places.{at_once, at_within}
 use Rattle.wb_automata.specs.Automata.{IsMatch}
 use Rattle.wb_base.specs.Grammar.{GrammarView}
 use Rattle.wb_compose_theory.specs.Blocks.{lift}
-use Rattle.wb_compose_theory_grammar.proofs.PlaceLemmas.{lift_past}
+use Rattle.wb_compose_theory_grammar.proofs.PlaceLemmas.{lift_below, lift_past}
 use Rattle.wb_compose_theory_grammar.specs.Bridges.{bridge_in_list, mark_by}
 use Rattle.wb_compose_theory_grammar.specs.Numberings.{image_of, phi_of, up_of}
-use Rattle.wb_compose_theory_language.proofs.TextLemmas.{ordered_stable}
-use Rattle.wb_determinism_host.specs.Lexicons.{lexicon_of, preference_pairs}
+use Rattle.wb_determinism_contexts.proofs.OrderLemmas.{ordered_stable}
+use Rattle.wb_determinism_host.specs.Lexicons.{lexicon_beside, lexicon_of, preference_pairs}
+use Rattle.wb_determinism_host.proofs.LayoutLemmas as layouts
 use Rattle.wb_determinism_theory.specs.Lexicons.{AreMarkersTold, ExtendsLexicon, IsBesideMarkers}
 use Rattle.wb_lexical.specs.Clash.{AreOrdered}
 use Rattle.wb_marking.specs.Clashes.{AreRivals, HasNoMarkerClash, IsRival}
@@ -22,18 +23,18 @@ use Rattle.wb_regex.specs.Tree.{Tree}
 use Rattle.wb_syntax_resolved.specs.declared.resolved.ResolvedParts.{ResolvedParts}
 use Rattle.wb_syntax_resolved.specs.declared.terminal.Terminal.{Terminal}
 use Rattle.wb_syntax_resolved.specs.declared.terminal.TerminalKind.{TerminalKind}
-use Rattle.wb_syntax_resolved.specs.declared.terminal.TerminalKind.TheVariants.{Plain, Marking}
+use Rattle.wb_syntax_resolved.specs.declared.terminal.TerminalKind.TheVariants.{Plain, Ignore, Marking}
 use Rattle.wb_syntax_resolved.specs.Resolved.{IsNamedTerminal}
 use Rattle.wb_termset.specs.Sets.{IsMember}
 use Rattle.wb_determinism_beside.specs.Given.{AreScannedBeside}
 use Rattle.wb_determinism_beside.specs.Pieces.{IsExtendedBy, is_marker_in, piece_in}
 use Rattle.wb_determinism_beside.proofs.InRange.{grammar_of}
 use Rattle.wb_determinism_beside.proofs.KeptLemmas.{more_terminals}
-use Rattle.wb_determinism_beside.proofs.LayoutRows.{from_map, layout_at, row_layout}
+use Rattle.wb_determinism_beside.proofs.LayoutRows.{from_map, layout_at, past_layout, row_layout}
 use Rattle.wb_determinism_beside.proofs.MarkerLemmas.{row_marker}
 use Rattle.wb_determinism_beside.proofs.RowLemmas.{map_at}
 use Rattle.wb_determinism_beside.proofs.WrittenPreferences.{preferred}
-use Rattle.wb_determinism_beside.proofs.WrittenRows.{RowUp, host_owner, row_down, row_up, up_below}
+use Rattle.wb_determinism_beside.proofs.WrittenRows.{RowUp, host_owner, host_place, not_own_place, row_down, row_up, up_below}
 
 -- the expression of a row
 abbrev pattern_of : Terminal → Tree
@@ -99,7 +100,20 @@ module _ (host r : ResolvedParts) (h g : GrammarView) (is : IsExtendedBy host r 
   kept_order t u (inr has) =
       inr (preferred host r is.spec is.names is.host_resolved is.resolved h g is.host_start is.start is.alone u t has)
 
-  pub extends_lexicon : ExtendsLexicon (lexicon_of host h) (lexicon_of r g) (up_of h g) (phi_of r.extensible (piece_in r g))
+  -- no production of the host is the extension's
+  no_own : (p : ℕ) → length h.productions ≤ lift (length h.productions) (length g.productions - length h.productions) p
+      → ¬ (lift (length h.productions) (length g.productions - length h.productions) p < length g.productions)
+  no_own p from to = elim (cases_lt p (length h.productions)) [
+    | inl below ↦
+        (let here = lift_below (length h.productions) (length g.productions - length h.productions) p below in
+        omega (arith, below, here, from))
+    | inr far ↦
+        (let here = lift_past (length h.productions) (length g.productions - length h.productions) p far in
+        omega (arith, far, here, to))
+  ]
+
+  pub extends_lexicon : ExtendsLexicon (lexicon_of host h) (lexicon_beside r g (length h.productions)) (up_of h g)
+      (phi_of r.extensible (piece_in r g))
   extends_lexicon = record {
     scanned = λ u less. elim (cases_lt u h.terminals) [
       | inl below ↦ below
@@ -109,12 +123,16 @@ module _ (host r : ResolvedParts) (h g : GrammarView) (is : IsExtendedBy host r 
           absurd (omega (arith, more, far)))
     ];
     layout = λ t has.
-        (let l = layout_at r g is.resolved is.start t has in
-        let past = l.past in
-        let (u, was, at, t_is, moved) =
-        row_down host r is.spec is.names is.host_resolved is.resolved h g is.host_start is.start is.alone t l.row l.at
-        (λ between. (let high = between.1 in omega (arith, high, past))) in
-        (u, t_is, row_layout host h is.host_resolved is.host_start u was at (far_down t u t_is past)));
+        (let (row, at, kind, none) = layouts.host_row r.terminals t has in
+        let past = past_layout r g is.resolved is.start t row at Ignore kind refl in
+        let place =
+        host_place host r is.spec is.names is.host_resolved is.resolved h g is.host_start is.start is.alone t row at none in
+        let x = row_down host r is.spec is.names is.host_resolved is.resolved h g is.host_start is.start is.alone t row at place in (
+          x.number,
+          x.place,
+          row_layout host h is.host_resolved is.host_start x.number x.was x.there (far_down t x.number x.place past),
+        ));
+    own = no_own;
     matches = same_pattern;
     ordered = kept_order;
   }
@@ -133,15 +151,16 @@ module _ (host r : ResolvedParts) (h g : GrammarView) (is : IsExtendedBy host r 
 
   -- a terminal beside markers is a rival of each other marker
   rival : (m t : ℕ) → (own : IsMarker r m) → (row : Terminal) → slice_get r.terminals t ≡ Some row
-      → IsBesideMarkers (lexicon_of host h) (lexicon_of r g) (up_of h g) (phi_of r.extensible (piece_in r g)) t → IsRival own.terminal row
+      → IsBesideMarkers (lexicon_of host h) (lexicon_beside r g (length h.productions)) (up_of h g) (phi_of r.extensible (piece_in r g)) t
+      → IsRival own.terminal row
   rival m t own row at (inl (u, t_is, below)) =
-      let kept = up_below host r is.spec is.names is.host_resolved is.resolved h g is.host_start is.start is.alone u below in
+      let least = (grammar_of host h is.host_resolved is.host_start).terminals_len in
       inl (host_owner host r is.spec is.names is.host_resolved is.resolved h g is.host_start is.start is.alone t row at
-      (λ between. (let low = between.0 in let here : t ≡ u = t_is ∙ kept in omega (arith, low, here, below))))
+      (not_own_place host r is.spec is.names is.host_resolved is.resolved h g is.host_start is.start is.alone u t
+      (omega (arith, below, least)) t_is))
   rival m t own row at (inr (inl skipped)) =
-      let past = (layout_at r g is.resolved is.start t skipped).past in
-      inl (host_owner host r is.spec is.names is.host_resolved is.resolved h g is.host_start is.start is.alone t row at
-      (λ between. (let high = between.1 in omega (arith, high, past))))
+      let (other, there, kind, none) = layouts.host_row r.terminals t skipped in
+      inl (ap (λ (z : Terminal). z.owner) (at_once r.terminals t row other at there) ∙ none)
   rival m t own row at (inr (inr ne)) =
       let other = row_marker r t (marker_moves r.extensible r g t ne) in
       let same : row ≡ other.terminal = at_once r.terminals t row other.terminal at other.is in
@@ -151,7 +170,7 @@ module _ (host r : ResolvedParts) (h g : GrammarView) (is : IsExtendedBy host r 
       )
 
   pub are_told : HasNoMarkerClash r →
-      AreMarkersTold (lexicon_of host h) (lexicon_of r g) (up_of h g) (phi_of r.extensible (piece_in r g))
+      AreMarkersTold (lexicon_of host h) (lexicon_beside r g (length h.productions)) (up_of h g) (phi_of r.extensible (piece_in r g))
   are_told clear m t text ne differ beside own_is other_is =
       let own = row_marker r m (marker_moves r.extensible r g m ne) in
       let (mine, mine_at, mine_is) = from_map pattern_of r.terminals m own_is.tree own_is.at in

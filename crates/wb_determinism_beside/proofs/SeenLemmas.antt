@@ -12,9 +12,10 @@ use Rattle.wb_determinism.specs.Images.{stands_for}
 use Rattle.wb_determinism.specs.Inner.Images.{AreImages}
 use Rattle.wb_determinism.specs.declared.numbers.Numbers.{Numbers}
 use Rattle.wb_determinism.specs.Numbers as tested
-use Rattle.wb_determinism_contexts.specs.Considered.{HasNoClashAt, IsClashAt, IsConsideredAt}
+use Rattle.wb_determinism_contexts.specs.Considered.{HasNoClashAt, IsClashAt, IsConsideredAt, LexiconView}
 use Rattle.wb_determinism_host.specs.Hosts.{IsDeterministicHost, IsFitForParsing}
-use Rattle.wb_determinism_host.specs.Lexicons.{lexicon_of}
+use Rattle.wb_determinism_host.specs.Lexicons.{lexicon_beside, lexicon_of}
+use Rattle.wb_determinism_host.proofs.LayoutLemmas.{clash_more}
 use Rattle.wb_determinism_kernels.specs.NewKernels.{NewKernelsView, count_with, prefix_with}
 use Rattle.wb_determinism_kernels.specs.Numbers.{phi_by, up_by}
 use Rattle.wb_determinism_theory.proofs.ScannerLemmas as scanner
@@ -134,17 +135,22 @@ module _ (host r : ResolvedParts) (h g : GrammarView) (is : IsExtendedBy host r 
       let (s, below, same) = seen.are_new.states.all prefix (conflict_viable conflict) in
       no_conflict_at s t below ((same_conflict both seen.live prefix (prefix_at s) (same_back same) t).0 conflict)
 
-  no_clash_at : (s left right : ℕ) (text : List ℕ) → s < count → ¬ IsClashAt both (lexicon_of r g) (prefix_at s) left right text
+  -- what is scanned with the extension
+  abbrev lexicon : LexiconView
+  lexicon = lexicon_beside r g (length h.productions)
+
+  no_clash_at : (s left right : ℕ) (text : List ℕ) → s < count → ¬ IsClashAt both lexicon (prefix_at s) left right text
   no_clash_at s left right text below = elim (cases_lt s (count_of own)) [
     | inl of_host ↦
         let scanned = are_scanned host r h g is clear in
-        scanner.no_clash (lexicon_of host h) (lexicon_of r g) kept scanned.extends scanned.told (prefix_at s) (prefix_of own s)
+        scanner.no_clash (lexicon_of host h) lexicon kept scanned.extends scanned.told (prefix_at s) (prefix_of own s)
         (at_host s of_host) (seen.are_new.found.first.host s of_host) host_no_clash left right text
     | inr from ↦
-        past (λ p. ¬ IsClashAt both (lexicon_of r g) p left right text) (λ i lt. seen.no_clash i left right text lt) s from below
+        past (λ p. ¬ IsClashAt both lexicon p left right text) (λ i lt clash. seen.no_clash i left right text lt
+        (clash_more r g both (length h.productions) (prefix_at (count_of own + i)) left right text clash)) s from below
   ]
 
-  no_clash : HasNoClashAt both (lexicon_of r g)
+  no_clash : HasNoClashAt both lexicon
   no_clash prefix left right text clash =
       let (s, below, same) = seen.are_new.states.all prefix clash.viable in
       no_clash_at s left right text below (record {
@@ -157,10 +163,15 @@ module _ (host r : ResolvedParts) (h g : GrammarView) (is : IsExtendedBy host r 
         unordered = clash.unordered;
       })
     where
-      there : (s : ℕ) → SameKernel both (prefix_at s) prefix → (t : ℕ) → IsConsideredAt both (lexicon_of r g) prefix t
-          → IsConsideredAt both (lexicon_of r g) (prefix_at s) t
+      there : (s : ℕ) → SameKernel both (prefix_at s) prefix → (t : ℕ) → IsConsideredAt both lexicon prefix t
+          → IsConsideredAt both lexicon (prefix_at s) t
       there s same t (inl (below, valid)) = inl (below, (same_valid both seen.live prefix (prefix_at s) (same_back same) t).0 valid)
-      there s same t (inr layout) = inr layout
+      there s same t (inr (inl layout)) = inr (inl layout)
+      there s same t (inr (inr (layout, (i, holds, from, to)))) = inr (inr (layout, (i, (same i).1 holds, from, to)))
+
+  -- the extension's productions come after the host's
+  first_is : length h.productions ≡ length (with_holes_of h r.extensible).productions - length r.extensible
+  first_is = let all = given.own_rules h g r.extensible in omega (arith, all)
 
   abbrev numbers : Numbers
   numbers = numbers_beside r.extensible h g
@@ -195,7 +206,11 @@ module _ (host r : ResolvedParts) (h g : GrammarView) (is : IsExtendedBy host r 
   -- so the extension is deterministic beside the host
   pub seen_deterministic : IsDeterministicExtension r g (with_holes_of h r.extensible)
   seen_deterministic = record {
-    both = record { fit = fit; no_conflict = no_conflict; no_clash = no_clash };
+    both = record {
+      fit = fit;
+      no_conflict = no_conflict;
+      no_clash = subst (λ (n : ℕ). HasNoClashAt both (lexicon_beside r g n)) first_is no_clash;
+    };
     lookaheads = subst (λ (z : GrammarView). KeepsKernelLookaheads z both (tested.up_by numbers) (stands_for r g)) own_is tested_rule;
     envelope = record {
       stays = record {

@@ -1,7 +1,6 @@
--- With an extension the host's preferences stay, and each other one names a terminal of the extension.
-use Rattle.std.proofs.Common.{◌≡◌, ◌≤◌, ◌<◌, ◌⊎◌, inl, inr, [], ℕ, List, Some, Contains, map, ap, refl, sym, subst}
+-- With an extension the host's preferences stay, and each other one names a terminal or layout of the extension.
+use Rattle.std.proofs.Common.{◌≡◌, ◌⊎◌, inl, inr, [], ℕ, List, Some, Contains, map, ap, refl, sym, subst}
 use Rattle.std.proofs.Common.{◌∙◌, arith}
-use Rattle.std.proofs.lemmas.Bool.{cases_lt}
 use Rattle.std.proofs.lemmas.Option.{same_Some}
 use Rattle.wb_lemmas.proofs.Members.{contains_at, place_of}
 use Rattle.wb_lemmas.proofs.Places.{append_keeps}
@@ -32,7 +31,7 @@ use Rattle.wb_syntax.specs.declared.item.PlainForm.TheVariants as i
 use Rattle.wb_syntax.specs.SpecText.{SpecView}
 use Rattle.wb_determinism_beside.proofs.KeptLemmas as k
 use Rattle.wb_determinism_beside.proofs.RowLemmas.{map_at}
-use Rattle.wb_determinism_beside.proofs.WrittenRows.{names_apart, row_down, row_up, up}
+use Rattle.wb_determinism_beside.proofs.WrittenRows.{IsOwnPlace, names_apart, own_decided, row_down, row_up, up}
 
 -- the preferences that items write they declare
 preference_declares : (items : Items) (x : PreferenceDeclaration) → Contains (preferences items) x
@@ -104,27 +103,21 @@ module _ (host r : ResolvedParts) (spec : SpecView) (names : ResolvesExtension h
     pub second_is : u ≡ up_here second
 
   abbrev pub IsOwn : ℕ → Type 0
-  IsOwn t = (h.terminals ≤ t) × (t < g.terminals)
+  IsOwn t = IsOwnPlace host r spec names host_whole whole h g host_start start alone t
 
-  own_decided : (t : ℕ) → IsOwn t ⊎ (¬ IsOwn t)
-  own_decided t = elim (cases_lt t h.terminals) [
-    | inl low ↦ inr (λ is. let a = is.0 in absurd (omega (arith, low, a)))
-    | inr high ↦ elim (cases_lt t g.terminals) [
-      | inl less ↦ inl (high, less)
-      | inr over ↦ inr (λ is. let a = is.1 in absurd (omega (arith, over, a)))
-    ]
-  ]
+  decided : (t : ℕ) → IsOwn t ⊎ (¬ IsOwn t)
+  decided t = own_decided host r spec names host_whole whole h g host_start start alone t
 
   -- a name that the extension declares isn't that of a host's row
   not_own_symbol : (t : ℕ) (name : List ℕ) → IsNumber (numbering_of r).terminals 1 name t → ¬ IsOwn t →
       ¬ orphan.IsOwnSymbol (item_declarations spec.items) name
   not_own_symbol t name number other (is, has) =
       let found = row_at entry r.terminals t number.other name number.is in
-      let (u, was, there, e, moved) = row_down host r spec names host_whole whole h g host_start start alone t found.row found.is other in
-      names_apart host r spec names host_whole whole h g host_start start alone u was there is
-      (subst (λ z. Contains (item_declarations spec.items) (d.Symbol z is)) (sym found.name_is ∙ moved.name) has)
+      let x = row_down host r spec names host_whole whole h g host_start start alone t found.row found.is other in
+      names_apart host r spec names host_whole whole h g host_start start alone x.number x.was x.there is
+      (subst (λ z. Contains (item_declarations spec.items) (d.Symbol z is)) (sym found.name_is ∙ x.moved.name) has)
 
-  -- each preference is the host's, or names a terminal of the extension
+  -- each preference is the host's, or names a terminal or layout of the extension
   pub preferences_are : (t u : ℕ) → Contains (map pair_of r.preferences) (t, u) → IsMovedPair t u ⊎ (IsOwn t ⊎ IsOwn u)
   preferences_are t u has =
       let (q, listed, same) = contains_map pair_of r.preferences (t, u) has in
@@ -144,9 +137,9 @@ module _ (host r : ResolvedParts) (spec : SpecView) (names : ResolvesExtension h
         first_is = sym (ap (λ (z : ℕ × ℕ). z.0) same) ∙ moved_up p.first q.first moved.first;
         second_is = sym (ap (λ (z : ℕ × ℕ). z.1) same) ∙ moved_up p.second q.second moved.second;
       })
-      by q same j (new {x = p} n e there) is_row = elim (own_decided t) [
+      by q same j (new {x = p} n e there) is_row = elim (decided t) [
         | inl mine ↦ inr (inl mine)
-        | inr first ↦ elim (own_decided u) [
+        | inr first ↦ elim (decided u) [
           | inl mine ↦ inr (inr mine)
           | inr second ↦ absurd (names.names.owned (λ z. omega (arith, z)) p.first (orphan.preference
               (preference_declares spec.items p (contains_at (preferences spec.items) p n there))

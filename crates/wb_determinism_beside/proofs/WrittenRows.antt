@@ -1,84 +1,48 @@
--- With an extension the host's terminals and layout are written as they were, layout after all terminals, and each other terminal is the
--- extension's own.
-use Rattle.std.proofs.Common.{◌≡◌, ◌≢◌, ◌≤◌, ◌<◌, ◌+◌, ◌-◌, ◌++◌, ◌⊎◌, inl, inr, [], ℕ, Some, Contains, map}
+-- With an extension the host's terminals and layout are written as they were, the host's layout after all terminals, and each other row is
+-- the extension's own: its terminals before that layout, and its own layout after it.
+use Rattle.std.proofs.Common.{◌≡◌, ◌≤◌, ◌<◌, ◌+◌, ◌-◌, ◌++◌, ◌⊎◌, inl, inr, [], ℕ, Some, Contains, map}
 use Rattle.std.proofs.Common.{length, slice_get, ap, refl, sym, subst, ◌∙◌, arith}
 use Rattle.std.proofs.lemmas.Bool.{cases_lt}
 use Rattle.std.proofs.lemmas.List.{length-append, length-map}
-use Rattle.std.proofs.lemmas.Option.{same_Some, slice_get_within}
+use Rattle.std.proofs.lemmas.Option.{slice_get_within}
 use Rattle.std.proofs.lemmas.Slice.Zip.{AllZip-long}
-use Rattle.wb_lemmas.proofs.Members.{contains_at, contains_first, place_of}
+use Rattle.wb_lemmas.proofs.Members.{contains_at, place_of}
 use Rattle.wb_lemmas.proofs.Places.{append_after, append_keeps, at_once, at_within}
 use Rattle.wb_lemmas.proofs.Zips.{zip_at}
 use Rattle.wb_base.specs.Grammar.{GrammarView}
 use Rattle.wb_names.specs.Resolving.{ResolvesExtension}
 use Rattle.wb_names_theory.specs.declared.declaration.Declaration.TheVariants as d
 use Rattle.wb_names_theory.specs.declared.declaration.Sort.{Sort}
-use Rattle.wb_names_theory.specs.declared.declaration.Sort.TheVariants as sort
-use Rattle.wb_names_theory.specs.Declarations.{Items, LexicalDeclaration, lexical_of, lexicals}
-use Rattle.wb_names_theory.specs.Declares.{base_declarations, form_declarations, item_declarations, role_sort, terminal_sort}
+use Rattle.wb_names_theory.specs.Declarations.{LexicalDeclaration, lexicals}
+use Rattle.wb_names_theory.specs.Declares.{base_declarations, item_declarations, terminal_sort}
 use Rattle.wb_names_theory.specs.Duplicate as duplicate
-use Rattle.wb_names_theory.specs.Orphan as orphan
 use Rattle.wb_names_numbers_theory.specs.Moved.{IsMovedTerminal}
 use Rattle.wb_names_numbers_theory.specs.Numbering.{numbering_of}
 use Rattle.wb_names_numbers_theory.specs.Resolves.{IsScanned}
-use Rattle.wb_names_numbers_theory.specs.Rows.{IsTerminalRow, terminal_kind}
+use Rattle.wb_names_numbers_theory.specs.Rows.{IsTerminalRow}
 use Rattle.wb_names_numbers_theory.specs.Sources.{IsFrom, sources}
 use Rattle.wb_names_numbers_theory.proofs.Ground.{hosts}
-use Rattle.wb_names_numbers_theory.proofs.OwnDeclared.{flat_map_contains}
+use Rattle.wb_names_numbers_theory.proofs.Grouped.{both_at}
+use Rattle.wb_names_numbers_theory.proofs.NumberLemmas.{differ_left}
 use Rattle.wb_names_numbers_theory.proofs.PreferencesOnce.{IsAtSource, at_source, new, old}
-use Rattle.wb_names_numbers_theory.proofs.Selected.{kept_from}
+use Rattle.wb_names_numbers_theory.proofs.RowLemmas.{contains_split}
 use Rattle.wb_syntax_resolved.specs.declared.resolved.ResolvedParts.{ResolvedParts}
 use Rattle.wb_syntax_resolved.specs.declared.terminal.Terminal.{Terminal}
-use Rattle.wb_syntax_resolved.specs.declared.terminal.TerminalKind.TheVariants.{Ignore}
+use Rattle.wb_syntax_resolved.specs.Once.{Entry, symbol_names}
 use Rattle.wb_syntax_resolved.specs.Resolved.{IsResolved}
-use Rattle.wb_syntax.specs.declared.item.Item.{Item}
-use Rattle.wb_syntax.specs.declared.item.ItemForm.{ItemForm}
-use Rattle.wb_syntax.specs.declared.item.ItemForm.TheVariants as f
-use Rattle.wb_syntax.specs.declared.pattern.Pattern.{Pattern}
-use Rattle.wb_syntax.specs.declared.pattern.Role.{Role}
-use Rattle.wb_syntax.specs.declared.pattern.Role.TheVariants as role
 use Rattle.wb_syntax.specs.SpecText.{SpecView}
 use Rattle.wb_compose_theory.specs.Blocks.{lift}
 use Rattle.wb_compose_theory_grammar.proofs.PlaceLemmas.{lift_below, lift_past}
-use Rattle.wb_determinism_beside.proofs.GroupLemmas.{IsStretch, follow_count, follow_kept}
+use Rattle.wb_determinism_beside.proofs.GroupLemmas.{IsStretch, follow_kept, follow_least}
 use Rattle.wb_determinism_beside.proofs.KeptLemmas as k
 use Rattle.wb_determinism_beside.proofs.RowLemmas.{map_at}
-
--- what items write of terminals they declare
-lexical_declares : (items : Items) (x : LexicalDeclaration) → Contains (lexicals items) x
-    → Contains (item_declarations items) (d.Symbol x.name (role_sort x.role))
-lexical_declares items x has =
-    let z = kept_from (λ (y : Item Pattern). lexical_of y.form) items x has in
-    flat_map_contains (λ (y : Item Pattern). form_declarations y.form) items z.0 (d.Symbol x.name (role_sort x.role)) z.1
-    (from z.0.form z.2) where
-      from : (form : ItemForm Pattern) → lexical_of form ≡ Some x → Contains (form_declarations form) (d.Symbol x.name (role_sort x.role))
-      from (f.Lexical is name pattern) e =
-          let same : (record { role = is; name = name; pattern = pattern }) ≡ x =
-          same_Some (record { role = is; name = name; pattern = pattern }) x e in
-          subst (λ (y : LexicalDeclaration). Contains (form_declarations (f.Lexical is name pattern)) (d.Symbol y.name (role_sort y.role)))
-          same (contains_first (d.Symbol name (role_sort is)) [])
-      from (f.Plain plain) e = absurd (cc e)
-      from (f.Production written production) e = absurd (cc e)
-      from (f.Aspect name equations) e = absurd (cc e)
-
--- layout alone is declared as layout
-layout_role : (is : Role) → terminal_kind is ≡ Ignore → role_sort is ≡ sort.Layout
-layout_role role.Terminal e = absurd (cc e)
-layout_role role.Ignore e = refl
-layout_role role.Marking e = absurd (cc e)
 
 module _ (host r : ResolvedParts) (spec : SpecView) (names : ResolvesExtension host spec r) (host_whole : IsResolved host)
     (whole : IsResolved r) (h g : GrammarView) (host_start : host.grammar ≡ Some h) (start : r.grammar ≡ Some g)
     (alone : host.attributes.extensions ≡ []) where
-  -- an extension declares no layout
-  no_layout : (x : LexicalDeclaration) → Contains (lexicals spec.items) x → terminal_kind x.role ≢ Ignore
-  no_layout x has e = names.names.owned (λ z. omega (arith, z)) x.name
-      (orphan.layout (subst (λ s. Contains (item_declarations spec.items) (d.Symbol x.name s)) (layout_role x.role e)
-      (lexical_declares spec.items x has)))
-
-  -- the host's terminals lead and so do the extension's; the host's layout doesn't
+  -- the host's terminals lead, and its layout doesn't
   layout_stretch : IsStretch IsScanned h.terminals (length host.terminals - h.terminals) (sources host.terminals (lexicals spec.items))
-  layout_stretch = record { before = before; within = within; after = after }
+  layout_stretch = record { before = before; within = within }
     where
       own_len : h.terminals ≤ length host.terminals
       own_len = (k.own host r spec names host_whole whole h g host_start start).terminals_len
@@ -101,22 +65,13 @@ module _ (host r : ResolvedParts) (spec : SpecView) (names : ResolvesExtension h
               omega (arith, less, low)
           by (new {x = y} j e there) scanned = let le = own_len in omega (arith, e, high, le)
 
-      after : (i : ℕ) (x : Terminal ⊎ LexicalDeclaration) → h.terminals + (length host.terminals - h.terminals) ≤ i
-          → slice_get (sources host.terminals (lexicals spec.items)) i ≡ Some x → IsScanned x
-      after i x high at = by (at_source host.terminals (lexicals spec.items) i x at)
-        where
-          by : {z : Terminal ⊎ LexicalDeclaration} → IsAtSource host.terminals (lexicals spec.items) i z → IsScanned z
-          by (old {x = y} there) =
-              let less = slice_get_within host.terminals i y there in let le = own_len in absurd (omega (arith, less, high, le))
-          by (new {x = y} j e there) = no_layout y (contains_at (lexicals spec.items) y j there)
-
-  -- how many follow: the host's layouts
-  following_len : length names.value.terminals.following ≡ length host.terminals - h.terminals
-  following_len =
+  -- the host's layouts follow, or more
+  following_least : length host.terminals - h.terminals ≤ length names.value.terminals.following
+  following_least =
       let le = (k.own host r spec names host_whole whole h g host_start start).terminals_len in
       let all = length-append (map left_of host.terminals) (map right_of (lexicals spec.items)) in
       let counted = length-map host.terminals left_of in
-      follow_count IsScanned h.terminals (length host.terminals - h.terminals) (sources host.terminals (lexicals spec.items))
+      follow_least IsScanned h.terminals (length host.terminals - h.terminals) (sources host.terminals (lexicals spec.items))
       names.value.terminals.leading names.value.terminals.following names.value.terminals.splits layout_stretch
       (omega (arith, le, all, counted))
     where
@@ -126,9 +81,9 @@ module _ (host r : ResolvedParts) (spec : SpecView) (names : ResolvesExtension h
       right_of : LexicalDeclaration → Terminal ⊎ LexicalDeclaration
       right_of x = inr x
 
-  -- so there are as many rows as the host has, and those that are added
-  pub rows_len : length r.terminals ≡ length host.terminals + (g.terminals - h.terminals)
-  rows_len =
+  -- so there are no fewer rows than the host has, with the terminals that are added
+  pub rows_least : length host.terminals + (g.terminals - h.terminals) ≤ length r.terminals
+  rows_least =
       let le = (k.own host r spec names host_whole whole h g host_start start).terminals_len in
       let more = k.more_terminals host r spec names host_whole whole h g host_start start in
       let counted = (k.grammar_row host r spec names host_whole whole h g host_start start).terminals_are in
@@ -136,7 +91,7 @@ module _ (host r : ResolvedParts) (spec : SpecView) (names : ResolvesExtension h
       (IsTerminalRow (numbering_of r) 1 spec.items)) (names.value.terminals.leading ++ names.value.terminals.following) r.terminals
       names.value.terminals.are_rows in
       let joined = length-append names.value.terminals.leading names.value.terminals.following in
-      let after = following_len in
+      let after = following_least in
       omega (arith, le, more, counted, rows, joined, after)
 
   -- the number of a host's row
@@ -188,43 +143,141 @@ module _ (host r : ResolvedParts) (spec : SpecView) (names : ResolvesExtension h
           (append_after names.value.terminals.leading names.value.terminals.following (t - h.terminals) ∙ followed) in
           record { row = found.other; there = ap (slice_get r.terminals) place ∙ found.there; moved = found.related }
 
-  -- a row that isn't between the host's terminals and its layout is one of the host
-  pub row_down : (t : ℕ) (row : Terminal) → slice_get r.terminals t ≡ Some row → ¬ ((h.terminals ≤ t) × (t < g.terminals)) →
-      (u : ℕ) × (was : Terminal) × (slice_get host.terminals u ≡ Some was) × (t ≡ up u) × IsMovedTerminal (k.move host r spec names
-      host_whole whole h g host_start start) was row
+  -- a place that isn't the host's: between its terminals and its layout, or past its layout
+  abbrev pub IsOwnPlace : ℕ → Type 0
+  IsOwnPlace t = ((h.terminals ≤ t) × (t < g.terminals)) ⊎ (length host.terminals + (g.terminals - h.terminals) ≤ t)
+
+  pub own_decided : (t : ℕ) → IsOwnPlace t ⊎ (¬ IsOwnPlace t)
+  own_decided t = elim (cases_lt t (length host.terminals + (g.terminals - h.terminals))) [
+    | inl within ↦ elim (cases_lt t h.terminals) [
+      | inl low ↦ inr (λ is. elim is [
+        | inl between ↦ (let a = between.0 in omega (arith, low, a))
+        | inr past ↦ omega (arith, within, past)
+      ])
+      | inr high ↦ elim (cases_lt t g.terminals) [
+        | inl less ↦ inl (inl (high, less))
+        | inr over ↦ inr (λ is. elim is [
+          | inl between ↦ (let a = between.1 in omega (arith, over, a))
+          | inr past ↦ omega (arith, within, past)
+        ])
+      ]
+    ]
+    | inr past ↦ inl (inr past)
+  ]
+
+  -- a row that was the host's, at its place
+  pub record HostRow (t : ℕ) (row : Terminal) : Type 0 where
+    pub number : ℕ
+    pub was : Terminal
+    pub there : slice_get host.terminals number ≡ Some was
+    pub place : t ≡ up number
+    pub moved : IsMovedTerminal (k.move host r spec names host_whole whole h g host_start start) was row
+
+  -- a row at a place of the host is one of the host
+  pub row_down : (t : ℕ) (row : Terminal) → slice_get r.terminals t ≡ Some row → ¬ IsOwnPlace t → HostRow t row
   row_down t row at other = elim (cases_lt t h.terminals) [
     | inl low ↦ (let le = (k.own host r spec names host_whole whole h g host_start start).terminals_len in
         by t (omega (arith, low, le)) (sym (up_below t low)))
     | inr high ↦ elim (cases_lt t g.terminals) [
-      | inl less ↦ absurd (other (high, less))
-      | inr over ↦
-          let more = k.more_terminals host r spec names host_whole whole h g host_start start in
-          let long = rows_len in
-          let within = slice_get_within r.terminals t row at in
-          let far = up_past (t - (g.terminals - h.terminals)) (omega (arith, over, more)) in
-          by (t - (g.terminals - h.terminals)) (omega (arith, long, within, over, more, high)) (omega (arith, far, over, more))
+      | inl less ↦ absurd (other (inl (high, less)))
+      | inr over ↦ elim (cases_lt t (length host.terminals + (g.terminals - h.terminals))) [
+        | inl within ↦
+            let more = k.more_terminals host r spec names host_whole whole h g host_start start in
+            let far = up_past (t - (g.terminals - h.terminals)) (omega (arith, over, more)) in
+            by (t - (g.terminals - h.terminals)) (omega (arith, within, over, more, high)) (omega (arith, far, over, more))
+        | inr past ↦ absurd (other (inr past))
+      ]
     ]
   ]
     where
-      by : (u : ℕ) → u < length host.terminals → t ≡ up u → (v : ℕ) × (was : Terminal) × (slice_get host.terminals v ≡ Some was)
-          × (t ≡ up v) × IsMovedTerminal (k.move host r spec names host_whole whole h g host_start start) was row
+      by : (u : ℕ) → u < length host.terminals → t ≡ up u → HostRow t row
       by u less e =
           let (was, there) = at_within host.terminals u less in
-          let x = row_up u was there in (
-            u,
-            was,
-            there,
-            e,
-            subst (IsMovedTerminal (k.move host r spec names host_whole whole h g host_start start) was)
-                (at_once r.terminals (up u) x.row row x.there (ap (slice_get r.terminals) (sym e) ∙ at)) x.moved,
-          )
+          let x = row_up u was there in
+          record {
+            number = u;
+            was = was;
+            there = there;
+            place = e;
+            moved = subst (IsMovedTerminal (k.move host r spec names host_whole whole h g host_start start) was)
+                (at_once r.terminals (up u) x.row row x.there (ap (slice_get r.terminals) (sym e) ∙ at)) x.moved;
+          }
 
-  -- the rows of the host are the host's, and the others are the extension's
-  pub host_owner : (t : ℕ) (row : Terminal) → slice_get r.terminals t ≡ Some row → ¬ ((h.terminals ≤ t) × (t < g.terminals)) →
-      row.owner ≡ 0
+  -- the rows of the host are the host's
+  pub host_owner : (t : ℕ) (row : Terminal) → slice_get r.terminals t ≡ Some row → ¬ IsOwnPlace t → row.owner ≡ 0
   host_owner t row at other =
-      let (u, was, there, e, moved) = row_down t row at other in
-      moved.owner ∙ (hosts host host_whole alone).terminals was (contains_at host.terminals was u there)
+      let x = row_down t row at other in
+      x.moved.owner ∙ (hosts host host_whole alone).terminals x.was (contains_at host.terminals x.was x.number x.there)
+
+  abbrev entry : Terminal → Entry
+  entry t = (t.owner, t.name)
+
+  -- a row that comes from one of the host has its place, since names are once
+  row_place : (u t : ℕ) (was row : Terminal) → slice_get host.terminals u ≡ Some was → slice_get r.terminals t ≡ Some row →
+      IsMovedTerminal (k.move host r spec names host_whole whole h g host_start start) was row → t ≡ up u
+  row_place u t was row there at moved =
+      let x = row_up u was there in
+      let owner_is = x.moved.owner ∙ sym moved.owner in
+      let name_is = x.moved.name ∙ sym moved.name in
+      let same : entry x.row ≡ entry row = λ z. (owner_is z, name_is z) in
+      let here : slice_get (map entry r.terminals) (up u) ≡ Some (row.owner, row.name) =
+      map_at entry r.terminals (up u) x.row x.there ∙ ap Some same in
+      sym (differ_left (numbering_of r).terminals (symbol_names r.attributes) whole.once.symbols (up u) t row.owner row.owner row.name here
+      (map_at entry r.terminals t row at) (inr refl))
+
+  -- each row is one of the host, or the extension's
+  pub row_origin : (t : ℕ) (row : Terminal) → slice_get r.terminals t ≡ Some row → HostRow t row ⊎ (row.owner ≡ 1)
+  row_origin t row at =
+      let x = both_at IsScanned (IsFrom (IsMovedTerminal (k.move host r spec names host_whole whole h g host_start start))
+      (IsTerminalRow (numbering_of r) 1 spec.items)) (sources host.terminals (lexicals spec.items)) r.terminals names.value.terminals t row
+      at in
+      let listed = contains_split IsScanned (sources host.terminals (lexicals spec.items)) names.value.terminals.leading
+      names.value.terminals.following names.value.terminals.splits x.source
+      (contains_at (names.value.terminals.leading ++ names.value.terminals.following) x.source t x.at) in
+      let (j, place) = place_of (sources host.terminals (lexicals spec.items)) x.source listed in
+      by j (at_source host.terminals (lexicals spec.items) j x.source place) x.is_row
+    where
+      by : (j : ℕ) {z : Terminal ⊎ LexicalDeclaration} → IsAtSource host.terminals (lexicals spec.items) j z →
+          IsFrom (IsMovedTerminal (k.move host r spec names host_whole whole h g host_start start))
+          (IsTerminalRow (numbering_of r) 1 spec.items) z row → HostRow t row ⊎ (row.owner ≡ 1)
+      by j (old {x = was} there) moved = inl (record {
+        number = j;
+        was = was;
+        there = there;
+        place = row_place j t was row there at moved;
+        moved = moved;
+      })
+      by j (new {x = y} i e there) is_row = inr is_row.owner_is
+
+  -- no place of the host's rows is the extension's own
+  pub not_own_place : (u t : ℕ) → u < length host.terminals → t ≡ up u → ¬ IsOwnPlace t
+  not_own_place u t less e is = elim (cases_lt u h.terminals) [
+    | inl low ↦
+        let below = up_below u low in
+        let le = (k.own host r spec names host_whole whole h g host_start start).terminals_len in
+        elim is [
+          | inl between ↦ (let a = between.0 in omega (arith, e, below, low, a))
+          | inr past ↦ omega (arith, e, below, low, le, past)
+        ]
+    | inr high ↦
+        let far = up_past u high in
+        let more = k.more_terminals host r spec names host_whole whole h g host_start start in
+        elim is [
+          | inl between ↦ (let a = between.1 in omega (arith, e, far, high, more, a))
+          | inr past ↦ omega (arith, e, far, less, past)
+        ]
+  ]
+
+  -- and the others are the extension's
+  pub own_owner : (t : ℕ) (row : Terminal) → slice_get r.terminals t ≡ Some row → IsOwnPlace t → row.owner ≡ 1
+  own_owner t row at is = elim (row_origin t row at) [
+    | inl x ↦ absurd (not_own_place x.number t (slice_get_within host.terminals x.number x.was x.there) x.place is)
+    | inr one ↦ one
+  ]
+
+  -- so a row of owner 0 is at a place of the host
+  pub host_place : (t : ℕ) (row : Terminal) → slice_get r.terminals t ≡ Some row → row.owner ≡ 0 → ¬ IsOwnPlace t
+  host_place t row at zero_is is = let one = own_owner t row at is in omega (arith, zero_is, one)
 
   -- no symbol that the extension declares has the name of a terminal or layout of the host
   pub names_apart : (u : ℕ) (was : Terminal) → slice_get host.terminals u ≡ Some was → (is : Sort) →

@@ -8,7 +8,7 @@ use Rattle.wb_compose_theory_grammar.specs.Numberings.{phi_of, up_of}
 use Rattle.wb_determinism.specs.declared.numbers.Numbers.{Numbers}
 use Rattle.wb_determinism.specs.Extensions.{numbers_of}
 use Rattle.wb_determinism_contexts.specs.Considered.{LexiconView}
-use Rattle.wb_determinism_host.specs.Lexicons.{lexicon_of}
+use Rattle.wb_determinism_host.specs.Lexicons.{lexicon_beside}
 use Rattle.wb_determinism_kernels.specs.declared.numbers.Numbers as moved
 use Rattle.wb_determinism_theory.specs.Beside.{IsBeside}
 use Rattle.wb_determinism_theory.specs.Lexicons.{AreMarkersTold, ExtendsLexicon}
@@ -21,8 +21,8 @@ use Rattle.wb_determinism_beside.specs.Pieces.{piece_in}
 -- what is scanned of the host is `scanned`: what is scanned with the extension is that and what the extension adds, and each marker that
 -- shares a text with something beside it is ordered against that by a preference
 pub record AreScannedBeside (r : ResolvedParts) (g own : GrammarView) (scanned : LexiconView) : Type 0 where
-  pub extends : ExtendsLexicon scanned (lexicon_of r g) (up_of own g) (phi_of r.extensible (piece_in r g))
-  pub told : AreMarkersTold scanned (lexicon_of r g) (up_of own g) (phi_of r.extensible (piece_in r g))
+  pub extends : ExtendsLexicon scanned (lexicon_beside r g (length own.productions)) (up_of own g) (phi_of r.extensible (piece_in r g))
+  pub told : AreMarkersTold scanned (lexicon_beside r g (length own.productions)) (up_of own g) (phi_of r.extensible (piece_in r g))
 
 -- the numbers of a host's grammar and of that of the host with an extension, both with holes
 abbrev pub numbers_beside : List ℕ → GrammarView → GrammarView → Numbers

@@ -14,10 +14,10 @@ mod foreign;
 mod found;
 mod images;
 mod laws;
-mod layout;
 mod numbered;
 mod rows;
 mod valid;
 
 pub use deterministic::is_deterministic_beside;
 pub use laws::{given_law, pieces_law, scanned_law};
+pub use wb_determinism::{extension_determinism, extension_refusals_law, judge_extension};

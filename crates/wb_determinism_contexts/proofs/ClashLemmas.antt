@@ -47,7 +47,9 @@ pub same_considered : (kernels : KernelsView) (lexicon : LexiconView) (prefix ot
     → IsConsideredAt kernels.grammar lexicon other t
 same_considered kernels lexicon prefix other exact same t (inl (below, valid)) =
     inl (below, (same_valid kernels.grammar exact.live prefix other same t).0 valid)
-same_considered kernels lexicon prefix other exact same t (inr has) = inr has
+same_considered kernels lexicon prefix other exact same t (inr (inl has)) = inr (inl has)
+same_considered kernels lexicon prefix other exact same t (inr (inr (has, (i, holds, from, to)))) =
+    inr (inr (has, (i, (same i).0 holds, from, to)))
 
 -- sets without a clash are those of a grammar without one
 pub no_clash_shown : (kernels : KernelsView) (lexicon : LexiconView) (sets : List (List Bool)) → AreKernels kernels

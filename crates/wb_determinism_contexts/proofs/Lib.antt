@@ -1,3 +1,4 @@
 mod ClashLemmas
 pub mod ConflictLemmas
+pub mod OrderLemmas
 mod SetLemmas

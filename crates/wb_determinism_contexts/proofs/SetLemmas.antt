@@ -5,36 +5,81 @@ use Rattle.std.proofs.Common.{length-append}
 use Rattle.std.specs.Prelude.{◌↔◌, ◌⊎◌, slice_set}
 use Rattle.std.proofs.lemmas.Bool.{cases_lt}
 use Rattle.wb_lemmas.proofs.Places.{at_push}
-use Rattle.wb_termset.specs.Sets.{IsMember, IsNextMember, HasNoneFrom}
-use Rattle.wb_termset.proofs.CallerLemmas.{IsMember-insert, IsMember-insert_same, IsSubset-insert}
-use Rattle.wb_items.specs.Kernels.{KernelsView, prefix_of}
+use Rattle.wb_termset.specs.Sets.{IsEmpty, IsMember, IsNextMember, HasNoneFrom}
+use Rattle.wb_termset.proofs.CallerLemmas.{has_below, IsMember-insert, IsMember-insert_same, IsSubset-insert}
+use Rattle.wb_grammar_theory.specs.declared.item.Item.{Item}
+use Rattle.wb_items.specs.Kernels.{KernelsView, ListsKernel, prefix_of}
 use Rattle.wb_lookahead.specs.Tables.{IsValidSet}
 use Rattle.wb_determinism_contexts.specs.Considered.{LexiconView, IsConsideredAt}
 use Rattle.wb_determinism_contexts.specs.Sets.{IsConsideredSet, AreConsideredSets, FitsGrammar}
-
--- the members of a kernel's valid set below the scanned ones, and layout, are what is considered there
-pub considered_is : (kernels : KernelsView) (lexicon : LexiconView) (s : ℕ) (valid set : List Bool)
-    → FitsGrammar kernels.grammar.terminals lexicon → IsValidSet kernels s valid → length set ≡ length lexicon.layout
-    → ((t : ℕ) → IsMember set t ↔ (((t < lexicon.scanned) × IsMember valid t) ⊎ IsMember lexicon.layout t))
-    → IsConsideredSet kernels lexicon s set
-considered_is kernels lexicon s valid set fits is len each = record {
-  len = omega (arith, len, fits.layout);
-  each = λ t. (λ has. there t ((each t).0 has), λ has. (each t).1 (back t has));
-}
-  where
-    there : (t : ℕ) → ((t < lexicon.scanned) × IsMember valid t) ⊎ IsMember lexicon.layout t
-        → IsConsideredAt kernels.grammar lexicon (prefix_of kernels s) t
-    there t (inl (below, has)) = inl (below, (is.each t (omega (arith, below, fits.scanned))).0 has)
-    there t (inr has) = inr has
-
-    back : (t : ℕ) → IsConsideredAt kernels.grammar lexicon (prefix_of kernels s) t
-        → ((t < lexicon.scanned) × IsMember valid t) ⊎ IsMember lexicon.layout t
-    back t (inl (below, has)) = inl (below, (is.each t (omega (arith, below, fits.scanned))).1 has)
-    back t (inr has) = inr has
+use Rattle.wb_determinism_contexts.specs.Inner.Own.{IsConsideredBy, IsOwnBy, ListsFrom}
 
 -- the set has what it had, and the members of the other below a number
 abbrev pub HasAdded : List Bool → List Bool → ℕ → List Bool → Type 0
 HasAdded old other below new = (t : ℕ) → IsMember new t ↔ (((t < below) × IsMember other t) ⊎ IsMember old t)
+
+-- what is considered by a kernel's valid set and items is what is considered there
+pub considered_is : (kernels : KernelsView) (lexicon : LexiconView) (s : ℕ) (valid set : List Bool) (items : List Item)
+    → FitsGrammar kernels.grammar.terminals lexicon → IsValidSet kernels s valid → ListsKernel kernels.grammar (prefix_of kernels s) items
+    → length set ≡ length lexicon.layout → ((t : ℕ) → IsMember set t ↔ IsConsideredBy lexicon valid items t)
+    → IsConsideredSet kernels lexicon s set
+considered_is kernels lexicon s valid set items fits is lists len each = record {
+  len = omega (arith, len, fits.layout);
+  each = λ t. (λ has. there t ((each t).0 has), λ has. (each t).1 (back t has));
+}
+  where
+    there : (t : ℕ) → IsConsideredBy lexicon valid items t → IsConsideredAt kernels.grammar lexicon (prefix_of kernels s) t
+    there t (inl (below, has)) = inl (below, (is.each t (omega (arith, below, fits.scanned))).0 has)
+    there t (inr (inl has)) = inr (inl has)
+    there t (inr (inr (has, (k, i, within, at, both)))) = inr (inr (has, (i, (lists i).0 (k, within, at), both.0, both.1)))
+
+    back : (t : ℕ) → IsConsideredAt kernels.grammar lexicon (prefix_of kernels s) t → IsConsideredBy lexicon valid items t
+    back t (inl (below, has)) = inl (below, (is.each t (omega (arith, below, fits.scanned))).1 has)
+    back t (inr (inl has)) = inr (inl has)
+    back t (inr (inr (has, (i, holds, from, to)))) =
+        let (k, within, at) = (lists i).1 holds in inr (inr (has, (k, i, within, at, (from, to))))
+
+-- with the layout and the scanned members of the valid set, where there is no layout of an extension
+pub plain_set : (lexicon : LexiconView) (valid set : List Bool) (items : List Item) → IsEmpty lexicon.own_layout
+    → HasAdded lexicon.layout valid lexicon.scanned set → (t : ℕ) → IsMember set t ↔ IsConsideredBy lexicon valid items t
+plain_set lexicon valid set items empty added t = (λ has. there ((added t).0 has), λ is. (added t).1 (back is))
+  where
+    there : ((t < lexicon.scanned) × IsMember valid t) ⊎ IsMember lexicon.layout t → IsConsideredBy lexicon valid items t
+    there (inl has) = inl has
+    there (inr has) = inr (inl has)
+
+    back : IsConsideredBy lexicon valid items t → ((t < lexicon.scanned) × IsMember valid t) ⊎ IsMember lexicon.layout t
+    back (inl has) = inl has
+    back (inr (inl has)) = inr has
+    back (inr (inr (has, _))) = absurd (empty t has)
+
+-- with the layout of an extension besides
+pub whole_set : (lexicon : LexiconView) (valid old set : List Bool) (items : List Item) → HasAdded lexicon.layout valid lexicon.scanned old
+    → ((t : ℕ) → IsMember set t ↔ (IsOwnBy lexicon items t ⊎ IsMember old t)) → (t : ℕ)
+    → IsMember set t ↔ IsConsideredBy lexicon valid items t
+whole_set lexicon valid old set items added own t = (λ has. there ((own t).0 has), λ is. (own t).1 (back is))
+  where
+    there : IsOwnBy lexicon items t ⊎ IsMember old t → IsConsideredBy lexicon valid items t
+    there (inl is) = inr (inr is)
+    there (inr has) = elim ((added t).0 has) [ inl is ↦ inl is | inr is ↦ inr (inl is) ]
+
+    back : IsConsideredBy lexicon valid items t → IsOwnBy lexicon items t ⊎ IsMember old t
+    back (inl is) = inr ((added t).1 (inl is))
+    back (inr (inl is)) = inr ((added t).1 (inr is))
+    back (inr (inr is)) = inl is
+
+-- an extension's layout was added where an item of its productions is there
+pub own_added : (lexicon : LexiconView) (old set : List Bool) (items : List Item) → ListsFrom items lexicon.own_productions
+    → HasAdded old lexicon.own_layout (length lexicon.own_layout) set → (t : ℕ) → IsMember set t ↔ (IsOwnBy lexicon items t ⊎ IsMember old t)
+own_added lexicon old set items lists added t = (
+  λ has. elim ((added t).0 has) [ inl (_, is) ↦ inl (is, lists) | inr is ↦ inr is ],
+  λ either. (added t).1 (elim either [ inl (is, _) ↦ inl (has_below lexicon.own_layout t is, is) | inr is ↦ inr is ]),
+)
+
+-- and not where none is
+pub own_kept : (lexicon : LexiconView) (old : List Bool) (items : List Item) → (ListsFrom items lexicon.own_productions → ⊥) → (t : ℕ)
+    → IsMember old t ↔ (IsOwnBy lexicon items t ⊎ IsMember old t)
+own_kept lexicon old items not t = (λ has. inr has, λ either. elim either [ inl (_, lists) ↦ absurd (not lists) | inr has ↦ has ])
 
 -- nothing was added
 pub added_first : (old other : List Bool) → HasAdded old other 0 old

@@ -6,3 +6,5 @@ pub mod Considered
 pub mod Sets
 -- the kernels, lookaheads and tables of a grammar, and why it has none
 pub mod Parts
+-- what only proofs need
+pub mod Inner

@@ -7,8 +7,14 @@ use Rattle.wb_determinism_contexts.specs.Considered.{LexiconView, IsConsideredAt
 
 -- what a lexicon lends
 abbrev pub lent : Lexicon → LexiconView
-lent lexicon =
-    record { expressions = lexicon.expressions.now; scanned = lexicon.scanned; layout = lexicon.layout.now; preferences = lexicon.preferences.now }
+lent lexicon = record {
+  expressions = lexicon.expressions.now;
+  scanned = lexicon.scanned;
+  layout = lexicon.layout.now;
+  own_layout = lexicon.own_layout.now;
+  own_productions = lexicon.own_productions;
+  preferences = lexicon.preferences.now;
+}
 
 -- the set has room for the expressions, and its members are what is considered at the kernel
 pub record IsConsideredSet (kernels : KernelsView) (lexicon : LexiconView) (s : ℕ) (set : List Bool) : Type 0 where
@@ -25,3 +31,4 @@ pub record FitsGrammar (terminals : ℕ) (lexicon : LexiconView) : Type 0 where
   pub scanned : lexicon.scanned ≤ terminals
   pub expressions : lexicon.scanned ≤ length lexicon.expressions
   pub layout : length lexicon.layout ≡ length lexicon.expressions
+  pub own_layout : length lexicon.own_layout ≡ length lexicon.expressions

@@ -13,8 +13,12 @@ pub struct Lexicon<'a> {
     pub expressions: &'a [Regex],
     /// How many of the grammar's terminals there are here.
     pub scanned: usize,
-    /// Which numbers are layout; it has room for all.
+    /// Which numbers are layout that is considered at each kernel; it has room for all.
     pub layout: &'a TermSet,
+    /// Which are layout of an extension, considered where a kernel holds an item of one of its productions; it has room for all.
+    pub own_layout: &'a TermSet,
+    /// The extension's productions: from the first number to before the second.
+    pub own_productions: (usize, usize),
     /// The first of each pair is preferred to the second.
     pub preferences: &'a [(usize, usize)],
 }

@@ -1,5 +1,5 @@
 -- What is known of a host after each test.
-use Rattle.std.proofs.Common.{◌≡◌, ◌≤◌, ◌∙◌, ℕ, Some, IfSome, All, length, slice_get, refl, sym, subst, arith}
+use Rattle.std.proofs.Common.{◌≡◌, ◌≤◌, ◌∙◌, ℕ, Some, IfSome, All, length, map, slice_get, refl, sym, subst, arith}
 use Rattle.std.proofs.lemmas.List.{length-map}
 use Rattle.std.specs.Prelude.{Option, None, option_map}
 use Rattle.std.proofs.lemmas.Option.{slice_get_within, slice_get-map, same_Some}
@@ -16,7 +16,8 @@ use Rattle.wb_syntax_resolved.specs.Grammar.{IsGrammarOf}
 use Rattle.wb_syntax_resolved.specs.Resolved.{IsNamedPreference}
 use Rattle.wb_determinism_host.specs.Hosts.{IsSound, IsFitForParsing}
 use Rattle.wb_determinism_host.specs.HostGrammar.{HasGrammar}
-use Rattle.wb_determinism_host.specs.Lexicons.{is_layout, lexicon_of, preference_pairs}
+use Rattle.wb_determinism_host.specs.Inner.Lists.{everywhere, lexicon_in, own}
+use Rattle.wb_determinism_host.specs.Lexicons.{is_layout_of, preference_pairs}
 
 -- the facts of the grammar with holes say that it is fit
 pub fit_of : (r : ResolvedParts) (g holes : GrammarView) (facts : FactsView) → IsSound r g → holes ≡ with_holes_of g r.extensible
@@ -59,14 +60,18 @@ edges_below r named = all_from_places (IsEdgeBelow (length r.terminals)) (prefer
     place : (i : ℕ) (edge : ℕ × ℕ) → slice_get (preference_pairs r) i ≡ Some edge → IsEdgeBelow (length r.terminals) edge
     place i edge at = found i edge (slice_get r.preferences i) refl (sym (slice_get-map pair r.preferences i) ∙ at)
 
--- the lexicon of a resolved specification fits its grammar with holes
-pub lexicon_fits : (r : ResolvedParts) (g : GrammarView) → HasGrammar r g
-    → FitsGrammar (with_holes_of g r.extensible).terminals (lexicon_of r g)
-lexicon_fits r g has = record {
+-- what is scanned of a resolved specification fits its grammar with holes
+pub lexicon_fits : (r : ResolvedParts) (g : GrammarView) (first : Option ℕ) → HasGrammar r g
+    → FitsGrammar (with_holes_of g r.extensible).terminals (lexicon_in r g first)
+lexicon_fits r g first has = record {
   scanned = omega arith;
-  expressions = subst (λ (n : ℕ). g.terminals ≤ n) (sym (length-map r.terminals (λ (t : Terminal). t.pattern))) of.terminals_len;
-  layout = length-map r.terminals (λ (t : Terminal). is_layout t.kind) ∙ sym (length-map r.terminals (λ (t : Terminal). t.pattern));
+  expressions = subst (λ (n : ℕ). g.terminals ≤ n) (sym patterns) of.terminals_len;
+  layout = length-map r.terminals (is_layout_of (everywhere first)) ∙ sym patterns;
+  own_layout = length-map r.terminals (is_layout_of (own first)) ∙ sym patterns;
 }
   where
+    patterns : length (map (λ (t : Terminal). t.pattern) r.terminals) ≡ length r.terminals
+    patterns = length-map r.terminals (λ (t : Terminal). t.pattern)
+
     of : IsGrammarOf r g
     of = subst (λ o. IfSome o (IsGrammarOf r)) has.grammar has.resolved.numbered.grammar

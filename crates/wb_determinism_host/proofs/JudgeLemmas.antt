@@ -1,5 +1,5 @@
 -- What is known of a host that is judged, and when it passes.
-use Rattle.std.proofs.Common.{◌≡◌, ◌∙◌, Option, Some, None, IfSome}
+use Rattle.std.proofs.Common.{◌≡◌, ◌∙◌, ℕ, Option, Some, None, IfSome}
 use Rattle.wb_base.specs.Grammar.{GrammarView}
 use Rattle.wb_determinism_contexts.specs.Considered.{HasNoClashAt}
 use Rattle.wb_grammar_theory.specs.Lookaheads.{HasNoConflict}
@@ -10,10 +10,10 @@ use Rattle.wb_marking_holes.specs.Holes.{with_holes_of}
 use Rattle.wb_syntax_resolved.specs.declared.resolved.ResolvedParts.{ResolvedParts}
 use Rattle.wb_determinism_host.specs.declared.judge.Judged.{Judged}
 use Rattle.wb_determinism_host.specs.declared.parts.HostParts.{HostParts}
-use Rattle.wb_determinism_host.specs.Hosts.{AreHostParts, IsFitForParsing, IsDeterministicHost}
-use Rattle.wb_determinism_host.specs.Inner.Judging.{IsJudged}
+use Rattle.wb_determinism_host.specs.Hosts.{AreHostParts, IsFitForParsing, IsDeterministicBy}
+use Rattle.wb_determinism_host.specs.Inner.Judging.{IsJudged, judged_lexicon}
+use Rattle.wb_determinism_host.specs.Inner.Lists.{lexicon_in}
 use Rattle.wb_determinism_host.specs.Judged.{IsReadyToJudge}
-use Rattle.wb_determinism_host.specs.Lexicons.{lexicon_of}
 use Rattle.wb_determinism_host.proofs.HostLemmas.{fit_of}
 
 -- the facts say that the grammar with holes is fit
@@ -27,8 +27,8 @@ of_with_holes x is = is.ready.of_holes ∙ is.ready.holes_are
 
 -- a host without conflict and without clash is deterministic
 pub deterministic : (x : Judged) → IsJudged x → HasNoConflict (with_holes_of x.grammar.now x.resolved.now.extensible)
-    → HasNoClashAt (with_holes_of x.grammar.now x.resolved.now.extensible) (lexicon_of x.resolved.now x.grammar.now)
-    → IsDeterministicHost x.resolved.now x.grammar.now
+    → HasNoClashAt (with_holes_of x.grammar.now x.resolved.now.extensible) (judged_lexicon x)
+    → IsDeterministicBy x.resolved.now x.grammar.now (judged_lexicon x)
 deterministic x is clear apart = record { fit = fit_for_parsing x is; no_conflict = clear; no_clash = apart }
 
 -- the parts of a host
@@ -36,10 +36,11 @@ abbrev pub parts_of : GrammarView → KernelsView → LookaheadsView → HostPar
 parts_of grammar kernels lookaheads = record { grammar = grammar; kernels = kernels; lookaheads = lookaheads }
 
 -- they are the parts of a host that is judged and deterministic
-pub some_host : (r : ResolvedParts) (o : Option GrammarView) (grammar : GrammarView) (facts : FactsView) (kernels : KernelsView)
-    (lookaheads : LookaheadsView)
-    → IfSome o (λ g. IsReadyToJudge r g grammar facts kernels lookaheads) → AreKernels kernels → IfSome o (IsDeterministicHost r)
-    → IfSome o (λ g. IsDeterministicHost r g × AreHostParts r g (parts_of grammar kernels lookaheads))
-some_host r None grammar facts kernels lookaheads ready exact is = tt
-some_host r (Some g) grammar facts kernels lookaheads ready exact is =
+pub some_host : (r : ResolvedParts) (o : Option GrammarView) (first : Option ℕ) (grammar : GrammarView) (facts : FactsView)
+    (kernels : KernelsView) (lookaheads : LookaheadsView)
+    → IfSome o (λ g. IsReadyToJudge r g grammar facts kernels lookaheads) → AreKernels kernels
+    → IfSome o (λ g. IsDeterministicBy r g (lexicon_in r g first))
+    → IfSome o (λ g. IsDeterministicBy r g (lexicon_in r g first) × AreHostParts r g (parts_of grammar kernels lookaheads))
+some_host r None first grammar facts kernels lookaheads ready exact is = tt
+some_host r (Some g) first grammar facts kernels lookaheads ready exact is =
     (is, record { grammar = ready.holes_are; of_grammar = ready.of_holes; kernels = exact; lookaheads = ready.lookaheads_are })

@@ -1,4 +1,5 @@
 mod FlagLemmas
 pub mod HostLemmas
 mod JudgeLemmas
+pub mod LayoutLemmas
 pub mod RefusalLemmas

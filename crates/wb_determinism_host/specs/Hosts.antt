@@ -1,7 +1,7 @@
 -- Hosts that are deterministic for all extensions that may come, and what is kept of them.
 use Rattle.std.specs.Prelude.{◌≡◌, ℕ, List}
 use Rattle.wb_base.specs.Grammar.{GrammarView}
-use Rattle.wb_determinism_contexts.specs.Considered.{HasNoClashAt}
+use Rattle.wb_determinism_contexts.specs.Considered.{HasNoClashAt, LexiconView}
 use Rattle.wb_grammar_theory.specs.Cycles.{HasNoUnitCycle, HasNoHiddenLeftRecursion}
 use Rattle.wb_grammar_theory.specs.Lookaheads.{HasNoConflict}
 use Rattle.wb_grammar_theory.specs.Shape.{IsReduced}
@@ -28,12 +28,16 @@ pub record IsFitForParsing (r : ResolvedParts) (g : GrammarView) : Type 0 where
   pub no_unit_cycle : HasNoUnitCycle (with_holes_of g r.extensible)
   pub no_hidden_left_recursion : HasNoHiddenLeftRecursion (with_holes_of g r.extensible)
 
--- a host with this grammar is deterministic: preferences are acyclic, the grammar is reduced, and with holes it has no unit cycle, no
--- hidden left recursion, no conflict, and at no prefix two terminals or layouts that match one text with no preference between them
-pub record IsDeterministicHost (r : ResolvedParts) (g : GrammarView) : Type 0 where
+-- deterministic by what is scanned: preferences are acyclic, the grammar is reduced, and with holes it has no unit cycle, no hidden left
+-- recursion, no conflict, and at no prefix two terminals or layouts that match one text with no preference between them
+pub record IsDeterministicBy (r : ResolvedParts) (g : GrammarView) (lexicon : LexiconView) : Type 0 where
   pub fit : IsFitForParsing r g
   pub no_conflict : HasNoConflict (with_holes_of g r.extensible)
-  pub no_clash : HasNoClashAt (with_holes_of g r.extensible) (lexicon_of r g)
+  pub no_clash : HasNoClashAt (with_holes_of g r.extensible) lexicon
+
+-- a host with this grammar is deterministic
+abbrev pub IsDeterministicHost : ResolvedParts → GrammarView → Type 0
+IsDeterministicHost r g = IsDeterministicBy r g (lexicon_of r g)
 
 -- the parts are those of the grammar with holes
 pub record AreHostParts (r : ResolvedParts) (g : GrammarView) (parts : HostParts) : Type 0 where

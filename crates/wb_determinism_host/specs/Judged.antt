@@ -1,5 +1,5 @@
 -- A host that passes every test before the conflict, with what is found of it by then.
-use Rattle.std.specs.Prelude.{◌≡◌, List}
+use Rattle.std.specs.Prelude.{◌≡◌}
 use Rattle.wb_base.specs.Grammar.{GrammarView}
 use Rattle.wb_grammar.specs.Facts.{FactsView, AreFacts}
 use Rattle.wb_items.specs.Lookaheads.{LookaheadsView}

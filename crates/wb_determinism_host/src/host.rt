@@ -63,6 +63,7 @@ pub fn analysed_host(alloc: Global, resolved: &Resolved) -> Result<AnalysedHost,
     requires { IsSome resolved.now.grammar }
     ensures ok { IfOk result (λ host. IfSome resolved.now.grammar (λ g. IsReadyToJudge resolved.now g host.grammar host.facts host.kernels host.lookaheads)) }
     ensures refused { IfErr result (λ refusal. IfSome resolved.now.grammar (λ g. IsHostRefusal resolved.now g refusal)) }
+    ensures early { IfErr result IsBeforeConflict }
 {
     match &resolved.parts().grammar {
         Some(grammar) => with_grammar(alloc, &Host { resolved, grammar }),
@@ -106,6 +107,7 @@ fn with_grammar(alloc: Global, host: &Host) -> Result<AnalysedHost, DeterminismR
     requires { HasGrammar host.now.resolved.now host.now.grammar.now }
     ensures ok { IfOk result (λ made. IsReadyToJudge host.now.resolved.now host.now.grammar.now made.grammar made.facts made.kernels made.lookaheads) }
     ensures refused { IfErr result (IsHostRefusal host.now.resolved.now host.now.grammar.now) }
+    ensures early { IfErr result IsBeforeConflict }
 {
     let HostFacts { grammar, facts } = facts_of(alloc, host)?;
     match kernels_and_lookaheads(alloc, &grammar, &facts) {

@@ -12,8 +12,8 @@ mod parts;
 mod refusal;
 
 pub use host::{AnalysedHost, HostFacts, analysed_host, host_determinism, host_facts};
-pub use judge::judge_host;
+pub use judge::{judge_beside, judge_host};
 pub use laws::{host_refusals_law, host_tables_law};
-pub use lexicon::{expressions_of, pairs_of};
+pub use lexicon::{LayoutOwner, expressions_of, layout_of, pairs_of};
 pub use parts::HostParts;
 pub use refusal::{DeterminismRefusal, EnvelopeFault};

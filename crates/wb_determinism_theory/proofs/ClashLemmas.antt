@@ -3,12 +3,13 @@ use Rattle.std.proofs.Common.{◌≡◌, ◌⊎◌, List, ap, inl, inr, refl, su
 use Rattle.std.specs.Prelude.{IsTrue}
 use Rattle.wb_base.specs.declared.symbol.Symbol.{Symbol}
 use Rattle.wb_base.specs.declared.symbol.Symbol.TheVariants.{Terminal}
+use Rattle.wb_compose_theory.proofs.StepLemmas.{item_source}
 use Rattle.wb_compose_theory.proofs.TerminalLemmas.{valid_named}
 use Rattle.wb_compose_theory.specs.Items.{SameKernelIn}
 use Rattle.wb_compose_theory.specs.Lookaheads.{IsValidTerminalIn}
 use Rattle.wb_compose_theory.specs.Worlds.{Has, IsSymbolIn, Mark, Owner, World, bare, both, extension, hole, host, on, plus, top}
-use Rattle.wb_determinism_theory.specs.Known.{IsMarkerOf, KeepsAt}
-use Rattle.wb_determinism_theory.specs.Laws.{AreMarkersClear, HasNoClashIn, IsConsideredIn, IsPrepared, Lexicon}
+use Rattle.wb_determinism_theory.specs.Known.{IsMarkerOf, IsSourced, KeepsAt}
+use Rattle.wb_determinism_theory.specs.Laws.{AreMarkersClear, HasNoClashIn, HoldsItemIn, IsConsideredIn, IsPrepared, Lexicon}
 use Rattle.wb_determinism_theory.proofs.ActionLemmas.{bare_known}
 
 -- what is considered with the extension: what is considered without it, or a marker
@@ -19,8 +20,17 @@ data Seen (w : World) (e : ℕ) (l : Lexicon) (other : List Symbol) (t : ℕ) : 
 
 module _ {w : World} {e : ℕ} (ready : IsPrepared w e) (l : Lexicon) (clear : AreMarkersClear w e l) (other prefix : List Symbol)
     (same : SameKernelIn w plus other (both e) prefix) (keeps : KeepsAt w e other prefix) where
-  seen : (t : ℕ) → IsConsideredIn w (both e) l prefix t → Seen w e l other t
-  seen t (inr skipped) = layout skipped
+  -- the kernel holds no item of the extension
+  none_held : HoldsItemIn w e (both e) prefix → ⊥
+  none_held (i, held, owner) = by (item_source ((same i).1 held).0.1)
+    where
+      by : IsSourced w plus i.production → ⊥
+      by (inl is) = absurd (cc (sym owner ∙ ap w.production_owner is ∙ ready.is_marked.start.top_owner))
+      by (inr rule) = subst (Has plus) owner rule
+
+  seen : (t : ℕ) → IsConsideredIn w e (both e) l prefix t → Seen w e l other t
+  seen t (inr (inl skipped)) = layout skipped
+  seen t (inr (inr (skipped, held))) = absurd (none_held held)
   seen t (inl (scanned, x)) = go (w.mark t) refl (w.symbol_owner (Terminal t)) refl (valid_named ready.is_marked prefix t x)
     where
       when_bare : w.mark t ≡ bare → Seen w e l other t
@@ -45,13 +55,13 @@ module _ {w : World} {e : ℕ} (ready : IsPrepared w e) (l : Lexicon) (clear : A
   beside t (marker m) = inr (inr m)
 
   -- no two clash
-  pub no_clash_known : HasNoClashIn w plus l other → HasNoClashIn w (both e) l prefix
+  pub no_clash_known : HasNoClashIn w e plus l other → HasNoClashIn w e (both e) l prefix
   no_clash_known none t u x y = go (seen t x) (seen u y)
     where
       go : Seen w e l other t → Seen w e l other u → ¬ IsTrue (l.clash t u)
       go (marker m) s = clear.left t u m (beside u s)
       go s (marker m) = clear.right u t m (beside t s)
-      go (layout a) (layout b) = none t u (inr a) (inr b)
-      go (layout a) (of_host sb nb vb) = none t u (inr a) (inl (sb, vb))
-      go (of_host sa na va) (layout b) = none t u (inl (sa, va)) (inr b)
+      go (layout a) (layout b) = none t u (inr (inl a)) (inr (inl b))
+      go (layout a) (of_host sb nb vb) = none t u (inr (inl a)) (inl (sb, vb))
+      go (of_host sa na va) (layout b) = none t u (inl (sa, va)) (inr (inl b))
       go (of_host sa na va) (of_host sb nb vb) = none t u (inl (sa, va)) (inl (sb, vb))

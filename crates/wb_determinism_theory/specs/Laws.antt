@@ -4,10 +4,10 @@ use Rattle.wb_base.specs.declared.symbol.Symbol.{Symbol}
 use Rattle.wb_base.specs.declared.symbol.Symbol.TheVariants.{Terminal, Nonterminal}
 use Rattle.wb_grammar_theory.specs.declared.item.Item.{Item}
 use Rattle.wb_grammar_theory.specs.Items.{advance, initial_item}
-use Rattle.wb_compose_theory.specs.Worlds.{World, Part, bare, plus, both, IsProductionIn, IsSymbolIn}
+use Rattle.wb_compose_theory.specs.Worlds.{World, Part, bare, plus, both, extension, IsProductionIn, IsSymbolIn}
 use Rattle.wb_compose_theory.specs.Marks.{IsMarked, phi}
 use Rattle.wb_compose_theory.specs.Derives.{AreProductiveIn, IsFirstIn}
-use Rattle.wb_compose_theory.specs.Items.{HasItemIn, SameKernelIn, after_dot_in}
+use Rattle.wb_compose_theory.specs.Items.{HasItemIn, IsKernelItemIn, SameKernelIn, after_dot_in}
 use Rattle.wb_compose_theory.specs.Lookaheads.{HasConflictIn, HasNoConflictIn, IsLookaheadIn, IsValidTerminalIn}
 use Rattle.wb_determinism_theory.specs.Known.{IsKnownItem, IsKnownLookahead, IsMarkerOf}
 
@@ -40,20 +40,27 @@ pub record IsKept (w : World) (e : ℕ) (other prefix : List Symbol) : Type 0 wh
   pub unmarked : (t : ℕ) → w.mark t ≡ bare → IsValidTerminalIn w (both e) prefix t →
       IsSymbolIn w plus (Terminal t) × IsValidTerminalIn w plus other t
 
--- what is scanned, what is layout, and which two terminals match one text with no preference between them
+-- what is scanned, what is layout, what is layout of the extension, and which two terminals match one text with no preference between them
 pub record Lexicon : Type 0 where
   pub scanned : ℕ → Bool
   pub layout : ℕ → Bool
+  pub own_layout : ℕ → Bool
   pub clash : ℕ → ℕ → Bool
 
--- the terminal is considered at the prefix: it is scanned and valid there, or it is layout
-abbrev pub IsConsideredIn : World → Part → Lexicon → List Symbol → ℕ → Type 0
-IsConsideredIn w part l prefix t = (IsTrue (l.scanned t) × IsValidTerminalIn w part prefix t) ⊎ IsTrue (l.layout t)
+-- the kernel of the prefix holds an item of the extension
+abbrev pub HoldsItemIn : World → ℕ → Part → List Symbol → Type 0
+HoldsItemIn w e part prefix = (i : Item) × IsKernelItemIn w part prefix i × (w.production_owner i.production ≡ extension e)
+
+-- the terminal is considered at the prefix: it is scanned and valid there, or layout, or layout of the extension of which the kernel holds
+-- an item
+abbrev pub IsConsideredIn : World → ℕ → Part → Lexicon → List Symbol → ℕ → Type 0
+IsConsideredIn w e part l prefix t =
+    (IsTrue (l.scanned t) × IsValidTerminalIn w part prefix t) ⊎ (IsTrue (l.layout t) ⊎ (IsTrue (l.own_layout t) × HoldsItemIn w e part prefix))
 
 -- no two terminals that are considered at the prefix clash
-abbrev pub HasNoClashIn : World → Part → Lexicon → List Symbol → Type 0
-HasNoClashIn w part l prefix =
-    (t u : ℕ) → IsConsideredIn w part l prefix t → IsConsideredIn w part l prefix u → ¬ IsTrue (l.clash t u)
+abbrev pub HasNoClashIn : World → ℕ → Part → Lexicon → List Symbol → Type 0
+HasNoClashIn w e part l prefix =
+    (t u : ℕ) → IsConsideredIn w e part l prefix t → IsConsideredIn w e part l prefix u → ¬ IsTrue (l.clash t u)
 
 -- no marker of the extension clashes with a terminal of the host, layout or another marker of it; and no hole is scanned
 pub record AreMarkersClear (w : World) (e : ℕ) (l : Lexicon) : Type 0 where

@@ -41,7 +41,7 @@ pub fn known_law()
 pub fn kept_law()
     ensures rule { (w : World) (e : ℕ) → IsPrepared w e → KeepsLookaheadsIn w e → (other prefix : List Symbol) → SameKernelIn w plus other (both e) prefix → KeepsAt w e other prefix }
     ensures kept { (w : World) (e : ℕ) → IsPrepared w e → (other prefix : List Symbol) → SameKernelIn w plus other (both e) prefix → KeepsAt w e other prefix → IsKept w e other prefix }
-    ensures clash { (w : World) (e : ℕ) → IsPrepared w e → (l : Lexicon) → AreMarkersClear w e l → (other prefix : List Symbol) → SameKernelIn w plus other (both e) prefix → KeepsAt w e other prefix → HasNoClashIn w plus l other → HasNoClashIn w (both e) l prefix }
+    ensures clash { (w : World) (e : ℕ) → IsPrepared w e → (l : Lexicon) → AreMarkersClear w e l → (other prefix : List Symbol) → SameKernelIn w plus other (both e) prefix → KeepsAt w e other prefix → HasNoClashIn w e plus l other → HasNoClashIn w e (both e) l prefix }
 {}
 
 /// Each prefix of the host with holes has the same kernel with the extension; each other prefix goes through a marker; the kernel after a

@@ -256,3 +256,13 @@ module _ (a : AttributionParts) (operations : Operations) (trees : List Tree) (m
           let later : xs ++ x ∷ [] ≡ ys ++ y ∷ [] = cc same in
           let (xs_are, x_is) = one_end xs ys x y later in
           (ap (λ l. z ∷ l) xs_are ∙ ap (λ v. v ∷ ys) first, x_is)
+
+  -- the value of code that is at its end is the last one
+  pub ends_on_top : (values : List Value) → IsEvaluating a operations trees m site [] values
+      → (under : List Value) × (v : Value) × (values ≡ under ++ v ∷ []) × Runs a operations trees under m (done (value (value_in trees v)))
+      × IsIn (length trees) v
+  ends_on_top values ev =
+      let some = at_end values ev in
+      let (front, w, is) = last_split a.signatures trees values (λ none. let l = ap length none in omega (arith, some, l)) in
+      let (runs, inside) = ends front w (subst (λ (vs : List Value). IsEvaluating a operations trees m site [] vs) is ev) in
+      (front, w, is, runs, inside)

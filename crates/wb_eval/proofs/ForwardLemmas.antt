@@ -40,6 +40,7 @@ module _ {a : AttributionParts} {operations : Operations} {trees : List Tree} {u
 
   pub alone_ran : (k : Key) → IsAlone a operations trees under m k → (r : Ran) → IsRead m.memo k r → IsRan a operations trees m under r
   alone_ran k alone (ran.Value v) is = alone_known k v alone is
+  alone_ran k alone ran.Top never = absurd never
   alone_ran k alone (ran.Fault operation code) never = absurd never
   alone_ran k alone (ran.Needs other frame) (same, no_frame, none) =
       subst (IsFramed a operations trees m under other) (sym no_frame)

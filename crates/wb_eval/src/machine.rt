@@ -135,8 +135,8 @@ impl<'a> Machine<'a> {
         }
     }
 
-    // Adds the site one step down from another, which isn't there.
-    #[inline(always)]
+    // Adds the site one step down from another, which isn't there. That is done once for a site, so it is a call of its own.
+    #[inline(never)]
     fn add_below(&mut self, store: &TreeStore, site: usize, step: Step) -> Result<usize, AllocError>
         requires whole { IsWhole self.old.memo }
         requires there { site ≤ count self.old.memo }

@@ -49,7 +49,7 @@ pub(crate) fn evaluate_code<'a, M: Meaning>(
         }
         at = follow(&mut evaluation.values, op.after, at);
     }
-    Ok(Ran::Value(evaluation.values.take_last()))
+    Ok(Ran::Top)
 }
 
 // What the work comes to that stops at a place.

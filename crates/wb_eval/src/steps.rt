@@ -2,10 +2,11 @@
 //!
 //! It leaves one, whose value is then kept in the memo, or enters one that is needed. What is done at one is in `run`.
 
-ghost use Rattle.std.specs.Prelude.{◌≡◌, ◌≤◌, List, OnOk, IfOk};
+ghost use Rattle.std.specs.Prelude.{◌≡◌, ◌≤◌, ◌<◌, ◌++◌, ◌∷◌, [], List, length, OnOk, IfOk};
 ghost use Rattle.wb_operations.specs.Operations.{Operations};
 ghost use Rattle.wb_syntax_resolved.specs.declared.attribution.AttributionParts.{AttributionParts};
 ghost use Rattle.wb_values.specs.Tree.{Tree};
+ghost use Rattle.wb_values.specs.declared.value.Value as stored;
 ghost use Rattle.wb_eval_memo.specs.Memos.{IsWhole};
 ghost use Rattle.wb_eval.specs.Inner.Answering.{with_answer, IsLeaving, IsLeftWith, IsTurned};
 ghost use Rattle.wb_eval.specs.Inner.Machines.{IsKey, IsFor, IsSet};
@@ -40,6 +41,7 @@ pub(crate) fn proceed<'a>(
 {
     match ran {
         Ran::Value(answer) => leave(evaluation, answer),
+        Ran::Top => leave_top(evaluation),
         Ran::Fault { operation, code } => Ok(Turn::Over(Evaluated::Fault { operation, code })),
         Ran::Needs { key, frame } => {
             if evaluation.machine.entered >= steps {
@@ -68,6 +70,51 @@ fn leave<'a>(evaluation: &mut Evaluation<'a>, answer: Value) -> Result<Turn<'a>,
     evaluation.machine.stack.truncate(at);
     evaluation.machine.frames.truncate(at - 1);
     Ok(Turn::Goes(frame))
+}
+
+// Leaves the instance at work, whose value is the last one. That stays where it is where a frame waited for it.
+#[inline(always)]
+fn leave_top<'a>(evaluation: &mut Evaluation<'a>) -> Result<Turn<'a>, AllocError>
+    requires { (under : List stored.Value) × (v : stored.Value) × (evaluation.old.values.items ≡ under ++ v ∷ []) × IsLeaving evaluation.old.machine v }
+    ensures { (under : List stored.Value) (v : stored.Value) → evaluation.old.values.items ≡ under ++ v ∷ [] → IfOk result (IsLeftWith evaluation.old.machine evaluation.new.machine under evaluation.new.values.items v) }
+{
+    let at = evaluation.machine.stack.len() - 1;
+    let answer = last_value(&evaluation.values)?;
+    if at == 0 {
+        return Ok(Turn::Over(Evaluated::Value(answer)));
+    }
+    let key = evaluation.machine.stack[at];
+    let frame = evaluation.machine.frames[at - 1];
+    keep(&mut evaluation.machine.memo, key, answer)?;
+    settle(&mut evaluation.values, &frame);
+    evaluation.machine.stack.truncate(at);
+    evaluation.machine.frames.truncate(at - 1);
+    Ok(Turn::Goes(frame))
+}
+
+// The last value.
+#[inline(always)]
+fn last_value(values: &Vec<Value>) -> Result<Value, AllocError>
+    requires { 0 < length values.now.items }
+    ensures { (under : List stored.Value) (v : stored.Value) → values.now.items ≡ under ++ v ∷ [] → IfOk result (λ made. made ≡ v) }
+{
+    let last = values.len() - 1;
+    values[last].copy()
+}
+
+// Leaves the last value where a frame waited for it, and else takes it away.
+#[inline(always)]
+fn settle(values: &mut Vec<Value>, frame: &Option<Frame>)
+    requires { 0 < length values.old.items }
+    ensures { (under : List stored.Value) (v : stored.Value) → values.old.items ≡ under ++ v ∷ [] → values.new.items ≡ with_answer frame.now under v }
+{
+    match frame {
+        Some(_) => {}
+        None => {
+            let last = values.len() - 1;
+            values.truncate(last);
+        }
+    }
 }
 
 // Pushes the value for which a frame waited.

@@ -3,7 +3,7 @@
 //! It pushes a value or reads an instance. Those on values are in `perform`.
 
 ghost use Rattle.std.specs.Prelude.{◌≤◌, ◌∷◌, List, IfOk};
-ghost use Rattle.wb_eval.specs.Inner.Works.{IsEvaluating, IsVisit, HasVisited, HasLabel, IsLabelVisited, IsPushed};
+ghost use Rattle.wb_eval.specs.Inner.Works.{IsEvaluating, IsVisit, IsOtherVisit, HasVisited, HasLabel, IsLabelVisited, IsPushed};
 ghost use Rattle.wb_eval_memo.specs.Memos.{count, IsWhole};
 ghost use Rattle.wb_eval_rules.specs.Code.{Instruction, does, job_of, way_of};
 ghost use Rattle.wb_operations.specs.Operations.{Operations};
@@ -20,7 +20,8 @@ use wb_eval_rules::{Op, Task};
 use wb_syntax_resolved::Place;
 use wb_values::{TreeStore, Value};
 
-// Does an instruction of an expression without parts: the instance that it reads, where that wasn't entered.
+// Does an instruction of an expression without parts: the instance that it reads, where that wasn't entered. Attributes of children and
+// of the top are read here, since most that is done is that.
 #[inline(always)]
 pub(crate) fn visit(
     evaluation: &mut Evaluation,
@@ -33,10 +34,6 @@ pub(crate) fn visit(
     ensures { (a : AttributionParts) (operations : Operations) (rest : List Instruction) → IsEvaluating a operations store.now evaluation.old.machine site (does (job_of op.now.task) (way_of op.now.after) ∷ rest) evaluation.old.values.items → IfOk result (HasVisited a operations store.now evaluation.old.machine evaluation.new.machine site (does (job_of op.now.task) (way_of op.now.after)) (way_of op.now.after) rest evaluation.new.values.items) }
 {
     match &op.task {
-        Task::Int(number) => visit_value(&mut evaluation.values, Value::Int(*number)),
-        Task::Text(text) => visit_text(&mut evaluation.values, text),
-        Task::Bool(truth) => visit_value(&mut evaluation.values, Value::Bool(*truth)),
-        Task::Label(place) | Task::Lexeme(place) => visit_label(evaluation, store, site, *place),
         Task::Read { label, attribute } => {
             let step = step_to(*label)?;
             read_below(evaluation, store, site, step, *attribute)
@@ -48,6 +45,27 @@ pub(crate) fn visit(
             };
             read(&evaluation.machine, &mut evaluation.values, key)
         }
+        _ => visit_other(evaluation, store, site, op),
+    }
+}
+
+// The same where no attribute of a child or of the top is read.
+#[inline(never)]
+fn visit_other(
+    evaluation: &mut Evaluation,
+    store: &TreeStore,
+    site: usize,
+    op: &Op,
+) -> Result<Option<Key>, AllocError>
+    requires visit { IsOtherVisit op.now.task }
+    requires evaluating { (a : AttributionParts) × (operations : Operations) × (rest : List Instruction) × IsEvaluating a operations store.now evaluation.old.machine site (does (job_of op.now.task) (way_of op.now.after) ∷ rest) evaluation.old.values.items }
+    ensures { (a : AttributionParts) (operations : Operations) (rest : List Instruction) → IsEvaluating a operations store.now evaluation.old.machine site (does (job_of op.now.task) (way_of op.now.after) ∷ rest) evaluation.old.values.items → IfOk result (HasVisited a operations store.now evaluation.old.machine evaluation.new.machine site (does (job_of op.now.task) (way_of op.now.after)) (way_of op.now.after) rest evaluation.new.values.items) }
+{
+    match &op.task {
+        Task::Int(number) => visit_value(&mut evaluation.values, Value::Int(*number)),
+        Task::Text(text) => visit_text(&mut evaluation.values, text),
+        Task::Bool(truth) => visit_value(&mut evaluation.values, Value::Bool(*truth)),
+        Task::Label(place) | Task::Lexeme(place) => visit_label(evaluation, store, site, *place),
         Task::Forward(attribute) => {
             read_below(evaluation, store, site, Step::Forward, *attribute)
         }

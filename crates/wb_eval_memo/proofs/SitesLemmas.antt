@@ -2,12 +2,15 @@
 use Rattle.std.proofs.Common.{◌≡◌, ◌≢◌, ◌∙◌, ◌⊎◌, ◌≤◌, ◌<◌, ◌+◌, ◌++◌, inl, inr, ℕ, zero, suc, List, [], ◌∷◌, Some, length, refl, sym, ap}
 use Rattle.std.proofs.Common.{subst, arith}
 use Rattle.std.proofs.Common.{slice_get, get_or, length-append}
-use Rattle.std.proofs.lemmas.Bool.{cases_eq}
+use Rattle.std.specs.Prelude.{true, false, nat_eq, if◌then◌else◌, Option, None}
+use Rattle.std.proofs.lemmas.Bool.{and_from, and_parts, cases_eq, cases_lt, cond-false, cond-true, eq-eqb, eqb-true}
+use Rattle.std.proofs.lemmas.Bool.{false_from_ne_true}
 use Rattle.std.proofs.lemmas.List.{get_or_append_left}
-use Rattle.wb_lemmas.proofs.Places.{at_push, push_keeps, push_last, at_within, default_at}
+use Rattle.std.proofs.lemmas.Option.{slice_get_within}
+use Rattle.wb_lemmas.proofs.Places.{at_push, push_before, push_keeps, push_last, at_within, default_at}
 use Rattle.wb_eval_theory.specs.Instances.{Path, root, down}
 use Rattle.wb_eval_memo.specs.Inner.Steps.{IsOther}
-use Rattle.wb_eval_memo.specs.Sites.{step_of, link, path_at, paths_from, paths_of, AreFound, IsSites}
+use Rattle.wb_eval_memo.specs.Sites.{step_of, link, link_in_rows, is_step, is_next, path_at, paths_from, paths_of, AreFound, IsSites}
 use Rattle.wb_eval_memo.specs.declared.sites.Origin.{Origin}
 use Rattle.wb_eval_memo.specs.declared.sites.Sites.{Sites}
 use Rattle.wb_eval_memo.specs.declared.sites.Step.{Step}
@@ -44,6 +47,103 @@ same_origin i parent t s = elim (cases_eq i parent) [
   | inl e ↦ elim (same_step t s) [ inl f ↦ inl (e, f) | inr d ↦ inr (inr d) ]
   | inr d ↦ inr (inl d)
 ]
+
+-- a step is the one that it is found to be
+step_is : (s t : Step) → is_step s t ≡ true → s ≡ t
+step_is (step.Child k) (step.Child l) e = ap step.Child (eqb-true k l e)
+step_is (step.Local k) (step.Local l) e = ap step.Local (eqb-true k l e)
+step_is step.Forward step.Forward e = refl
+step_is (step.Child k) (step.Local l) e = absurd (cc e)
+step_is (step.Child k) step.Forward e = absurd (cc e)
+step_is (step.Local k) (step.Child l) e = absurd (cc e)
+step_is (step.Local k) step.Forward e = absurd (cc e)
+step_is step.Forward (step.Child l) e = absurd (cc e)
+step_is step.Forward (step.Local l) e = absurd (cc e)
+
+is_itself : (s : Step) → is_step s s ≡ true
+is_itself (step.Child k) = eq-eqb k k refl
+is_itself (step.Local k) = eq-eqb k k refl
+is_itself step.Forward = refl
+
+-- the site after another is one step down from it where its origin says so
+next_is : (o : Option Origin) (i : ℕ) (t : Step) → is_next o i t ≡ true → o ≡ Some (origin i t)
+next_is None i t e = absurd (cc e)
+next_is (Some o) i t e =
+    let (parents, steps) = and_parts (nat_eq o.parent i) (is_step o.step t) e in
+    ap Some (ap (λ (z : ℕ). origin z o.step) (eqb-true o.parent i parents) ∙ ap (origin i) (step_is o.step t steps))
+
+next_itself : (i : ℕ) (t : Step) → is_next (Some (origin i t)) i t ≡ true
+next_itself i t = and_from (nat_eq i i) (is_step t t) (eq-eqb i i refl) (is_itself t)
+
+-- the link where the site after another is the one, and where it isn't
+link_next : (s : Sites) (i : ℕ) (t : Step) → slice_get s.origins.items i ≡ Some (origin i t) → link s i t ≡ suc i
+link_next s i t at =
+    cond-true (is_next (slice_get s.origins.items i) i t) (suc i) (link_in_rows s i t)
+    (ap (λ (o : Option Origin). is_next o i t) at ∙ next_itself i t)
+
+link_row : (s : Sites) (i : ℕ) (t : Step) → is_next (slice_get s.origins.items i) i t ≡ false → link s i t ≡ link_in_rows s i t
+link_row s i t not = cond-false (is_next (slice_get s.origins.items i) i t) (suc i) (link_in_rows s i t) not
+
+-- no site
+pub none_linked : (s : Sites) → s.origins.items ≡ [] → ((i : ℕ) (t : Step) → link_in_rows s i t ≡ 0) → (i : ℕ) (t : Step) → link s i t ≡ 0
+none_linked s empty rows i t =
+    link_row s i t (ap (λ (l : List Origin). is_next (slice_get l i) i t) empty) ∙ rows i t
+
+module _ (old new : Sites) (parent : ℕ) (s : Step) (pushed : new.origins.items ≡ old.origins.items ++ origin parent s ∷ []) where
+  at_after : (i : ℕ) → slice_get new.origins.items i ≡ slice_get (old.origins.items ++ origin parent s ∷ []) i
+  at_after i = ap (λ (l : List Origin). slice_get l i) pushed
+
+  -- the site that was added is found
+  pub set_linked : parent ≤ length old.origins.items → link old parent s ≡ 0
+      → (suc (length old.origins.items) ≡ suc parent) ⊎ (link_in_rows new parent s ≡ suc (length old.origins.items))
+      → link new parent s ≡ suc (length old.origins.items)
+  set_linked there fresh set =
+      let xs = old.origins.items in
+      elim (cases_eq (length xs) parent) [
+        | inl e ↦
+            let at = at_after parent ∙ subst (λ (z : ℕ). slice_get (xs ++ origin parent s ∷ []) z ≡ Some (origin parent s)) e
+            (push_last xs (origin parent s)) in
+            link_next new parent s at ∙ ap suc (sym e)
+        | inr d ↦
+            let same : slice_get new.origins.items parent ≡ slice_get xs parent =
+            at_after parent ∙ push_before xs (origin parent s) parent
+            (elim (cases_lt parent (length xs)) [ inl lt ↦ lt | inr ge ↦ absurd (d (omega (arith, ge, there))) ]) in
+            let no : is_next (slice_get xs parent) parent s ≡ false =
+            false_from_ne_true (is_next (slice_get xs parent) parent s)
+            (λ yes. let h = sym fresh ∙ link_next old parent s (next_is (slice_get xs parent) parent s yes) in omega (arith, h)) in
+            let row = link_row new parent s (ap (λ (o : Option Origin). is_next o parent s) same ∙ no) in
+            elim set [
+              | inl e ↦ absurd (d (cc e))
+              | inr r ↦ row ∙ r
+            ]
+      ]
+
+  -- and so are those that were there
+  pub kept_linked : ((i : ℕ) (t : Step) → IsOther parent s i t → link_in_rows new i t ≡ link_in_rows old i t)
+      → (i : ℕ) (t : Step) → IsOther parent s i t → link new i t ≡ link old i t
+  kept_linked kept i t other =
+      let xs = old.origins.items in
+      elim (cases_lt i (length xs)) [
+        | inl lt ↦
+            let same : slice_get new.origins.items i ≡ slice_get xs i = at_after i ∙ push_before xs (origin parent s) i lt in
+            ap (λ (o : Option Origin). if is_next o i t then suc i else link_in_rows new i t) same
+            ∙ ap (λ (n : ℕ). if is_next (slice_get xs i) i t then suc i else n) (kept i t other)
+        | inr ge ↦
+            let before : is_next (slice_get xs i) i t ≡ false =
+            false_from_ne_true (is_next (slice_get xs i) i t)
+            (λ yes. let h = slice_get_within xs i (origin i t) (next_is (slice_get xs i) i t yes) in omega (arith, h, ge)) in
+            let after : is_next (slice_get new.origins.items i) i t ≡ false =
+            false_from_ne_true (is_next (slice_get new.origins.items i) i t)
+            (λ yes. elim
+            (at_push xs (origin parent s) (origin i t) i (sym (at_after i) ∙ next_is (slice_get new.origins.items i) i t yes)) [
+              | inl at ↦ let h = slice_get_within xs i (origin i t) at in omega (arith, h, ge)
+              | inr (k_is, same) ↦ elim other [
+                | inl d ↦ d (sym (ap (λ (z : Origin). z.parent) same))
+                | inr d ↦ d (sym (ap (λ (z : Origin). z.step) same))
+              ]
+            ]) in
+            link_row new i t after ∙ kept i t other ∙ sym (link_row old i t before)
+      ]
 
 -- a site more
 pub added : (old new : Sites) (parent : ℕ) (s : Step) → IsSites old → parent ≤ length old.origins.items → link old parent s ≡ 0

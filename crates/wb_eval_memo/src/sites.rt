@@ -1,9 +1,10 @@
 //! Which nodes has an evaluation come to, and how are they found from the node above in constant time?
 //!
-//! A site is a node by its path: site 0 is the root, and each other site has an origin. Trees are in `memo`.
+//! A site is a node by its path: site 0 is the root, and each other site has an origin. Trees are in `memo`. A site that comes right after
+//! the one above it is found by its origin, and any other by a row.
 
-ghost use Rattle.std.specs.Prelude.{◌≡◌, ◌≢◌, ◌≤◌, ℕ, suc, [], ◌∷◌, ◌++◌, length, OnOk, IfOk};
-ghost use Rattle.wb_eval_memo.specs.Sites.{link, AreFound, IsSites};
+ghost use Rattle.std.specs.Prelude.{◌≡◌, ◌≢◌, ◌⊎◌, ◌≤◌, ◌<◌, ◌+◌, ◌^◌, ℕ, suc, [], ◌∷◌, ◌++◌, length, slice_get, OnOk, IfOk};
+ghost use Rattle.wb_eval_memo.specs.Sites.{link, link_in_rows, is_step, is_next, AreFound, IsSites};
 ghost use Rattle.wb_eval_memo.specs.Inner.Steps.{IsOther};
 
 use std::alloc::{AllocError, Global};
@@ -65,6 +66,31 @@ impl Sites {
     pub fn find(&self, parent: usize, step: Step) -> usize
         ensures { result ≡ link self.now parent step }
     {
+        if self.is_next(parent, step) {
+            parent + 1
+        } else {
+            self.find_in_rows(parent, step)
+        }
+    }
+
+    // Whether the site after another is the one this step down from it.
+    #[inline(always)]
+    fn is_next(&self, parent: usize, step: Step) -> bool
+        ensures { result ≡ is_next (slice_get self.now.origins.items parent) parent step }
+    {
+        if parent < self.origins.len() {
+            let origin = self.origins[parent];
+            origin.parent as usize == parent && is_step(origin.step, step)
+        } else {
+            false
+        }
+    }
+
+    // The site one step down from another that rows have, or 0.
+    #[inline(always)]
+    fn find_in_rows(&self, parent: usize, step: Step) -> usize
+        ensures { result ≡ link_in_rows self.now parent step }
+    {
         match step {
             Step::Child(k) => self.children.get(parent, k as usize),
             Step::Local(x) => self.locals.get(parent, x as usize),
@@ -95,14 +121,30 @@ impl Sites {
         Ok(site)
     }
 
-    // Writes which site is one step down from another.
+    // Writes which site is one step down from another, unless it comes right after that.
     #[inline(always)]
     fn set_link(&mut self, parent: usize, step: Step, site: usize) -> Result<(), AllocError>
+        requires room { parent + 1 < 2 ^ 64 }
         requires found { AreFound self.old }
         ensures found { OnOk result (AreFound self.new) }
         ensures origins { OnOk result (self.new.origins ≡ self.old.origins) }
-        ensures set { OnOk result (link self.new parent step ≡ site) }
-        ensures kept { OnOk result ((i : ℕ) (other : Step) → IsOther parent step i other → link self.new i other ≡ link self.old i other) }
+        ensures set { OnOk result ((site ≡ suc parent) ⊎ (link_in_rows self.new parent step ≡ site)) }
+        ensures kept { OnOk result ((i : ℕ) (other : Step) → IsOther parent step i other → link_in_rows self.new i other ≡ link_in_rows self.old i other) }
+    {
+        if site == parent + 1 {
+            return Ok(());
+        }
+        self.set_row(parent, step, site)
+    }
+
+    // Writes into rows which site is one step down from another.
+    #[inline(always)]
+    fn set_row(&mut self, parent: usize, step: Step, site: usize) -> Result<(), AllocError>
+        requires found { AreFound self.old }
+        ensures found { OnOk result (AreFound self.new) }
+        ensures origins { OnOk result (self.new.origins ≡ self.old.origins) }
+        ensures set { OnOk result (link_in_rows self.new parent step ≡ site) }
+        ensures kept { OnOk result ((i : ℕ) (other : Step) → IsOther parent step i other → link_in_rows self.new i other ≡ link_in_rows self.old i other) }
     {
         match step {
             Step::Child(k) => self.children.put(parent, k as usize, site)?,
@@ -110,6 +152,27 @@ impl Sites {
             Step::Forward => self.forwards.put(parent, 0, site)?,
         }
         Ok(())
+    }
+}
+
+// Whether a step is another.
+#[inline(always)]
+fn is_step(step: Step, other: Step) -> bool
+    ensures { result ≡ is_step step other }
+{
+    match step {
+        Step::Child(k) => match other {
+            Step::Child(other) => k == other,
+            _ => false,
+        },
+        Step::Local(x) => match other {
+            Step::Local(other) => x == other,
+            _ => false,
+        },
+        Step::Forward => match other {
+            Step::Forward => true,
+            _ => false,
+        },
     }
 }
 

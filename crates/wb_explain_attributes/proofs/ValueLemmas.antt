@@ -1,5 +1,5 @@
 -- The value of a file is that of its specification.
-use Rattle.std.proofs.Common.{◌≡◌, ℕ, List, Option, None, Some, IfSome, IfOk, Result, Ok, Err}
+use Rattle.std.proofs.Common.{ℕ, List, Option, None, Some, IfSome, IfOk, Result, Ok, Err}
 use Rattle.wb_names.specs.Resolving.{ResolvesExtension, ResolvesHost}
 use Rattle.wb_reader.specs.Refusals.{IsAcceptedText}
 use Rattle.wb_syntax.specs.SpecText.{SpecView}

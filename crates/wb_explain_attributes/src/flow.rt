@@ -1,6 +1,6 @@
 //! What is said of a specification whose attributes aren't well defined?
 
-ghost use Rattle.std.specs.Prelude.{◌≡◌, OnOk};
+ghost use Rattle.std.specs.Prelude.{OnOk};
 ghost use Rattle.wb_explain_attributes.specs.Values.{Says};
 
 use crate::resolved::value_of;

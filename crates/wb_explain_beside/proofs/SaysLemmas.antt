@@ -5,7 +5,8 @@ use Rattle.wb_syntax_resolved.specs.declared.resolved.ResolvedParts.{ResolvedPar
 use Rattle.wb_certify_files.specs.HostContents.{StandsFor}
 use Rattle.wb_certify_files.specs.Numbered.{IsNumbered}
 use Rattle.wb_certify_files.specs.Specifications.{IsSpecFor}
-use Rattle.wb_explain_beside.specs.Said.{Says, SaysOf}
+use Rattle.wb_explain_beside.specs.Inner.Grammars.{Says}
+use Rattle.wb_explain_beside.specs.Said.{SaysOf}
 
 -- of an extension beside a host
 pub beside_says : {X E : Type 0} (result : Result X E) (beside own old new : List ℕ) (h r : ResolvedParts) (spec : SpecView)

@@ -6,7 +6,7 @@ use Rattle.wb_base.specs.declared.symbol.Symbol.{Symbol}
 use Rattle.wb_base.specs.declared.symbol.Symbol.TheVariants.{Terminal, Nonterminal}
 use Rattle.wb_certify_files.specs.HostContents as hosts
 use Rattle.wb_certify_files.specs.ExtensionContents as extensions
-use Rattle.wb_certify_shown.specs.Names.{nonterminal_shown, production_shown, terminal_shown}
+use Rattle.wb_certify_files.specs.Names.{nonterminal_shown, production_shown, terminal_shown}
 use Rattle.wb_syntax_resolved.specs.declared.resolved.ResolvedParts.{ResolvedParts}
 
 -- the right side has the nonterminal at this place, and the symbol right behind it
@@ -57,10 +57,6 @@ pub record SaysGrammars (base value : ResolvedParts) (old new : List ℕ) : Type
   pub grammar : GrammarView
   pub has_grammar : value.grammar ≡ Some grammar
   pub says : SaysSides host grammar value old new
-
--- nothing is said of an extension of this host, or this
-abbrev pub Says : ResolvedParts → ResolvedParts → List ℕ → List ℕ → Type 0
-Says base value old new = (new ≡ old) ⊎ SaysGrammars base value old new
 
 -- with a host for which other contents stand, they stand for an extension, of which this is said
 pub record SaysBeside (beside contents old new : List ℕ) : Type 0 where

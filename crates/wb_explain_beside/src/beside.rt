@@ -3,7 +3,8 @@
 ghost use Rattle.std.specs.Prelude.{◌≡◌, [], IfSome, IsNone, List, OnOk, ℕ};
 ghost use Rattle.wb_certify_files.specs.HostContents.{StandsFor};
 ghost use Rattle.wb_certify_files.specs.Specifications.{IsSpecFor};
-ghost use Rattle.wb_explain_beside.specs.Said.{Says, SaysOf};
+ghost use Rattle.wb_explain_beside.specs.Inner.Grammars.{Says};
+ghost use Rattle.wb_explain_beside.specs.Said.{SaysOf};
 
 use crate::shown::push_told;
 use crate::told::Told;
@@ -12,7 +13,6 @@ use wb_certify_files::{
     FileRefusal, HostRefusal, extension_spec_of, resolved_extension_of, resolved_host_of,
 };
 use wb_explain_places::Source;
-use wb_operations::{Meaning, OperationTable};
 use wb_syntax::Spec;
 use wb_syntax_resolved::Resolved;
 
@@ -20,14 +20,9 @@ use wb_syntax_resolved::Resolved;
 /// which the host never has it, what the host has after it, and what mends that: E5 and E6.
 ///
 /// That the symbol stands there is promised. That the host never has it there is tested and not proved: what the host has after a
-/// nonterminal is counted over its grammar, without extensions. Nothing is appended of a host, or where no such place is found. Operations
-/// aren't looked at. The only error is out of memory.
-pub fn push_beside<M: Meaning>(
-    alloc: Global,
-    out: &mut Vec<u8>,
-    source: &Source<'_>,
-    _operations: &OperationTable<M>,
-) -> Result<(), AllocError>
+/// nonterminal is counted over its grammar, without extensions. Nothing is appended of a host, or where no such place is found. The only
+/// error is out of memory.
+pub fn push_beside(alloc: Global, out: &mut Vec<u8>, source: &Source<'_>) -> Result<(), AllocError>
     ensures host { IsNone source.now.host → OnOk result (out.new.items ≡ out.old.items) }
     ensures extension { IfSome source.now.host (λ host. OnOk result (SaysOf host.now source.now.contents.now out.old.items out.new.items)) }
 {

@@ -1,13 +1,13 @@
 //! Which names have productions, nonterminals and symbols?
 
 ghost use Rattle.std.specs.Prelude.{◌≡◌, ◌++◌, IfOk, OnOk};
-ghost use Rattle.wb_certify_shown.specs.Names as spec;
+ghost use Rattle.wb_certify_files.specs.Names as spec;
 ghost use Rattle.wb_syntax_resolved.specs.Owners.{printed_name};
 ghost use Rattle.wb_explain_beside.specs.Said.{symbol_shown};
 
 use std::alloc::{AllocError, Global};
 use wb_base::{Bytes, Symbol};
-use wb_certify_shown::terminal_name;
+use wb_certify_files::terminal_name;
 use wb_names_rows::signatures::printed;
 use wb_syntax_resolved::{Resolved, ResolvedParts};
 

@@ -1,7 +1,6 @@
 -- The name at a place of a list.
-use Rattle.std.proofs.Common.{◌≡◌, ◌<◌, ◌+◌, ◌++◌, ◌∷◌, [], ℕ, List, Some, None, true, false, ltb, map, take, length, get_or, slice_get, ap}
+use Rattle.std.proofs.Common.{◌≡◌, [], ℕ, List, Some, None, true, false, ltb, length, get_or, slice_get, ap}
 use Rattle.std.proofs.Common.{sym, ◌∙◌}
-use Rattle.std.proofs.lemmas.List.{take_more, map-append}
 use Rattle.std.proofs.lemmas.Bool.{ltb-true, ltb-false}
 use Rattle.std.proofs.lemmas.Option.{slice_get-get_or, slice_get_past}
 use Rattle.wb_names_theory.specs.Declares.{name_in}

@@ -1,5 +1,5 @@
 -- What is said of one value is said of a specification that stands for it.
-use Rattle.std.proofs.Common.{◌≡◌, ◌⊎◌, inl, inr, ℕ, List, Some, Result, Ok, Err, OnOk, subst}
+use Rattle.std.proofs.Common.{◌≡◌, inl, inr, ℕ, List, Some, Result, Ok, Err, OnOk, subst}
 use Rattle.wb_base.specs.Grammar.{GrammarView}
 use Rattle.wb_certify_files.specs.HostContents.{StandsFor}
 use Rattle.wb_certify_files.specs.Numbered.{IsNumbered}

@@ -1,12 +1,13 @@
 -- A tree with one piece more, which is shown or left out.
-use Rattle.std.proofs.Common.{◌≡◌, ◌<◌, ◌≤◌, ◌+◌, ◌⊎◌, inl, inr, ◌++◌, ◌∷◌, [], ℕ, List, map, length, take, get_or, refl, sym, subst, ◌∙◌, ap, Result, Ok, Err, OnOk}
+use Rattle.std.proofs.Common.{◌≡◌, ◌<◌, ◌≤◌, ◌+◌, inl, inr, ◌++◌, ◌∷◌, [], ℕ, List, length, take, get_or, sym, subst, ◌∙◌, ap, Result, Ok, Err, OnOk}
 use Rattle.std.proofs.lemmas.List.{take_more, take_all, map-append}
 use Rattle.wb_explain_readings.specs.declared.piece.Piece.{Piece}
 use Rattle.wb_explain_readings.specs.declared.piece.Piece.TheVariants.{Open, Leaf, Close}
 use Rattle.wb_syntax_resolved.specs.declared.resolved.ResolvedParts.{ResolvedParts}
 use Rattle.wb_explain_conflicts.proofs.WordLemmas.{no_words, word_pushed}
 use Rattle.wb_explain_conflicts.specs.Inner.Pieces.{HasPiece, IsBracket}
-use Rattle.wb_explain_conflicts.specs.Words.{HasTree, HasWord, HasWords, LeavesOut, empty, kept, no_open, no_close, piece_shown, pieces_shown}
+use Rattle.wb_explain_conflicts.specs.Inner.Pieces.{HasWord}
+use Rattle.wb_explain_conflicts.specs.Words.{HasTree, HasWords, LeavesOut, empty, kept, no_open, no_close, piece_shown, pieces_shown}
 
 kept_last : {xs ys : List Piece} (x : Piece) → LeavesOut xs ys → LeavesOut (xs ++ x ∷ []) (ys ++ x ∷ [])
 kept_last x empty = kept x empty

@@ -2,7 +2,8 @@
 use Rattle.std.proofs.Common.{◌≡◌, ◌<◌, ◌≤◌, ◌+◌, ◌++◌, ◌∷◌, [], ℕ, List, map, length, take, get_or, refl, sym, subst, ◌∙◌, ap, append_assoc}
 use Rattle.std.specs.List.{AllZip}
 use Rattle.std.proofs.lemmas.List.{take_more, take_all, map-append}
-use Rattle.wb_explain_conflicts.specs.Words.{HasWord, HasWords, IsSpaced, all_of}
+use Rattle.wb_explain_conflicts.specs.Inner.Pieces.{HasWord}
+use Rattle.wb_explain_conflicts.specs.Words.{HasWords, IsSpaced, all_of}
 
 zip_push : {A B : Type 0} (R : A → B → Type 0) (xs : List A) (ys : List B) (x : A) (y : B) → AllZip R xs ys → R x y →
     AllZip R (xs ++ x ∷ []) (ys ++ y ∷ [])

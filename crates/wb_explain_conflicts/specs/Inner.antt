@@ -1,4 +1,4 @@
 -- what is said of one value and one grammar
 pub mod Parts
--- a piece that is shown or left out
+-- a word, and a piece that is shown or left out
 pub mod Pieces

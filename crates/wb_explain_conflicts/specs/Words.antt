@@ -2,7 +2,7 @@
 use Rattle.std.specs.Prelude.{◌≡◌, ◌≢◌, ◌⊎◌, ◌++◌, ◌∷◌, ℕ, List, [], All, map}
 use Rattle.std.specs.List.{AllZip}
 use lib.Chars.{codes}
-use Rattle.wb_certify_shown.specs.Names.{lookahead_shown, reduction_shown}
+use Rattle.wb_certify_files.specs.Names.{lookahead_shown, reduction_shown}
 use Rattle.wb_explain_readings.specs.declared.piece.Piece.{Piece}
 use Rattle.wb_explain_readings.specs.declared.piece.Piece.TheVariants.{Open, Leaf, Close}
 use Rattle.wb_syntax_resolved.specs.declared.resolved.ResolvedParts.{ResolvedParts}
@@ -20,10 +20,6 @@ IsSpaced word entry = (blanks : List ℕ) × AreBlanks blanks × (entry ≡ blan
 abbrev pub all_of : List (List ℕ) → List ℕ
 all_of [] = []
 all_of (x ∷ xs) = x ++ all_of xs
-
--- after what was there come blanks and the word
-abbrev pub HasWord : List ℕ → List ℕ → List ℕ → Type 0
-HasWord word old new = (entry : List ℕ) × IsSpaced word entry × (new ≡ old ++ entry)
 
 -- after what was there come these words in their order, each after blanks
 abbrev pub HasWords : List (List ℕ) → List ℕ → List ℕ → Type 0

@@ -1,8 +1,8 @@
 //! Is a specification refused for a conflict, and what is said of it then?
 
 ghost use Rattle.std.specs.Prelude.{◌≡◌, IfSome, IsNone, OnOk};
-ghost use Rattle.wb_recheck.specs.Hosts.{IsOfText};
-ghost use Rattle.wb_recheck.specs.Kept.{Extends};
+ghost use Rattle.wb_certify_files.specs.Hosts.{IsOfText};
+ghost use Rattle.wb_certify_files.specs.Kept.{Extends};
 ghost use Rattle.wb_certify_files.specs.HostContents.{StandsFor};
 ghost use Rattle.wb_certify_files.specs.Numbered.{IsNumbered};
 ghost use Rattle.wb_explain_conflicts.specs.Said.{IsBeside, Says, StandsBeside};
@@ -13,17 +13,14 @@ use crate::shown::{Shown, push_found};
 use std::alloc::{AllocError, Global};
 use wb_base::Grammar;
 use wb_certify_files::{
-    CertifiedHost, FileRefusal, HostRefusal, extension_spec, host_of, resolved_extension_of,
-    resolved_host_of,
+    CertifiedHost, CertifyRefusal, DeterminismRefusal, FileRefusal, HostRefusal, certify_beside,
+    certify_resolved, extension_spec, host_of, resolved_extension_of, resolved_host_of,
 };
-use wb_certify_host::CertifyRefusal;
-use wb_determinism_host::DeterminismRefusal;
 use wb_explain_places::Source;
 use wb_explain_readings::{Conflict, Found, Turn, readings};
 use wb_lookahead::Action;
 use wb_marking_holes::with_holes;
 use wb_operations::{Meaning, OperationTable};
-use wb_recheck::{certify_beside, certify_resolved};
 use wb_syntax::Spec;
 use wb_syntax_resolved::Resolved;
 

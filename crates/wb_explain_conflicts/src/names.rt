@@ -4,13 +4,13 @@
 
 ghost use Rattle.std.specs.Prelude.{◌≡◌, ◌++◌, IfOk};
 ghost use lib.Chars.{codes};
-ghost use Rattle.wb_certify_shown.specs.Names as spec;
+ghost use Rattle.wb_certify_files.specs.Names as spec;
 ghost use Rattle.wb_syntax_resolved.specs.Owners.{printed_name};
 ghost use Rattle.wb_explain_conflicts.specs.Words.{piece_shown};
 
 use std::alloc::{AllocError, Global};
 use wb_base::{Bytes, Grammar};
-use wb_certify_shown::{terminal_name, terminals_in};
+use wb_certify_files::{terminal_name, terminals_in};
 use wb_explain_readings::Piece;
 use wb_names_rows::signatures::printed;
 use wb_syntax_resolved::{Resolved, ResolvedParts};

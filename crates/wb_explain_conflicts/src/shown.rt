@@ -2,7 +2,8 @@
 
 ghost use Rattle.std.specs.Prelude.{◌≡◌, ◌++◌, OnOk, true};
 ghost use Rattle.wb_explain_conflicts.specs.Said.{heading, Lines};
-ghost use Rattle.wb_explain_conflicts.specs.Words.{HasTree, HasWord, HasWords, piece_shown, text_shown};
+ghost use Rattle.wb_explain_conflicts.specs.Inner.Pieces.{HasWord};
+ghost use Rattle.wb_explain_conflicts.specs.Words.{HasTree, HasWords, piece_shown, text_shown};
 ghost use Rattle.wb_explain_conflicts.specs.Inner.Pieces.{HasPiece, IsBracket};
 
 use crate::names::piece_name;

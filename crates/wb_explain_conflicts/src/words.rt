@@ -1,7 +1,7 @@
 //! Words with blanks between them, on lines that aren't long.
 
 ghost use Rattle.std.specs.Prelude.{OnOk};
-ghost use Rattle.wb_explain_conflicts.specs.Words.{HasWord};
+ghost use Rattle.wb_explain_conflicts.specs.Inner.Pieces.{HasWord};
 
 use std::alloc::AllocError;
 

@@ -76,7 +76,7 @@ fn push_code<M: Meaning>(
     match part {
         Part::Terms => push_term_at(alloc, out, refused, source.contents),
         Part::Conflicts => push_conflict(alloc, out, source, operations),
-        Part::Beside => push_beside(alloc, out, source, operations),
+        Part::Beside => push_beside(alloc, out, source),
         Part::Kinds => push_kinds(alloc, out, source, operations),
         Part::Flows => push_flow(alloc, out, source, refused.code),
         Part::Names => push_named(alloc, out, refused, source, operations.signatures()),

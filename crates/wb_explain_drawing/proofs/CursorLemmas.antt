@@ -1,5 +1,5 @@
 -- One byte more moves a cursor to the next place.
-use Rattle.std.proofs.Common.{◌≡◌, ◌≢◌, ◌<◌, ◌≤◌, ◌+◌, ◌-◌, ◌∙◌, ◌⊎◌, inl, inr, ℕ, zero, suc, Bool, true, false, cond, List, [], ◌∷◌, ◌++◌, take, drop, length, get_or, sym, ap, refl, subst, arith, slice_index, slice_get, Some, Option, ◌==◌}
+use Rattle.std.proofs.Common.{◌≡◌, ◌≢◌, ◌<◌, ◌≤◌, ◌+◌, ◌-◌, ◌∙◌, ◌⊎◌, inl, inr, ℕ, zero, suc, Bool, true, false, cond, List, [], ◌∷◌, ◌++◌, take, drop, length, get_or, sym, ap, refl, subst, arith, slice_index}
 use Rattle.std.specs.List.{count_by, fold}
 use Rattle.std.proofs.lemmas.Bool.{cases_lt}
 use Rattle.std.proofs.lemmas.Option.{get_or_from_slice_get}
@@ -9,7 +9,8 @@ use Rattle.wb_lemmas.proofs.Parts.{drop_past}
 use Rattle.wb_explain_places.specs.Characters.{begins_character, is_line_feed}
 use Rattle.wb_explain_places.specs.Inner.Ends.{IsLineStart}
 use Rattle.wb_explain_places.specs.Place.{line_number}
-use Rattle.wb_explain_drawing.specs.Reached.{IsByteAt, IsReached, column_from}
+use Rattle.wb_explain_drawing.specs.Inner.Bytes.{IsByteAt}
+use Rattle.wb_explain_drawing.specs.Reached.{IsReached, column_from}
 use Rattle.wb_explain_drawing.specs.declared.cursor.Cursor.{Cursor}
 
 -- a cursor of these numbers

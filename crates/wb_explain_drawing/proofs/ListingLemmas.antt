@@ -1,5 +1,5 @@
 -- A step of a walk leaves the listing as it was.
-use Rattle.std.proofs.Common.{◌≡◌, ◌≢◌, ◌<◌, ◌+◌, ◌≤◌, ◌⊎◌, inl, inr, ◌++◌, ◌∷◌, [], ℕ, zero, suc, List, Option, Some, None, true, false, refl, sym, subst, ◌∙◌, ap, append_assoc, arith, length}
+use Rattle.std.proofs.Common.{◌≡◌, ◌≢◌, ◌<◌, ◌+◌, ◌≤◌, ◌++◌, ◌∷◌, [], ℕ, zero, suc, List, Some, true, false, refl, sym, subst, ◌∙◌, ap, append_assoc, arith, length}
 use Rattle.wb_values.specs.Tree.{Tree, node, Plain, Value, plain, tree, Values, empty, more, children_of, count_of, production_of, value_at}
 use Rattle.std.proofs.Math.ListN.{get_or-eq_default}
 use Rattle.wb_values.specs.ValuesIn.{tree_in}

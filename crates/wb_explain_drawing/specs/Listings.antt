@@ -1,8 +1,7 @@
 -- What is listed of a tree: its nodes and leaves, each before what is below it, from left to right.
 use Rattle.std.specs.Prelude.{◌≡◌, ◌+◌, ◌++◌, ◌∷◌, ℕ, List, [], Bool, true, nat_lt, if◌then◌else◌}
-use Rattle.wb_values.specs.Tree.{Tree, node, Value, plain, tree, Values, empty, more}
+use Rattle.wb_values.specs.Tree.{Tree, node, plain, tree, Values, empty, more}
 use Rattle.wb_explain_drawing.specs.declared.items.Item.{Item}
-use Rattle.wb_explain_drawing.specs.declared.items.Listing.{Listing}
 use Rattle.wb_explain_drawing.specs.declared.items.Part.{Part}
 use Rattle.wb_explain_drawing.specs.declared.items.Part.TheVariants.{Node, Leaf}
 

@@ -1,5 +1,5 @@
 -- The line and the column of a place of a text.
-use Rattle.std.specs.Prelude.{◌≡◌, ◌≤◌, ◌+◌, ℕ, List, length, take, drop, slice_get, Some}
+use Rattle.std.specs.Prelude.{◌≡◌, ◌≤◌, ◌+◌, ℕ, List, length, take, drop}
 use Rattle.std.specs.List.{count_by}
 use Rattle.wb_explain_places.specs.Characters.{begins_character}
 use Rattle.wb_explain_places.specs.Inner.Ends.{IsLineStart}
@@ -16,7 +16,3 @@ pub record IsReached (text : List ℕ) (cursor : Cursor) : Type 0 where
   pub start : IsLineStart text cursor.at cursor.start
   pub line : cursor.line ≡ line_number text cursor.at
   pub column : cursor.column ≡ column_from text cursor.start cursor.at
-
--- the byte at the place
-abbrev pub IsByteAt : List ℕ → ℕ → ℕ → Type 0
-IsByteAt text at byte = slice_get text at ≡ Some byte

@@ -2,7 +2,8 @@
 
 ghost use Rattle.std.specs.Prelude.{◌≡◌, ◌≤◌, ◌<◌, ◌+◌, length};
 ghost use Rattle.wb_explain_places.specs.Characters.{begins_character, is_line_feed};
-ghost use Rattle.wb_explain_drawing.specs.Reached.{IsByteAt, IsReached};
+ghost use Rattle.wb_explain_drawing.specs.Inner.Bytes.{IsByteAt};
+ghost use Rattle.wb_explain_drawing.specs.Reached.{IsReached};
 
 /// A place of a text, and the numbers of its line and of its column, which count from 1. Columns count characters of UTF-8.
 #[derive(Clone, Copy)]

@@ -1,6 +1,6 @@
 //! How many levels of a tree are drawn? As many as there is room for: the nodes and leaves of each level are counted.
 
-ghost use Rattle.std.specs.Prelude.{◌<◌, ◌≤◌, length};
+ghost use Rattle.std.specs.Prelude.{◌<◌, length};
 
 use std::alloc::{AllocError, Global};
 use wb_values::{TreeId, TreeStore};

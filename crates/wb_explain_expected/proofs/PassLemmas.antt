@@ -1,5 +1,5 @@
 -- Bytes that are taken, or refused elsewhere, aren't refused at this place.
-use Rattle.std.proofs.Common.{◌≡◌, ◌≢◌, ◌+◌, ℕ, List, Bool, true, false, Result, Ok, Err, IfOk, MatchBool, length, subst}
+use Rattle.std.proofs.Common.{◌≡◌, ◌+◌, ℕ, List, Bool, true, false, Result, Ok, Err, IfOk, MatchBool, length, subst}
 use Rattle.wb_reader.specs.Refusals.{HasCause, IsAcceptedText}
 use Rattle.wb_reader.specs.declared.refusal.SpecRefusal.{SpecRefusal}
 use Rattle.wb_reader.specs.declared.refusal.SpecRefusal.TheVariants.{TooLong, WrongFormat, Syntax, BadRegex, MatchesEmpty, NoMemory}

@@ -1,6 +1,6 @@
 //! Can this token come after these bytes in a specification?
 
-ghost use Rattle.std.specs.Prelude.{◌≡◌, ◌++◌, ◌∷◌, [], ◌+◌, length, IfOk, OnOk, MatchBool, MatchOption};
+ghost use Rattle.std.specs.Prelude.{◌≡◌, ◌++◌, ◌∷◌, [], ◌+◌, IfOk, OnOk, MatchBool};
 ghost use Rattle.wb_reader.specs.Refusals.{HasCause};
 ghost use Rattle.wb_reader.specs.declared.refusal.SpecRefusal.{SpecRefusal};
 ghost use Rattle.wb_reader.specs.declared.refusal.SpecRefusal.TheVariants.{Syntax};

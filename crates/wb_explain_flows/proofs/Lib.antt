@@ -1,9 +1,4 @@
-mod TextLemmas
 mod ChainLemmas
-mod MissingLemmas
-mod LackLemmas
-mod HeldLemmas
 mod StepLemmas
 mod SaidLemmas
-mod AllLemmas
 mod ReadLemmas

@@ -2,9 +2,9 @@
 use Rattle.std.proofs.Common.{◌≡◌, ◌⊎◌, inl, inr, ℕ, List, subst}
 use Rattle.wb_explain_places.specs.declared.source.Source.{Source}
 use Rattle.wb_syntax_resolved.specs.declared.attribution.AttributionParts.{AttributionParts}
-use Rattle.wb_explain_flows.specs.Handed.{SaysHanded}
-use Rattle.wb_explain_flows.specs.Held.{SaysUnheld}
-use Rattle.wb_explain_flows.specs.Missing.{SaysMissing}
+use Rattle.wb_explain_flows_lists.specs.Handed.{SaysHanded}
+use Rattle.wb_explain_flows_lists.specs.Held.{SaysUnheld}
+use Rattle.wb_explain_flows_lists.specs.Missing.{SaysMissing}
 use Rattle.wb_explain_flows.specs.Reads.{SaysReads}
 use Rattle.wb_explain_flows.specs.Said.{SaysOf}
 use Rattle.wb_explain_flows.specs.Said as s

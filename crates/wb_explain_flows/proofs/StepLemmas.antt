@@ -1,5 +1,5 @@
 -- What is said of a step, and of a chain.
-use Rattle.std.proofs.Common.{◌≡◌, ◌++◌, ◌⊎◌, inl, inr, ◌∙◌, ℕ, List, Some, IfSome, refl, sym, subst, ap, append_assoc, Contains, slice_get, true}
+use Rattle.std.proofs.Common.{◌≡◌, ◌++◌, inl, inr, ◌∙◌, ℕ, List, Some, refl, subst, ap, append_assoc, Contains, slice_get}
 use lib.Chars.{codes}
 use Rattle.wb_explain_places.specs.Place.{Shows, place_lines}
 use Rattle.wb_explain_places.specs.declared.source.Source.{Source}
@@ -11,14 +11,16 @@ use Rattle.wb_syntax_resolved.specs.declared.equation.Equation.{Equation}
 use Rattle.wb_syntax_resolved.specs.declared.production.Local.{Local}
 use Rattle.wb_syntax_resolved.specs.declared.production.Production.{Production}
 use Rattle.wb_explain_flows.specs.declared.chain.Step.{Step}
-use Rattle.wb_explain_flows.specs.declared.rule.Rule.{Rule}
+use Rattle.wb_explain_flows_lists.specs.declared.rule.Rule.{Rule}
 use Rattle.wb_explain_flows.specs.Inner.Equations.{IsEquationAt, IsForwardAt, IsLocalAt}
 use Rattle.wb_explain_flows.specs.Chains.{IsChain, IsNeeded}
-use Rattle.wb_explain_flows.specs.Files.{IsPlaceText, text_of}
-use Rattle.wb_explain_flows.specs.Lists.{HasText, Lists}
-use Rattle.wb_explain_flows.specs.Reads.{IsReason, SaysReads, SaysReadsOr}
+use Rattle.wb_explain_flows_lists.specs.Files.{text_of}
+use Rattle.wb_explain_flows_lists.specs.Lists.{HasText, Lists}
+use Rattle.wb_explain_flows.specs.Inner.Either.{SaysChainOr, SaysReadsOr}
+use Rattle.wb_explain_flows.specs.Places.{IsPlaceText}
+use Rattle.wb_explain_flows.specs.Reads.{IsReason}
 use Rattle.wb_explain_flows.specs.Rules.{IsReadAt, by_equation, by_local, by_forward}
-use Rattle.wb_explain_flows.specs.Steps.{IsStepText, SaysChain, SaysChainOr, step_text, reads, needs}
+use Rattle.wb_explain_flows.specs.Steps.{IsStepText, step_text, reads, needs}
 
 -- the lines that show a place
 place_shown : (file text : List ℕ) (at : ℕ) (old new : List ℕ) → Shows file text at old new

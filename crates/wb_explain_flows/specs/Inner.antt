@@ -1,4 +1,4 @@
--- what each search adds
-pub mod Found
-pub mod Spots
+-- what each search for an equation finds
 pub mod Equations
+-- what is said of reads, or nothing
+pub mod Either

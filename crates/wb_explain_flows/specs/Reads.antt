@@ -1,5 +1,5 @@
 -- What is said where something needs what isn't in a flow type, or needs itself.
-use Rattle.std.specs.Prelude.{◌≡◌, ◌⊎◌, ℕ, List, Option, Some, None}
+use Rattle.std.specs.Prelude.{◌≡◌, ℕ, List, Option, Some, None}
 use Rattle.wb_complete.specs.ForwardRefusals.{HasForwardRead}
 use Rattle.wb_explain_places.specs.declared.source.Source.{Source}
 use Rattle.wb_flow.specs.Refusals.{HasReadOutside}
@@ -35,7 +35,3 @@ pub record SaysReads (source : Source) (a : AttributionParts) (old new : List �
   pub ends : Step
   pub reason : IsReason a number ends
   pub chain : SaysChain source a production ends old new
-
--- so it is, or nothing is said
-abbrev pub SaysReadsOr : Source → AttributionParts → List ℕ → List ℕ → Type 0
-SaysReadsOr source a old new = (new ≡ old) ⊎ SaysReads source a old new

@@ -1,5 +1,5 @@
 -- By which equation a vertex reads another, and where that equation is.
-use Rattle.std.specs.Prelude.{◌≡◌, ◌⊎◌, ℕ, List, Some, Contains, slice_get}
+use Rattle.std.specs.Prelude.{◌≡◌, ℕ, List, Some, Contains, slice_get}
 use Rattle.wb_flow.specs.Inner.Arrows.{read_by}
 use Rattle.wb_flow.specs.Rules.{target_of}
 use Rattle.wb_flow.specs.declared.vertex.Vertex.{Vertex}
@@ -9,7 +9,7 @@ use Rattle.wb_syntax_resolved.specs.declared.production.Forward.{Forward}
 use Rattle.wb_syntax_resolved.specs.declared.production.Local.{Local}
 use Rattle.wb_syntax_resolved.specs.declared.production.Production.{Production}
 use Rattle.wb_syntax_resolved.specs.Expression.{Node}
-use Rattle.wb_explain_flows.specs.declared.rule.Rule.{Rule}
+use Rattle.wb_explain_flows_lists.specs.declared.rule.Rule.{Rule}
 
 -- the expression of these nodes reads the vertex
 abbrev pub ReadsVertex : List Node → Vertex → Type 0

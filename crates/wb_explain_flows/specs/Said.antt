@@ -2,9 +2,9 @@
 use Rattle.std.specs.Prelude.{◌≡◌, ℕ, List}
 use Rattle.wb_explain_places.specs.declared.source.Source.{Source}
 use Rattle.wb_syntax_resolved.specs.declared.attribution.AttributionParts.{AttributionParts}
-use Rattle.wb_explain_flows.specs.Handed.{SaysHanded}
-use Rattle.wb_explain_flows.specs.Held.{SaysUnheld}
-use Rattle.wb_explain_flows.specs.Missing.{SaysMissing}
+use Rattle.wb_explain_flows_lists.specs.Handed.{SaysHanded}
+use Rattle.wb_explain_flows_lists.specs.Held.{SaysUnheld}
+use Rattle.wb_explain_flows_lists.specs.Missing.{SaysMissing}
 use Rattle.wb_explain_flows.specs.Reads.{SaysReads}
 
 -- of attributes it is said which equations of left sides are missing, which attributes aren't handed down, which flow types lack something,

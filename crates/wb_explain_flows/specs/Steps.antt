@@ -1,15 +1,16 @@
 -- What is said of a chain of reads.
-use Rattle.std.specs.Prelude.{◌≡◌, ◌++◌, ◌⊎◌, ℕ, List, Contains}
+use Rattle.std.specs.Prelude.{◌≡◌, ◌++◌, ℕ, List, Contains}
 use lib.Chars.{codes}
 use Rattle.wb_explain_places.specs.declared.source.Source.{Source}
 use Rattle.wb_syntax_resolved.specs.declared.attribution.AttributionParts.{AttributionParts}
 use Rattle.wb_syntax_resolved.specs.declared.production.Production.{Production}
 use Rattle.wb_explain_flows.specs.declared.chain.Step.{Step}
-use Rattle.wb_explain_flows.specs.declared.rule.Rule.{Rule}
+use Rattle.wb_explain_flows_lists.specs.declared.rule.Rule.{Rule}
 use Rattle.wb_explain_flows.specs.Chains.{IsChain, IsNeeded}
-use Rattle.wb_explain_flows.specs.Files.{IsPlaceText, text_of}
-use Rattle.wb_explain_flows.specs.Lists.{Lists}
-use Rattle.wb_explain_flows.specs.Names.{vertex_text}
+use Rattle.wb_explain_flows.specs.Places.{IsPlaceText}
+use Rattle.wb_explain_flows_lists.specs.Files.{text_of}
+use Rattle.wb_explain_flows_lists.specs.Lists.{Lists}
+use Rattle.wb_explain_flows_lists.specs.Names.{vertex_text}
 use Rattle.wb_explain_flows.specs.Rules.{IsReadAt}
 
 -- both ends of a step, with a word between them
@@ -28,7 +29,3 @@ pub record SaysChain (source : Source) (a : AttributionParts) (p : Production) (
   pub chain : IsChain ends.from ends.to steps
   pub needed : (step : Step) → Contains steps step → IsNeeded a p step
   pub lists : Lists (IsStepText source a p) steps old new
-
--- so it is, or nothing is said
-abbrev pub SaysChainOr : Source → AttributionParts → Production → Step → List ℕ → List ℕ → Type 0
-SaysChainOr source a p ends old new = (new ≡ old) ⊎ SaysChain source a p ends old new

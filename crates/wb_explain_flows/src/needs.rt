@@ -1,9 +1,9 @@
 //! Which flow type has to have an inherited attribute more, as a line to paste?
 
-use crate::names::{own_attribute, own_nonterminal};
-use crate::told::Told;
-use crate::writing::push_text;
 use std::alloc::{AllocError, Global};
+use wb_explain_flows_lists::names::{own_attribute, own_nonterminal};
+use wb_explain_flows_lists::told::Told;
+use wb_explain_flows_lists::writing::push_text;
 
 // The line of a flow type with an attribute more: that of an attribute on a nonterminal, or that of the nonterminal's forward.
 pub(crate) fn needs_line(

@@ -1,18 +1,19 @@
 //! What is said where something needs what isn't in a flow type, or needs itself?
 
-ghost use Rattle.std.specs.Prelude.{◌≡◌, ◌⊎◌, OnOk, Some, IfSome, Option, ℕ};
+ghost use Rattle.std.specs.Prelude.{◌≡◌, OnOk, Some, Option};
 ghost use Rattle.wb_complete.specs.ForwardRefusals.{HasForwardRead, IsTrueForwardRefusal};
 ghost use Rattle.wb_flow.specs.Occurrences.{IsIndexOf};
 ghost use Rattle.wb_flow.specs.Refusals.{HasReadOutside, IsTrueFlowRefusal};
 ghost use Rattle.wb_syntax_resolved.specs.Attribution.{IsAttribution};
-ghost use Rattle.wb_explain_flows.specs.Reads.{SaysReads, SaysReadsOr, source_vertex};
+ghost use Rattle.wb_explain_flows.specs.Inner.Either.{SaysReadsOr};
+ghost use Rattle.wb_explain_flows.specs.Reads.{source_vertex};
 
 use crate::chain::Step;
 use crate::needs::needs_line;
 use crate::steps::{Wanted, push_chain};
-use crate::told::Told;
 use std::alloc::{AllocError, Global};
 use wb_base::push;
+use wb_explain_flows_lists::told::Told;
 use wb_flow::{AttributeRefusal, Vertex};
 
 // Appends by which reads a production doesn't keep to a flow type, or goes round in a circle.

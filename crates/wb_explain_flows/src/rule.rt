@@ -2,20 +2,14 @@
 
 ghost use Rattle.std.specs.Prelude.{◌≡◌, Some, IfSome, true};
 ghost use Rattle.wb_flow.specs.Inner.Arrows.{read_by, label_read};
-ghost use Rattle.wb_flow.specs.Rules.{attribute_at, target_of};
+ghost use Rattle.wb_flow.specs.Rules.{target_of};
 ghost use Rattle.wb_explain_flows.specs.Inner.Equations.{IsEquationAt, IsForwardAt, IsLocalAt, IsMadeAt};
 ghost use Rattle.wb_explain_flows.specs.Rules.{IsReadAt, ReadsVertex};
 
 use crate::chain::same;
+use wb_explain_flows_lists::rule::{Rule, below};
 use wb_flow::Vertex;
 use wb_syntax_resolved::{Equation, Local, Node, Place, Production, Target};
-
-// Where an equation is: whose it is, and the place of its first token in that owner's file.
-#[derive(Clone, Copy)]
-pub(crate) struct Rule {
-    pub(crate) owner: usize,
-    pub(crate) offset: usize,
-}
 
 // The equation for one vertex, where it reads the other.
 pub(crate) fn rule_of(production: &Production, from: Vertex, to: Vertex) -> Option<Rule>
@@ -122,16 +116,6 @@ fn defined(target: Target) -> Vertex
         Target::Top(attribute) => Vertex::Top(attribute),
         Target::Place { place, attribute } => below(place, attribute),
         Target::Forward(attribute) => Vertex::Forward(attribute),
-    }
-}
-
-// An attribute of a child or local.
-pub(crate) fn below(place: Place, attribute: usize) -> Vertex
-    ensures { result ≡ attribute_at place attribute }
-{
-    match place {
-        Place::Child(child) => Vertex::Child(child, attribute),
-        Place::Local(local) => Vertex::Local(local, attribute),
     }
 }
 

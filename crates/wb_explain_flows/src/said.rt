@@ -1,18 +1,18 @@
 //! What is said of the attributes of a numbered value?
 
-ghost use Rattle.std.specs.Prelude.{◌≡◌, ◌⊎◌, OnOk};
+ghost use Rattle.std.specs.Prelude.{◌≡◌, OnOk};
 ghost use Rattle.wb_flow.specs.Occurrences.{IsIndexOf};
 ghost use Rattle.wb_syntax_resolved.specs.Attribution.{IsAttribution};
-ghost use Rattle.wb_explain_flows.specs.Reads.{SaysReadsOr};
+ghost use Rattle.wb_explain_flows.specs.Inner.Either.{SaysReadsOr};
 ghost use Rattle.wb_explain_flows.specs.Said.{SaysOf};
 
-use crate::handed::push_handed;
-use crate::held::push_unheld;
-use crate::missing::push_missing;
 use crate::reads::{push_flow_refusal, push_forward_refusal};
-use crate::told::Told;
 use std::alloc::{AllocError, Global};
 use wb_complete::check_forward;
+use wb_explain_flows_lists::handed::push_handed;
+use wb_explain_flows_lists::held::push_unheld;
+use wb_explain_flows_lists::missing::push_missing;
+use wb_explain_flows_lists::told::Told;
 use wb_explain_places::Source;
 use wb_flow::{AttributeRefusal, OccurrenceIndex, Scope, check_flow};
 use wb_syntax_resolved::{Attribution, Resolved};

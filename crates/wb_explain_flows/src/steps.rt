@@ -1,27 +1,25 @@
 //! What is said of a chain of reads? Each step, with the place of the equation that reads.
 
-ghost use Rattle.std.specs.Prelude.{◌≡◌, ◌≤◌, ◌<◌, ◌++◌, ◌⊎◌, Contains, OnOk, ℕ, length, slice_get, Some, take};
-ghost use lib.Chars.{codes};
+ghost use Rattle.std.specs.Prelude.{◌≡◌, ◌<◌, ◌++◌, Contains, OnOk, Some};
 ghost use Rattle.wb_flow.specs.Graphs.{IsFlowGraph};
 ghost use Rattle.wb_flow.specs.Occurrences.{IsIndexOf};
-ghost use Rattle.wb_flow_theory.specs.Modular.{IsProduction};
 ghost use Rattle.wb_syntax_resolved.specs.Attribution.{IsAttribution};
-ghost use Rattle.wb_explain_flows.specs.Lists.{HasText, HasTexts, Lists};
+ghost use Rattle.wb_explain_flows_lists.specs.Lists.{HasText, HasTexts, Lists};
 ghost use Rattle.wb_explain_flows.specs.Rules.{IsReadAt};
-ghost use Rattle.wb_explain_flows.specs.Steps.{IsStepText, SaysChainOr, step_text};
+ghost use Rattle.wb_explain_flows.specs.Inner.Either.{SaysChainOr};
+ghost use Rattle.wb_explain_flows.specs.Steps.{IsStepText, step_text};
 
 use crate::chain::{Step, chain_of, is_chain};
-use crate::files::{file_of, text_of};
-use crate::names::push_vertex;
-use crate::rule::{Rule, rule_of};
-use crate::told::Told;
+use crate::rule::rule_of;
 use std::alloc::{AllocError, Global};
+use wb_explain_flows_lists::files::{file_of, text_of};
+use wb_explain_flows_lists::lists::first_of;
+use wb_explain_flows_lists::names::push_vertex;
+use wb_explain_flows_lists::rule::Rule;
+use wb_explain_flows_lists::told::Told;
 use wb_explain_places::push_place;
 use wb_flow::{FlowGraph, Vertex, graph_of};
 use wb_syntax_resolved::{AttributionParts, Production};
-
-// The most steps that are shown.
-const MOST: usize = 40;
 
 // What is looked for: a chain from one vertex to another, and what is said after it. Steps that may be it are given, or none.
 #[derive(Clone, Copy)]
@@ -106,16 +104,6 @@ fn push_list(
     push_steps(out, told, production, first_of(steps))?;
     out.extend_from_slice(rest)?;
     Ok(())
-}
-
-// The first of these steps, so many as are shown.
-fn first_of(steps: &[Step]) -> &[Step]
-    ensures { result.now ≡ take 40 steps.now }
-{
-    if steps.len() <= MOST {
-        return steps;
-    }
-    &steps[..MOST]
 }
 
 // Appends each of these steps.

@@ -5,7 +5,8 @@ use Rattle.std.specs.List.{AllZip}
 use Rattle.std.proofs.lemmas.List.{take_more, take_all}
 use Rattle.wb_eval.specs.declared.machine.Key.{Key}
 use Rattle.wb_syntax_resolved.specs.declared.attribution.AttributionParts.{AttributionParts}
-use Rattle.wb_explain_instances.specs.Said.{HasLine, HasLines, IsLine, all_of}
+use Rattle.wb_explain_instances.specs.Inner.Lines.{HasLine}
+use Rattle.wb_explain_instances.specs.Said.{HasLines, IsLine, all_of}
 
 zip_push : {A B : Type 0} (R : A → B → Type 0) (xs : List A) (ys : List B) (x : A) (y : B) → AllZip R xs ys → R x y →
     AllZip R (xs ++ x ∷ []) (ys ++ y ∷ [])

@@ -4,3 +4,4 @@ pub mod Equations
 pub mod Said
 -- all that is said of them
 pub mod Ends
+pub mod Inner

@@ -28,11 +28,7 @@ abbrev pub all_of : List (List ℕ) → List ℕ
 all_of [] = []
 all_of (x ∷ xs) = x ++ all_of xs
 
--- after what was there comes such a line
-abbrev pub HasLine : AttributionParts → Key → List ℕ → List ℕ → Type 0
-HasLine a k old new = (line : List ℕ) × IsLine a k line × (new ≡ old ++ line)
-
--- after what was there comes one for each of these, in their order
+-- after what was there come such lines, one for each of these, in their order
 abbrev pub HasLines : AttributionParts → List Key → List ℕ → List ℕ → Type 0
 HasLines a keys old new = (lines : List (List ℕ)) × AllZip (IsLine a) keys lines × (new ≡ old ++ all_of lines)
 

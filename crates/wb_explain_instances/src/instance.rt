@@ -3,7 +3,8 @@
 ghost use Rattle.std.specs.Prelude.{◌≡◌, ◌++◌, [], OnOk, slice_get, slice_index_or};
 ghost use lib.Chars.{codes};
 ghost use Rattle.wb_syntax_resolved.specs.Owners.{printed_name};
-ghost use Rattle.wb_explain_instances.specs.Said.{HasLine, attribute_shown, subject};
+ghost use Rattle.wb_explain_instances.specs.Inner.Lines.{HasLine};
+ghost use Rattle.wb_explain_instances.specs.Said.{attribute_shown, subject};
 
 use crate::Shown;
 use crate::position::{made_above, origin_of, push_position};

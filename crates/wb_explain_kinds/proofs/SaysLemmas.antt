@@ -1,5 +1,5 @@
 -- What is said of the value that contents stand for is said of the contents.
-use Rattle.std.proofs.Common.{◌≡◌, inr, ℕ, List, Result, Ok, Err, OnOk, Some, None}
+use Rattle.std.proofs.Common.{inr, ℕ, List, Result, Ok, Err, OnOk, Some, None}
 use Rattle.wb_operations.specs.Operations.{OperationSignature}
 use Rattle.wb_syntax.specs.SpecText.{SpecView}
 use Rattle.wb_syntax_resolved.specs.declared.resolved.ResolvedParts.{ResolvedParts}

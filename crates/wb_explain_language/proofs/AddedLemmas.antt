@@ -3,13 +3,13 @@ use Rattle.std.proofs.Common.{◌≡◌, ◌++◌, ◌∷◌, [], ◌+◌, ◌<�
 use Rattle.std.proofs.lemmas.List.{take_more, take_all}
 use Rattle.std.specs.Prelude.{IfSome, OnOk}
 use Rattle.wb_lemmas.proofs.Parts.{take_to_end}
-use Rattle.wb_certify_files.specs.HostContents.{IsHostText}
-use Rattle.wb_certify_files.specs.Hosts.{CertifiedView}
+use Rattle.wb_compose_files.specs.HostContents.{IsHostText}
+use Rattle.wb_compose_files.specs.Hosts.{CertifiedView}
 use Rattle.wb_compose_files.specs.Certified.{CertifiedParts, Extends}
 use Rattle.wb_compose_files.specs.Extensions.{IsNextText}
 use Rattle.wb_compose_files.specs.Languages.{IsTextLanguage, TextLanguageParts}
 use Rattle.wb_compose_files.proofs.NextLemmas.{values_more}
-use Rattle.wb_compose_texts.specs.Unions.{all_resolved}
+use Rattle.wb_compose_files.specs.Unions.{all_resolved}
 use Rattle.wb_operations.specs.Operations.{OperationSignature}
 use Rattle.wb_syntax_resolved.specs.declared.resolved.ResolvedParts.{ResolvedParts}
 use Rattle.wb_explain_stops.specs.Said.{Says}

@@ -4,11 +4,12 @@ use Rattle.std.specs.Prelude.{OnOk}
 use Rattle.std.proofs.lemmas.List.Elements.{All-push}
 use lib.Chars.{codes}
 use Rattle.wb_compose_files.specs.Certified.{CertifiedParts}
-use Rattle.wb_compose_texts.specs.Roots.{IsRootAttribute}
-use Rattle.wb_compose_texts.specs.Unions.{all_resolved}
+use Rattle.wb_compose_files.specs.Roots.{IsRootAttribute}
+use Rattle.wb_compose_files.specs.Unions.{all_resolved}
 use Rattle.wb_explain_stops.specs.Said.{all_of}
 use Rattle.wb_operations.specs.Operations.{OperationSignature}
-use Rattle.wb_explain_language.specs.Asked.{AddsAsked, HasAsked, HasEnd, IsAskedLine, ListsAsked, SaysAsked}
+use Rattle.wb_explain_language.specs.Inner.Asked.{AddsAsked, HasAsked}
+use Rattle.wb_explain_language.specs.Asked.{HasEnd, IsAskedLine, ListsAsked, SaysAsked}
 use Rattle.wb_explain_language.specs.Languages.{AreCertifiedIn}
 
 -- what follows where it went well

@@ -2,8 +2,8 @@
 use Rattle.std.specs.Prelude.{◌≡◌, ◌⊎◌, ◌++◌, ℕ, List, All}
 use lib.Chars.{codes}
 use Rattle.wb_compose_files.specs.Certified.{CertifiedParts}
-use Rattle.wb_compose_texts.specs.Roots.{IsRootAttribute}
-use Rattle.wb_compose_texts.specs.Unions.{all_resolved}
+use Rattle.wb_compose_files.specs.Roots.{IsRootAttribute}
+use Rattle.wb_compose_files.specs.Unions.{all_resolved}
 use Rattle.wb_explain_stops.specs.Said.{all_of}
 use Rattle.wb_operations.specs.Operations.{OperationSignature}
 use Rattle.wb_explain_language.specs.Languages.{AreCertifiedIn}
@@ -19,14 +19,6 @@ module _ (c : CertifiedParts) where
     pub attribute : ℕ
     pub asked : IsRootAttribute c.host.resolved c.host.operations (all_resolved c.extensions) name attribute
     pub is : line ≡ codes "    " ++ name ++ codes "\n"
-
-  -- after what was there comes such a line, or nothing
-  abbrev pub AddsAsked : List ℕ → List ℕ → Type 0
-  AddsAsked old new = (new ≡ old) ⊎ ((line : List ℕ) × IsAskedLine line × (new ≡ old ++ line))
-
-  -- after what was there come such lines
-  abbrev pub HasAsked : List ℕ → List ℕ → Type 0
-  HasAsked old new = (lines : List (List ℕ)) × All IsAskedLine lines × (new ≡ old ++ all_of lines)
 
   -- after what was there come a heading, such lines, and that there are more, where there are
   pub record HasList (old new : List ℕ) : Type 0 where

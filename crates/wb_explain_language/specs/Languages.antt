@@ -1,10 +1,10 @@
 -- The language of a host's file and of extensions' files, and what is said of a text that stops in it.
 use Rattle.std.specs.Prelude.{◌≡◌, ◌⊎◌, ◌++◌, ◌∷◌, [], ℕ, List}
-use Rattle.wb_certify_files.specs.HostContents.{IsHostText}
+use Rattle.wb_compose_files.specs.HostContents.{IsHostText}
 use Rattle.wb_compose_files.specs.Certified.{CertifiedParts}
 use Rattle.wb_compose_files.specs.Extensions.{IsNextText}
 use Rattle.wb_compose_files.specs.Languages.{IsTextLanguage, TextLanguageParts}
-use Rattle.wb_compose_texts.specs.Unions.{all_resolved}
+use Rattle.wb_compose_files.specs.Unions.{all_resolved}
 use Rattle.wb_operations.specs.Operations.{OperationSignature}
 use Rattle.wb_syntax_resolved.specs.declared.resolved.ResolvedParts.{ResolvedParts}
 use Rattle.wb_explain_stops.specs.Said.{Says}

@@ -2,4 +2,6 @@
 pub mod Languages
 -- what is said of the attributes that can be asked
 pub mod Asked
+-- words of `wb_compose_files` that callers speak of
+pub use Rattle.wb_compose_files.specs.Languages as TextLanguages
 pub mod Inner

@@ -4,16 +4,16 @@
 
 ghost use Rattle.std.specs.Prelude.{◌≡◌, ◌++◌, IfOk, MatchOption, OnOk};
 ghost use lib.Chars.{codes};
-ghost use Rattle.wb_compose_texts.specs.Composed.{IsOfUnion};
-ghost use Rattle.wb_compose_texts.specs.Roots.{HasNoRootAttribute, IsRootAttribute};
-ghost use Rattle.wb_compose_texts.specs.Unions.{all_resolved};
-ghost use Rattle.wb_explain_language.specs.Asked.{AddsAsked, HasAsked, HasEnd, ListsAsked, SaysAsked};
+ghost use Rattle.wb_compose_files.specs.Composed.{IsOfUnion};
+ghost use Rattle.wb_compose_files.specs.Roots.{HasNoRootAttribute, IsRootAttribute};
+ghost use Rattle.wb_compose_files.specs.Unions.{all_resolved};
+ghost use Rattle.wb_explain_language.specs.Inner.Asked.{AddsAsked, HasAsked};
+ghost use Rattle.wb_explain_language.specs.Asked.{HasEnd, ListsAsked, SaysAsked};
 
 use crate::certified::certified_of;
 use std::alloc::{AllocError, Global};
 use wb_base::{Bytes, push};
-use wb_compose_files::Certified;
-use wb_compose_texts::{composed_attributes, root_attribute};
+use wb_compose_files::{Certified, composed_attributes, root_attribute};
 use wb_names_rows::signatures::printed;
 use wb_operations::{Meaning, OperationTable};
 use wb_syntax_resolved::{Attribution, AttributionParts, Direction};

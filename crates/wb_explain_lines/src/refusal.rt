@@ -4,8 +4,6 @@
 //! mend it.
 
 ghost use Rattle.std.specs.Prelude.{◌≤◌, length, IfSome};
-ghost use lib.Chars.{codes};
-ghost use Rattle.wb_explain_lines.specs.Lines.{ShowsNumber};
 
 use crate::advice::of_code;
 use crate::further::push_further;

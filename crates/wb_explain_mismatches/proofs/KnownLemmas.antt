@@ -1,5 +1,5 @@
 -- The kinds that are kept are those of the expressions, and a part of another kind than is wanted is one in the expression.
-use Rattle.std.proofs.Common.{◌≡◌, ◌≢◌, ◌⊎◌, inl, inr, ◌<◌, ◌+◌, ◌∷◌, ◌++◌, [], ℕ, zero, suc, List, Option, Some, None, IfSome, length, slice_get, refl, sym, ap, subst}
+use Rattle.std.proofs.Common.{◌≡◌, inl, inr, ◌<◌, ◌+◌, ◌∷◌, ◌++◌, [], ℕ, suc, List, Option, Some, None, IfSome, length, slice_get, refl, sym, ap, subst}
 use Rattle.std.proofs.Common.{◌∙◌, arith, length-append}
 use Rattle.std.proofs.Math.Decide.{dec_lt}
 use Rattle.std.proofs.lemmas.Option.{slice_get_within}
@@ -8,19 +8,19 @@ use Rattle.wb_base.specs.declared.symbol.Kind.{Kind}
 use Rattle.wb_base.specs.declared.symbol.Kind.TheVariants as kind
 use Rattle.wb_syntax_expressions.specs.declared.node.Node.TheVariants as n
 use Rattle.wb_syntax_expressions.specs.Expression as x
-use Rattle.wb_syntax_expressions.specs.Places.{HasNode, Stands, AllStand, parts_of}
+use Rattle.wb_syntax_expressions.specs.Places.{HasNode, AllStand}
 use Rattle.wb_syntax_expressions.specs.Places as p
 use Rattle.wb_operations.specs.Operations.{OperationSignature}
 use Rattle.wb_syntax_resolved.specs.declared.attribution.AttributionParts.{AttributionParts}
 use Rattle.wb_syntax_resolved.specs.declared.production.Production.{Production}
-use Rattle.wb_syntax_resolved.specs.Expression.{Expression, Expressions, Node}
+use Rattle.wb_syntax_resolved.specs.Expression.{Expressions, Node}
 use Rattle.wb_types.specs.Kinds.{HasKind, HaveKinds}
 use Rattle.wb_types.specs.Kinds as k
 use Rattle.wb_explain_mismatches.specs.declared.wrong.Wrong.{Wrong}
 use Rattle.wb_explain_mismatches.specs.declared.wrong.Finding.{Finding}
 use Rattle.wb_explain_mismatches.specs.declared.wrong.Finding.TheVariants as f
-use Rattle.wb_explain_mismatches.specs.Wrong.{IsKindAt, IsWrongPart, IsWrongWhole, Wants}
-use Rattle.wb_explain_mismatches.specs.Inner.Known.{AreAt, AreKnown, IsFinding, IsLastFound, IsOtherIn, IsOtherLast, NodeKind}
+use Rattle.wb_explain_mismatches.specs.Wrong.{IsKindAt, IsWrongPart, Wants}
+use Rattle.wb_explain_mismatches.specs.Inner.Known.{AreAt, AreKnown, IsFinding, IsLastFound, IsOtherIn, NodeKind}
 
 module _ (a : AttributionParts) (operations : List OperationSignature) (production : Production) (nodes : List Node) where
   -- expressions at places, of kinds

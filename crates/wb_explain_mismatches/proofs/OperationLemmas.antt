@@ -1,5 +1,5 @@
 -- What a production has and an operation takes and gives.
-use Rattle.std.proofs.Common.{◌≡◌, ◌<◌, ℕ, List, Some, length, slice_get, IfSome, sym, ap, subst, ◌∙◌, ◌∷◌, []}
+use Rattle.std.proofs.Common.{◌≡◌, ◌<◌, ℕ, List, length, slice_get, IfSome, sym, ap, subst, ◌∙◌, ◌∷◌, []}
 use Rattle.wb_lemmas.proofs.Places.{at_within}
 use Rattle.wb_base.specs.declared.symbol.Kind.{Kind}
 use Rattle.wb_base.specs.declared.symbol.Kind.TheVariants as kind

@@ -1,8 +1,7 @@
 -- What is said of what is found.
-use Rattle.std.proofs.Common.{◌≡◌, ◌⊎◌, inl, inr, ◌++◌, ◌∷◌, [], ℕ, List, Result, Ok, Err, OnOk, Contains, refl, sym, ap, subst, ◌∙◌, append_assoc}
+use Rattle.std.proofs.Common.{◌≡◌, ◌⊎◌, inl, inr, ◌++◌, [], ℕ, List, Result, Ok, Err, OnOk, Contains, ap, ◌∙◌, append_assoc}
 use Rattle.wb_base.specs.declared.symbol.Kind.{Kind}
 use Rattle.wb_operations.specs.Operations.{OperationSignature}
-use Rattle.wb_syntax_expressions.specs.Places.{HasNode}
 use Rattle.wb_syntax_resolved.specs.declared.attribution.AttributionParts.{AttributionParts}
 use Rattle.wb_syntax_resolved.specs.declared.production.Production.{Production}
 use Rattle.wb_syntax_resolved.specs.Expression.{Node}
@@ -11,7 +10,7 @@ use Rattle.wb_types.specs.Refusals.{ExpressionAt}
 use Rattle.wb_explain_mismatches.specs.declared.step.Step.{Step}
 use Rattle.wb_explain_mismatches.specs.Steps.{Leads}
 use Rattle.wb_explain_mismatches.specs.Wrong.{IsWrongCount, IsWrongPart, IsWrongWhole}
-use Rattle.wb_explain_mismatches.specs.Said.{IsSaid, SaysCount, count_said, mismatch_said, part_said, steps_said, whole_said}
+use Rattle.wb_explain_mismatches.specs.Said.{IsSaid, count_said, mismatch_said, part_said, steps_said, whole_said}
 use Rattle.wb_explain_mismatches.specs.Inner.Saying.{CountIsSaid, Grows, MayBeSaid, MaySayCount, MaySayKind}
 
 -- what follows from what is so where it went well

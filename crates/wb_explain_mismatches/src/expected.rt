@@ -1,6 +1,6 @@
 //! Which expression has its equation at an offset of a file, and of which kind has it to be?
 
-ghost use Rattle.std.specs.Prelude.{◌≡◌, Some, IfSome, Contains};
+ghost use Rattle.std.specs.Prelude.{Some, IfSome};
 ghost use Rattle.wb_base.specs.declared.symbol.Kind.{Kind};
 ghost use Rattle.wb_types.specs.Expected.{attribute_of};
 ghost use Rattle.wb_types.specs.Kinds.{IsAttributeKind};

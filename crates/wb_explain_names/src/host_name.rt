@@ -1,10 +1,10 @@
 //! What is said of an extension that is for another host?
 
-use crate::mention::Mention;
-use crate::role::Role;
-use crate::script::{Script, say, say_around, show_own};
-use crate::side::{Side, Sides, name_of};
 use std::alloc::AllocError;
+use wb_explain_names_roles::mention::Mention;
+use wb_explain_names_roles::role::Role;
+use wb_explain_names_roles::script::{Script, say, say_around, show_own};
+use wb_explain_names_roles::side::{Side, Sides, name_of};
 
 // Appends what is said of it.
 pub(crate) fn say_host_name(script: &mut Script, sides: &Sides<'_>) -> Result<(), AllocError> {

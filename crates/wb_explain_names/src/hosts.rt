@@ -1,12 +1,12 @@
 //! What is said of a name of which an extension says what only its host may say?
 
-use crate::declared::{declared_in, has_role, label_of, occurs_in, tree_of};
-use crate::mention::Mention;
-use crate::role::{Role, is_given};
-use crate::script::{Script, say, say_around, show_own};
-use crate::side::{Sides, name_of, owner_of, text_after, text_before};
 use crate::twice::say_of_host;
 use std::alloc::AllocError;
+use wb_explain_names_roles::declared::{declared_in, has_role, label_of, occurs_in, tree_of};
+use wb_explain_names_roles::mention::Mention;
+use wb_explain_names_roles::role::{Role, is_given};
+use wb_explain_names_roles::script::{Script, say, say_around, show_own};
+use wb_explain_names_roles::side::{Sides, name_of, owner_of, text_after, text_at, text_before};
 
 // The most uses of a name that are looked at.
 const MOST: usize = 300;
@@ -57,12 +57,17 @@ fn hosts_of(sides: &Sides<'_>, mention: Mention) -> Hosts {
         Role::Start => Hosts::Start,
         Role::Extensible => Hosts::Extensible,
         Role::Closed => Hosts::Closed,
-        Role::Ignore => Hosts::Layout,
+        Role::Ignore => unless(is_of_format_2(sides), Hosts::Layout),
         Role::ForwardOn => unless(is_own(sides, sides.name), Hosts::Forwards),
         Role::Occurring => of_occurrence(sides, text_after(&sides.own, mention, 2)),
         Role::Preferred => of_preference(sides, text_after(&sides.own, mention, 2)),
         _ => unless(!is_of_host(sides, mention), Hosts::Equation),
     }
+}
+
+// Whether the file is of format 2, in which an extension has layout of its own. The number of a file's format is its second token.
+fn is_of_format_2(sides: &Sides<'_>) -> bool {
+    text_at(&sides.own, 1).ends_with("2".as_bytes())
 }
 
 // Nothing, where the extension may say it.
@@ -145,7 +150,7 @@ fn words_of(hosts: Hosts) -> &'static str {
         Hosts::Start => "Only the host names the start",
         Hosts::Extensible => "Only the host says what is extensible",
         Hosts::Closed => "Only the host says what is closed",
-        Hosts::Layout => "Only the host declares layout",
+        Hosts::Layout => "In a file of format 1 only the host declares layout",
         Hosts::Forwards => {
             "Only the host says what forwards of a nonterminal of the host may read"
         }
@@ -197,6 +202,10 @@ fn say_mending(script: &mut Script, hosts: Hosts) -> Result<(), AllocError> {
         Hosts::OnClosed => say(
             script,
             "\nLet it occur on a nonterminal that isn't closed, or change the host.\n",
+        ),
+        Hosts::Layout => say(
+            script,
+            "\nBegin the file with  format 2; , by which an extension has layout of its own.\n",
         ),
         Hosts::Preference => say(
             script,

@@ -1,14 +1,14 @@
 //! What is said of a name that is of another kind than its place asks for?
 
-use crate::declared::{declared, forward_count, kind_name, label_of};
-use crate::mention::{Mention, after};
-use crate::role::{
-    Role, Wanted, declared_words, is_label_use, suits, wanted_by, wanted_words, wants_attribute,
-};
-use crate::script::{Script, say, say_around, show_own};
-use crate::side::{Found, Sides, name_of, owner_of};
 use crate::unknown::say_line;
 use std::alloc::AllocError;
+use wb_explain_names_roles::declared::{declared, forward_count, kind_name, label_of};
+use wb_explain_names_roles::mention::{Mention, after};
+use wb_explain_names_roles::role::{
+    Role, Wanted, declared_words, is_label_use, suits, wanted_by, wanted_words, wants_attribute,
+};
+use wb_explain_names_roles::script::{Script, say, say_around, show_own};
+use wb_explain_names_roles::side::{Found, Sides, name_of, owner_of};
 use wb_text_tokens::{TokenKind, Word};
 
 // The most uses of a name that are looked at.

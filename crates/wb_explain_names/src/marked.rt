@@ -1,12 +1,12 @@
 //! What is said of a production or a marker of an extension, where a production doesn't begin with its marker?
 
-use crate::declared::{declared, declared_in, has_role};
-use crate::lists::{Listing, say_list};
-use crate::mention::Mention;
-use crate::role::{Role, is_production};
-use crate::script::{Script, say, say_around, show_own};
-use crate::side::{Sides, name_of, owner_of, text_after, text_at};
 use std::alloc::AllocError;
+use wb_explain_names_roles::declared::{declared, declared_in, has_role};
+use wb_explain_names_roles::lists::{Listing, say_list};
+use wb_explain_names_roles::mention::Mention;
+use wb_explain_names_roles::role::{Role, is_production};
+use wb_explain_names_roles::script::{Script, say, say_around, show_own};
+use wb_explain_names_roles::side::{Sides, name_of, owner_of, text_after, text_at};
 
 // The most places that are shown.
 const MOST: usize = 4;

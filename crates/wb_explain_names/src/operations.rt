@@ -1,12 +1,12 @@
 //! What is said of an operation that isn't there?
 
-use crate::lists::{EMPTY, end_list, list_name};
-use crate::mention::Mention;
-use crate::near::is_near;
-use crate::role::Role;
-use crate::script::{Script, say, say_around, show_own};
-use crate::side::{Sides, name_of};
 use std::alloc::AllocError;
+use wb_explain_names_roles::lists::{empty_list, end_list, list_name};
+use wb_explain_names_roles::mention::Mention;
+use wb_explain_names_roles::near::is_near;
+use wb_explain_names_roles::role::Role;
+use wb_explain_names_roles::script::{Script, say, say_around, show_own};
+use wb_explain_names_roles::side::{Sides, name_of};
 use wb_operations::OperationSignatures;
 
 // Appends what is said of an operation of the name, where the file has one that isn't there.
@@ -56,7 +56,7 @@ fn say_near_operation(
 
 // Appends the names of all operations.
 fn say_operations(script: &mut Script, operations: &OperationSignatures) -> Result<(), AllocError> {
-    let mut line = EMPTY;
+    let mut line = empty_list();
     'operations: for number in 0..operations.len() {
         line = list_name(script, line, "\nThe operations: ", operations.name(number))?;
     }

@@ -1,6 +1,6 @@
 //! What is said of a name for which a specification is refused? It is put together, and shown.
 
-ghost use Rattle.std.specs.Prelude.{◌≡◌, [], IfOk, OnOk, MatchOption};
+ghost use Rattle.std.specs.Prelude.{[], IfOk, OnOk, MatchOption};
 ghost use lib.Chars.{codes};
 ghost use Rattle.wb_explain_names.specs.Said.{Says};
 ghost use Rattle.wb_explain_names.specs.Inner.Shown.{AreOf};
@@ -9,13 +9,13 @@ use crate::host_name::say_host_name;
 use crate::hosts::say_hosts;
 use crate::kinds::say_kinds;
 use crate::marked::{say_marker, say_not_extensible, say_unmarked};
-use crate::mention::mentions_of;
-use crate::script::{Script, nothing};
 use crate::show::push_script;
-use crate::side::{Side, Sides};
 use crate::twice::say_twice;
 use crate::unknown::say_unknown;
 use std::alloc::{AllocError, Global};
+use wb_explain_names_roles::mention::mentions_of;
+use wb_explain_names_roles::script::{Script, nothing};
+use wb_explain_names_roles::side::{Side, Sides};
 use wb_explain_places::Source;
 use wb_operations::OperationSignatures;
 use wb_reader_places::{TokenPlace, dialect_of, tokens_of};

@@ -8,9 +8,9 @@ ghost use Rattle.wb_explain_places.specs.Place.{Shows};
 ghost use Rattle.wb_explain_names.specs.Said.{Says, SaysWords, without_caret};
 ghost use Rattle.wb_explain_names.specs.Inner.Shown.{AreOf, IsNameToken, IsTokenOf, MayShow};
 
-use crate::script::Shown;
-use crate::side::{Side, Sides};
 use std::alloc::AllocError;
+use wb_explain_names_roles::script::Shown;
+use wb_explain_names_roles::side::{Side, Sides};
 use wb_explain_places::push_place;
 use wb_reader_places::TokenPlace;
 use wb_text_tokens::TokenKind;

@@ -1,13 +1,17 @@
 //! What is said of a name that is declared twice?
 
-use crate::declared::{declared_in_host, forward_count};
-use crate::mention::Mention;
-use crate::role::{Role, is_attribute, is_given, is_label, is_production, is_symbol};
-use crate::script::{Script, say, say_around, say_name, say_number, show_found, show_own};
-use crate::side::{
+use std::alloc::AllocError;
+use wb_explain_names_roles::declared::{declared_in_host, forward_count};
+use wb_explain_names_roles::mention::Mention;
+use wb_explain_names_roles::role::{
+    Role, is_attribute, is_given, is_label, is_production, is_symbol,
+};
+use wb_explain_names_roles::script::{
+    Script, say, say_around, say_name, say_number, show_found, show_own,
+};
+use wb_explain_names_roles::side::{
     Found, Side, Sides, line_of, name_of, owner_of, side_of, text_after, text_before,
 };
-use std::alloc::AllocError;
 
 // The most declarations of a name that are looked at.
 const MOST: usize = 300;

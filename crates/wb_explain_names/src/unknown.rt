@@ -1,16 +1,16 @@
 //! What is said of a name that isn't declared where it is used?
 
-use crate::declared::{declared, declared_in};
-use crate::lists::{Listing, say_list, say_near};
-use crate::mention::Mention;
 use crate::operations::say_operation;
-use crate::reasons::{Reason, Wrong, nonterminal_of, wrong_from};
-use crate::role::{
+use std::alloc::AllocError;
+use wb_explain_names_roles::declared::{declared, declared_in};
+use wb_explain_names_roles::lists::{Listing, say_list, say_near};
+use wb_explain_names_roles::mention::Mention;
+use wb_explain_names_roles::reasons::{Reason, Wrong, nonterminal_of, wrong_from};
+use wb_explain_names_roles::role::{
     Role, Wanted, declared_words, is_attribute, wanted_by, wanted_words, wants_attribute,
 };
-use crate::script::{Script, say, say_around, say_name, say_number, show_own};
-use crate::side::{Found, Sides, line_of, owner_of, side_of, text_before};
-use std::alloc::AllocError;
+use wb_explain_names_roles::script::{Script, say, say_around, say_name, say_number, show_own};
+use wb_explain_names_roles::side::{Found, Sides, line_of, owner_of, side_of, text_before};
 use wb_operations::OperationSignatures;
 use wb_text_tokens::Word;
 

@@ -1,5 +1,5 @@
 -- The lines that show a place, from their parts.
-use Rattle.std.proofs.Common.{◌≡◌, ◌≢◌, ◌+◌, ◌≤◌, ◌<◌, ◌∙◌, ℕ, List, ◌++◌, length, slice_index, slice_range, ap, ◌⊎◌, arith, inl, inr, Result, Ok, Err, OnOk}
+use Rattle.std.proofs.Common.{◌≡◌, ◌≢◌, ◌+◌, ◌≤◌, ◌<◌, ◌∙◌, ℕ, List, ◌++◌, slice_index, slice_range, ap, ◌⊎◌, inl, inr, Result, Ok, Err, OnOk}
 use Rattle.std.proofs.lemmas.Bool.{cases_lt}
 use Rattle.wb_lemmas.proofs.Parts.{append_assoc}
 use Rattle.wb_explain_places.specs.Inner.Ends.{IsLineEnd, IsLineStart}

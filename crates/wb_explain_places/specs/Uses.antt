@@ -1,5 +1,5 @@
 -- Where a name is in a text, as a word of its own.
-use Rattle.std.specs.Prelude.{◌≡◌, ◌⊎◌, ◌-◌, ℕ, List, [], ◌++◌, drop, false, length, slice_index}
+use Rattle.std.specs.Prelude.{◌≡◌, ◌⊎◌, ◌-◌, ℕ, List, ◌++◌, drop, false, length, slice_index}
 use Rattle.wb_base.specs.Identifiers.{is_name_byte}
 
 -- a name can begin at this place: it is the first, or the byte before it is in no name

@@ -1,6 +1,6 @@
 //! Where does the line of a place begin, and where does it end?
 
-ghost use Rattle.std.specs.Prelude.{◌≡◌, ◌≤◌, length};
+ghost use Rattle.std.specs.Prelude.{◌≤◌, length};
 ghost use Rattle.wb_explain_places.specs.Inner.Ends.{IsLineEnd, IsLineStart};
 
 // Where the line begins.

@@ -1,8 +1,7 @@
 //! Which lines show a place?
 
-ghost use Rattle.std.specs.Prelude.{◌≡◌, ◌≤◌, ◌++◌, ℕ, length, replicate, OnOk};
+ghost use Rattle.std.specs.Prelude.{◌≡◌, ◌≤◌, ◌++◌, length, replicate, OnOk};
 ghost use Rattle.std.specs.Fmt.{decimal};
-ghost use lib.Chars.{codes};
 ghost use Rattle.wb_explain_places.specs.Place.{heading, pointed, Shows};
 
 use crate::characters::{characters, line_feeds};

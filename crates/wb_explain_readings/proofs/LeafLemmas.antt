@@ -1,5 +1,5 @@
 -- The terminals of what is written are those of the tree.
-use Rattle.std.proofs.Common.{◌≡◌, ◌≢◌, ℕ, Bool, true, false, List, [], ◌∷◌, ◌++◌, take, drop, not, refl, sym, ◌∙◌, ap, subst, append_assoc, take-append-drop}
+use Rattle.std.proofs.Common.{◌≡◌, ◌≢◌, ℕ, Bool, true, false, List, [], ◌∷◌, ◌++◌, take, drop, not, refl, sym, ◌∙◌, ap, subst, take-append-drop}
 use Rattle.wb_base.specs.Grammar.{GrammarView}
 use Rattle.wb_grammar_theory.specs.Trees.{DerivationTree, Forest, nothing, leaf, node}
 use Rattle.wb_explain_readings.specs.declared.found.Found.{Found}

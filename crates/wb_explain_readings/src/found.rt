@@ -1,6 +1,6 @@
 //! What is found of a conflict, and shown only where it was read once more.
 
-ghost use Rattle.std.specs.Prelude.{◌≡◌, true, IfOk, IfSome};
+ghost use Rattle.std.specs.Prelude.{◌≡◌, true, IfOk};
 ghost use Rattle.wb_explain_readings.specs.Readings.{AreReadings};
 
 use crate::Piece;

@@ -3,7 +3,7 @@
 //! It is read from right to left: a closing bracket begins a list of roots, and a production is put in the place of the list that is its
 //! right side.
 
-ghost use Rattle.std.specs.Prelude.{◌≡◌, ◌<◌, ◌++◌, ◌∷◌, [], IfOk, IfSome, List, None, Option, Some, length, map, slice_get, take, true};
+ghost use Rattle.std.specs.Prelude.{◌≡◌, ◌<◌, ◌++◌, ◌∷◌, [], IfOk, IfSome, List, None, Option, Some, length, map, slice_get, true};
 ghost use Rattle.wb_base.specs.declared.symbol.Symbol.{Symbol as Sign};
 ghost use Rattle.wb_base.specs.declared.symbol.Symbol.TheVariants as s;
 ghost use Rattle.wb_explain_readings.specs.declared.piece.Piece.{Piece as Part};

@@ -1,7 +1,7 @@
 -- A picture that is there.
-use Rattle.std.proofs.Common.{◌≡◌, ◌≢◌, ◌⊎◌, inl, inr, ◌∙◌, ℕ, List, [], Result, Ok, Err, IfOk, OnOk, subst}
+use Rattle.std.proofs.Common.{◌≡◌, ◌≢◌, inl, inr, ◌∙◌, ℕ, List, [], Result, Ok, Err, IfOk, OnOk, subst}
 use Rattle.wb_values.specs.Signature.{Signature}
-use Rattle.wb_compose_files.specs.Languages.{TextLanguageParts}
+use Rattle.wb_explain_language.specs.TextLanguages.{TextLanguageParts}
 use Rattle.wb_scan.specs.Views.{LanguageParts}
 use Rattle.wb_explain_language.specs.Languages.{IsLanguageIn}
 use Rattle.wb_explain_trees.specs.Lines.{SaysTree}

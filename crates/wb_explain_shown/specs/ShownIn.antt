@@ -1,6 +1,6 @@
 -- What is shown of the tree of a text in the language of files.
 use Rattle.std.specs.Prelude.{◌≡◌, ◌⊎◌, ℕ, List}
-use Rattle.wb_compose_files.specs.Languages.{TextLanguageParts}
+use Rattle.wb_explain_language.specs.TextLanguages.{TextLanguageParts}
 use Rattle.wb_operations.specs.Operations.{OperationSignature}
 use Rattle.wb_explain_language.specs.Languages.{IsLanguageIn}
 use Rattle.wb_explain_trees.specs.Lines.{SaysTree}

@@ -1,6 +1,6 @@
 //! What is shown after a run of `tree` that comes to its end? The files that its words name are read once more.
 
-ghost use Rattle.std.specs.Prelude.{◌≡◌, ◌⊎◌, [], IfOk, IfSome, OnOk};
+ghost use Rattle.std.specs.Prelude.{◌≡◌, ◌⊎◌, [], IfOk, OnOk};
 ghost use Rattle.wb_explain_lines.specs.Outside.{outside, Keeps};
 ghost use Rattle.wb_explain_drawing.specs.Pictures.{AddsPicture};
 ghost use Rattle.wb_explain_shown.specs.Asking.{AsksTree};

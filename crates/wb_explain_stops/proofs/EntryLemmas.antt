@@ -3,7 +3,8 @@ use Rattle.std.proofs.Common.{◌≡◌, ◌<◌, ◌≤◌, ◌+◌, ◌++◌, 
 use Rattle.std.specs.List.{AllZip}
 use Rattle.std.proofs.lemmas.List.{take_more, take_all}
 use lib.Chars.{codes}
-use Rattle.wb_explain_stops.specs.Said.{HasEntries, HasEntry, IsEntry, Lists, all_of}
+use Rattle.wb_explain_stops.specs.Inner.Entries.{HasEntries, HasEntry}
+use Rattle.wb_explain_stops.specs.Said.{IsEntry, Lists, all_of}
 
 zip_push : {A B : Type 0} (R : A → B → Type 0) (xs : List A) (ys : List B) (x : A) (y : B) → AllZip R xs ys → R x y →
     AllZip R (xs ++ x ∷ []) (ys ++ y ∷ [])

@@ -1,2 +1,3 @@
 -- what is said of a stop
 pub mod Said
+pub mod Inner

@@ -22,15 +22,6 @@ abbrev pub all_of : List (List ℕ) → List ℕ
 all_of [] = []
 all_of (x ∷ xs) = x ++ all_of xs
 
--- after what was there comes such a line
-abbrev pub HasEntry : List (List ℕ) → ℕ → List ℕ → List ℕ → Type 0
-HasEntry names t old new = (entry : List ℕ) × IsEntry names t entry × (new ≡ old ++ entry)
-
--- after what was there comes one for each of these terminals, in their order
-abbrev pub HasEntries : List (List ℕ) → List ℕ → List ℕ → List ℕ → Type 0
-HasEntries names terminals old new =
-    (entries : List (List ℕ)) × AllZip (IsEntry names) terminals entries × (new ≡ old ++ all_of entries)
-
 -- after what was there come lines that name the first 40 of these terminals, in their order, and further ones
 pub record Lists (names : List (List ℕ)) (terminals : List ℕ) (old new : List ℕ) : Type 0 where
   pub entries : List (List ℕ)

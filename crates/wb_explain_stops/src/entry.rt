@@ -2,7 +2,8 @@
 
 ghost use Rattle.std.specs.Prelude.{◌≡◌, ◌++◌, OnOk, slice_get};
 ghost use lib.Chars.{codes};
-ghost use Rattle.wb_explain_stops.specs.Said.{HasEntries, HasEntry, or_end};
+ghost use Rattle.wb_explain_stops.specs.Inner.Entries.{HasEntries, HasEntry};
+ghost use Rattle.wb_explain_stops.specs.Said.{or_end};
 
 use crate::writing::push_text;
 use crate::written::expression_of;

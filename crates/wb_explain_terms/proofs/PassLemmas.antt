@@ -1,5 +1,5 @@
 -- Bytes that are a term, or refused elsewhere, aren't refused at this place.
-use Rattle.std.proofs.Common.{◌≡◌, ◌≢◌, ◌+◌, ℕ, List, Bool, true, false, Option, Result, Ok, Err, IfOk, IfSome, MatchBool, length, subst}
+use Rattle.std.proofs.Common.{◌≡◌, ◌+◌, ℕ, List, Bool, true, false, Result, Ok, Err, IfOk, IfSome, MatchBool, length, subst}
 use Rattle.wb_values.specs.Signature.{Signature}
 use Rattle.wb_values.specs.Tree.{Tree}
 use Rattle.wb_terms.specs.TermText.{IsFirstFault}

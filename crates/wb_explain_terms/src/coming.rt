@@ -1,6 +1,6 @@
 //! Can this token come after these bytes in a term?
 
-ghost use Rattle.std.specs.Prelude.{◌≡◌, ◌++◌, ◌∷◌, [], ◌+◌, length, IfOk, OnOk, MatchBool};
+ghost use Rattle.std.specs.Prelude.{◌≡◌, ◌++◌, ◌∷◌, [], ◌+◌, IfOk, OnOk, MatchBool};
 ghost use Rattle.wb_terms.specs.TermText.{IsFirstFault};
 ghost use Rattle.wb_terms.specs.declared.refusal.TermRefusal.TheVariants.{Bad};
 ghost use Rattle.wb_explain_terms.specs.Expected.{CannotCome, with_token};

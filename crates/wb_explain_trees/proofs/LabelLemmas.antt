@@ -1,11 +1,10 @@
 -- What is shown of a node or a leaf, from its parts.
-use Rattle.std.proofs.Common.{◌≡◌, ◌≤◌, ◌<◌, ◌∙◌, ◌⊎◌, inl, inr, ℕ, List, Option, Some, None, ap, sym, arith, length, get_or, slice_get}
+use Rattle.std.proofs.Common.{◌≡◌, ◌≤◌, ◌<◌, ◌∙◌, ◌⊎◌, inl, inr, ℕ, List, Some, None, ap, sym, arith, length, get_or, slice_get}
 use Rattle.std.proofs.lemmas.Option.{slice_get_cases}
 use Rattle.wb_session.specs.declared.place.LeafPlace.{LeafPlace}
 use Rattle.wb_explain_drawing.specs.Reached.{IsReached}
 use Rattle.wb_explain_drawing.specs.declared.cursor.Cursor.{Cursor}
 use Rattle.wb_explain_drawing.specs.declared.items.Item.{Item}
-use Rattle.wb_explain_drawing.specs.declared.items.Part.{Part}
 use Rattle.wb_explain_trees.specs.Labels.{IsLabel, IsNameOf, View, begin_at, begin_or}
 
 -- where a leaf begins that is there

@@ -1,7 +1,6 @@
 -- The lines of a tree, from their parts.
-use Rattle.std.proofs.Common.{◌≡◌, ◌≤◌, ◌<◌, ◌+◌, ◌∙◌, ◌⊎◌, inl, inr, ◌++◌, ◌∷◌, [], ℕ, Bool, List, ap, sym, refl, subst, append_assoc, length, take}
+use Rattle.std.proofs.Common.{◌≡◌, ◌+◌, inr, ◌++◌, ℕ, Bool, List, refl, take}
 use lib.Chars.{codes}
-use Rattle.std.proofs.lemmas.List.{take_all}
 use Rattle.wb_values.specs.Signature.{Signature}
 use Rattle.wb_session.specs.Sessions.{SessionView}
 use Rattle.wb_values.specs.ValuesIn.{tree_in}
@@ -10,8 +9,9 @@ use Rattle.wb_explain_drawing.specs.Listings.{IsListing}
 use Rattle.wb_explain_drawing.specs.Pushed.{Pushes}
 use Rattle.wb_explain_drawing.specs.declared.cursor.Cursor.{Cursor}
 use Rattle.wb_explain_drawing.specs.declared.items.Item.{Item}
-use Rattle.wb_explain_trees.specs.Labels.{IsLabel, IsRead, View, view_of}
-use Rattle.wb_explain_trees.specs.Lines.{HasLine, HasLines, IsLine, ListsItems, SaysTree, place_text}
+use Rattle.wb_explain_trees.specs.Inner.Sessions.{HasLine, view_of}
+use Rattle.wb_explain_trees.specs.Labels.{IsLabel, IsRead, View}
+use Rattle.wb_explain_trees.specs.Lines.{HasLines, IsLine, ListsItems, SaysTree, place_text}
 
 -- a line is appended
 pub has_line : (view : View) (item : Item) (old new name pad rest : List ℕ) (cursor : Cursor) → IsLabel view item name cursor

@@ -1,5 +1,5 @@
 -- The picture of a tree, from its parts.
-use Rattle.std.proofs.Common.{◌≡◌, ◌∙◌, ◌⊎◌, inr, ◌++◌, ℕ, Bool, List, ap, sym, refl, append_assoc, take}
+use Rattle.std.proofs.Common.{◌≡◌, ◌∙◌, inr, ◌++◌, ℕ, Bool, List, ap, refl, append_assoc, take}
 use lib.Chars.{codes}
 use Rattle.wb_values.specs.Signature.{Signature}
 use Rattle.wb_values.specs.ValuesIn.{tree_in}
@@ -9,9 +9,10 @@ use Rattle.wb_explain_drawing.specs.Listings.{IsListing}
 use Rattle.wb_explain_drawing.specs.Pushed.{Pushes, all_of}
 use Rattle.wb_explain_drawing.specs.declared.cursor.Cursor.{Cursor}
 use Rattle.wb_explain_drawing.specs.declared.items.Item.{Item}
-use Rattle.wb_explain_trees.specs.Labels.{IsLabel, IsRead, View, view_of}
+use Rattle.wb_explain_trees.specs.Inner.Sessions.{HasElement, view_of}
+use Rattle.wb_explain_trees.specs.Labels.{IsLabel, IsRead, View}
 use Rattle.wb_explain_trees.specs.Lines.{place_text}
-use Rattle.wb_explain_trees.specs.Pictures.{HasDrawn, HasElement, HasElements, IsElement, SaysPicture}
+use Rattle.wb_explain_trees.specs.Pictures.{HasDrawn, HasElements, IsElement, SaysPicture}
 
 -- an element is appended
 pub has_element : (view : View) (item : Item) (old new name rest : List ℕ) (cursor : Cursor) → IsLabel view item name cursor

@@ -3,9 +3,8 @@ use Rattle.std.specs.Prelude.{◌≡◌, ◌<◌, ℕ, List, Option, Some, None,
 use Rattle.wb_values.specs.Signature.{Signature}
 use Rattle.wb_values.specs.Tree.{Tree}
 use Rattle.wb_scan_theory.specs.Languages.{LanguageView}
-use Rattle.wb_parser.specs.Parses.{IsTreeOf}
+use Rattle.wb_session.specs.Parses.{IsTreeOf}
 use Rattle.wb_session.specs.Places.{HasPlaces}
-use Rattle.wb_session.specs.Sessions.{SessionView}
 use Rattle.wb_session.specs.declared.place.LeafPlace.{LeafPlace}
 use Rattle.wb_explain_drawing.specs.Reached.{IsReached}
 use Rattle.wb_explain_drawing.specs.declared.cursor.Cursor.{Cursor}
@@ -19,10 +18,6 @@ pub record View : Type 0 where
   pub signatures : List Signature
   pub names : List (List ℕ)
   pub places : List LeafPlace
-
--- a text that is read, with these names
-abbrev pub view_of : SessionView → List Signature → List (List ℕ) → View
-view_of session signatures names = record { text = session.text; signatures = signatures; names = names; places = session.places }
 
 -- the printed name of the production
 abbrev pub IsProductionName : List Signature → ℕ → List ℕ → Type 0

@@ -4,3 +4,4 @@ pub mod Labels
 pub mod Lines
 -- the tree of a text as a picture
 pub mod Pictures
+pub mod Inner

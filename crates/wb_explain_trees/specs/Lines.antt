@@ -8,7 +8,7 @@ use Rattle.wb_values.specs.ValuesIn.{tree_in}
 use Rattle.wb_scan_theory.specs.Languages.{LanguageView}
 use Rattle.wb_session.specs.declared.place.LeafPlace.{LeafPlace}
 use Rattle.wb_explain_drawing.specs.Listings.{IsFirstOf}
-use Rattle.wb_explain_drawing.specs.Pushed.{Pushes, PushesOne}
+use Rattle.wb_explain_drawing.specs.Pushed.{Pushes}
 use Rattle.wb_explain_drawing.specs.declared.cursor.Cursor.{Cursor}
 use Rattle.wb_explain_drawing.specs.declared.items.Item.{Item}
 use Rattle.wb_explain_trees.specs.Labels.{IsLabel, IsRead, View}
@@ -25,10 +25,6 @@ pub record IsLine (view : View) (item : Item) (line : List ℕ) : Type 0 where
   pub pad : List ℕ
   pub rest : List ℕ
   pub whole : line ≡ place_text cursor ++ pad ++ name ++ rest
-
--- after what was there comes such a line
-abbrev pub HasLine : View → Item → List ℕ → List ℕ → Type 0
-HasLine view item old new = PushesOne (IsLine view) item old new
 
 -- after what was there come such lines of the first of these
 abbrev pub HasLines : View → List Item → List ℕ → List ℕ → Type 0

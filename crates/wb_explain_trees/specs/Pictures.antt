@@ -8,7 +8,7 @@ use Rattle.wb_scan_theory.specs.Languages.{LanguageView}
 use Rattle.wb_session.specs.declared.place.LeafPlace.{LeafPlace}
 use Rattle.wb_explain_drawing.specs.Listings.{IsFirstOf}
 use Rattle.wb_explain_drawing.specs.Pictures.{HasPicture}
-use Rattle.wb_explain_drawing.specs.Pushed.{Pushes, PushesOne}
+use Rattle.wb_explain_drawing.specs.Pushed.{Pushes}
 use Rattle.wb_explain_drawing.specs.declared.cursor.Cursor.{Cursor}
 use Rattle.wb_explain_drawing.specs.declared.items.Item.{Item}
 use Rattle.wb_explain_trees.specs.Labels.{IsLabel, IsRead, View}
@@ -21,10 +21,6 @@ pub record IsElement (view : View) (item : Item) (element : List ℕ) : Type 0 w
   pub label : IsLabel view item name cursor
   pub rest : List ℕ
   pub whole : element ≡ codes "<g><title>" ++ name ++ codes " at " ++ place_text cursor ++ codes "</title>" ++ rest
-
--- after what was there comes such an element
-abbrev pub HasElement : View → Item → List ℕ → List ℕ → Type 0
-HasElement view item old new = PushesOne (IsElement view) item old new
 
 -- after what was there come such elements of the first of these
 abbrev pub HasElements : View → List Item → List ℕ → List ℕ → Type 0

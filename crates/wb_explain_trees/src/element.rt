@@ -4,9 +4,8 @@
 ghost use Rattle.std.specs.Prelude.{◌≡◌, ◌++◌, IfNone, IfOk, IfSome, OnOk};
 ghost use lib.Chars.{codes};
 ghost use Rattle.wb_explain_drawing.specs.Reached.{IsReached};
-ghost use Rattle.wb_explain_trees.specs.Labels.{view_of};
+ghost use Rattle.wb_explain_trees.specs.Inner.Sessions.{HasElement, view_of};
 ghost use Rattle.wb_explain_trees.specs.Lines.{place_text};
-ghost use Rattle.wb_explain_trees.specs.Pictures.{HasElement};
 
 use crate::label::{Label, Shown, label_of, name_of, text_of};
 use crate::lines::push_place;

@@ -2,7 +2,8 @@
 
 ghost use Rattle.std.specs.Prelude.{◌≡◌, ◌≤◌, IfSome, Some, length, slice_get};
 ghost use Rattle.wb_explain_drawing.specs.Reached.{IsReached};
-ghost use Rattle.wb_explain_trees.specs.Labels.{IsLabel, IsLeafName, IsNameOf, IsProductionName, IsRead, begin_or, view_of};
+ghost use Rattle.wb_explain_trees.specs.Inner.Sessions.{view_of};
+ghost use Rattle.wb_explain_trees.specs.Labels.{IsLabel, IsLeafName, IsNameOf, IsProductionName, IsRead, begin_or};
 
 use wb_base::Bytes;
 use wb_explain_drawing::{Cursor, Item, Part};

@@ -1,10 +1,9 @@
 //! A tree by lines: each node and each leaf on a line of its own, further in than the one above it, after the place where it begins.
 
 ghost use Rattle.std.specs.Prelude.{◌≡◌, ◌++◌, IfNone, IfOk, IfSome, OnOk};
-ghost use lib.Chars.{codes};
 ghost use Rattle.wb_explain_drawing.specs.Reached.{IsReached};
-ghost use Rattle.wb_explain_trees.specs.Labels.{view_of};
-ghost use Rattle.wb_explain_trees.specs.Lines.{HasLine, HasLines, ListsItems, SaysTree, place_text};
+ghost use Rattle.wb_explain_trees.specs.Inner.Sessions.{HasLine, view_of};
+ghost use Rattle.wb_explain_trees.specs.Lines.{HasLines, ListsItems, SaysTree, place_text};
 
 use crate::label::{Label, Shown, label_of, root_of, text_of};
 use std::alloc::{AllocError, Global};

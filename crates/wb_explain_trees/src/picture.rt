@@ -1,7 +1,7 @@
 //! A tree as a picture: a box for each node and each leaf, with a line to the one above it.
 
 ghost use Rattle.std.specs.Prelude.{OnOk};
-ghost use Rattle.wb_explain_trees.specs.Labels.{view_of};
+ghost use Rattle.wb_explain_trees.specs.Inner.Sessions.{view_of};
 ghost use Rattle.wb_explain_trees.specs.Pictures.{HasDrawn, HasElements, SaysPicture};
 
 use crate::element::{Spot, push_element, width_of};

@@ -1,16 +1,16 @@
 -- What is said of what waits is said of the value that is asked.
 use Rattle.std.proofs.Common.{◌≡◌, ◌⊎◌, inl, inr, ℕ, List, Option, Some, None}
 use Rattle.std.specs.Prelude.{IfSome}
-use Rattle.wb_compose.specs.Composed.{IsComposed}
-use Rattle.wb_compose.specs.Hosts.{CertifiedView}
-use Rattle.wb_compose.specs.Kept.{ExtensionView}
-use Rattle.wb_compose.specs.United.{IsOfUnion}
-use Rattle.wb_compose_texts.specs.Roots.{IsRootAttribute}
-use Rattle.wb_compose_texts.specs.Unions.{all_resolved}
+use Rattle.wb_compose_files.specs.Composed.{IsComposed, IsOfUnion}
+use Rattle.wb_compose_files.specs.Hosts.{CertifiedView}
+use Rattle.wb_compose_files.specs.Kept.{ExtensionView}
+use Rattle.wb_compose_files.specs.Roots.{IsRootAttribute}
+use Rattle.wb_compose_files.specs.Unions.{all_resolved}
 use Rattle.wb_eval.specs.Waits.{IsWaiting}
 use Rattle.wb_eval.specs.declared.halt.Waiting.{Waiting}
 use Rattle.wb_eval_root.specs.Asked.{IsAskedAs}
-use Rattle.wb_explain_values.specs.Said.{SaysFound, SaysOfNamed, SaysOfParsed, SaysOfText, SaysWaiting}
+use Rattle.wb_explain_values.specs.Inner.Found.{SaysFound, SaysOfParsed}
+use Rattle.wb_explain_values.specs.Said.{SaysOfNamed, SaysOfText, SaysWaiting}
 use Rattle.wb_explain_places.specs.declared.source.Source.{Source}
 use Rattle.wb_operations.specs.Operations.{Operations}
 use Rattle.wb_scan_theory.specs.Languages.{LanguageView}

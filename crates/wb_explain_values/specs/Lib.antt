@@ -1,2 +1,3 @@
 -- what is said of a value that is asked of a text or of a term
 pub mod Said
+pub mod Inner

@@ -1,11 +1,10 @@
 -- What is said of a value that is asked of a text or of a term, where the evaluation ends without one: a chain of attributes that wait.
-use Rattle.std.specs.Prelude.{◌≡◌, ◌⊎◌, ℕ, List, Option, Some, None}
-use Rattle.wb_compose.specs.Composed.{IsComposed}
-use Rattle.wb_compose.specs.Hosts.{CertifiedView}
-use Rattle.wb_compose.specs.Kept.{ExtensionView}
-use Rattle.wb_compose.specs.United.{IsOfUnion}
-use Rattle.wb_compose_texts.specs.Roots.{IsRootAttribute}
-use Rattle.wb_compose_texts.specs.Unions.{all_resolved}
+use Rattle.std.specs.Prelude.{◌≡◌, ◌⊎◌, ℕ, List}
+use Rattle.wb_compose_files.specs.Composed.{IsComposed, IsOfUnion}
+use Rattle.wb_compose_files.specs.Hosts.{CertifiedView}
+use Rattle.wb_compose_files.specs.Kept.{ExtensionView}
+use Rattle.wb_compose_files.specs.Roots.{IsRootAttribute}
+use Rattle.wb_compose_files.specs.Unions.{all_resolved}
 use Rattle.wb_eval.specs.Waits.{IsWaiting}
 use Rattle.wb_eval.specs.declared.halt.Waiting.{Waiting}
 use Rattle.wb_eval_root.specs.Asked.{IsAskedAs}
@@ -14,10 +13,9 @@ use Rattle.wb_explain_places.specs.declared.source.Source.{Source}
 use Rattle.wb_operations.specs.Operations.{Operations}
 use Rattle.wb_scan_theory.specs.Languages.{LanguageView}
 use Rattle.wb_session.specs.Parses.{IsParsed}
-use Rattle.wb_session.specs.parsed.Parsed.{Parsed}
 use Rattle.wb_session.specs.parsed.Parsed.TheVariants as parsed
 use Rattle.wb_syntax_resolved.specs.declared.attribution.AttributionParts.{AttributionParts}
-use Rattle.wb_certify_files.specs.WellDefined.{IsWellDefinedText}
+use Rattle.wb_compose_files.specs.WellDefined.{IsWellDefinedText}
 use Rattle.wb_syntax_resolved.specs.declared.resolved.ResolvedParts.{ResolvedParts}
 use Rattle.wb_terms.specs.TermAnswer.{IsTermOf}
 use Rattle.wb_values.specs.declared.value.TreeId.{TreeId}
@@ -32,17 +30,6 @@ pub record SaysWaiting (files : List Source) (a : AttributionParts) (operations 
   pub found : Waiting
   pub waits : IsWaiting a operations top attribute steps trees found.memo found.keys.items found.halt
   pub said : SaysEnd a trees found files old new
-
--- what waits is said, where something does
-abbrev pub SaysFound : List Source → AttributionParts → List Tree → Option Waiting → List ℕ → List ℕ → Type 0
-SaysFound files a trees None old new = new ≡ old
-SaysFound files a trees (Some w) old new = SaysEnd a trees w files old new
-
--- so it is with the tree that a text was parsed to, or nothing is said
-abbrev pub SaysOfParsed : List Source → AttributionParts → Operations → List Tree → ℕ → ℕ → Parsed → List ℕ → List ℕ → Type 0
-SaysOfParsed files a operations store attribute steps (parsed.Tree id) old new =
-    (new ≡ old) ⊎ SaysWaiting files a operations (tree_in store id.0) attribute steps old new
-SaysOfParsed files a operations store attribute steps (parsed.Stopped at kind) old new = new ≡ old
 
 -- the text has a tree in the language of a certified host with certified extensions, and so it is with the attribute of this name there
 pub record SaysOfTree (files : List Source) (operations : Operations) (text name : List ℕ) (steps : ℕ) (old new : List ℕ) : Type 0 where

@@ -1,6 +1,6 @@
 //! Which host with extensions are files? Each is certified once more.
 
-ghost use Rattle.std.specs.Prelude.{◌≡◌, IfOk, IfSome};
+ghost use Rattle.std.specs.Prelude.{◌≡◌, IfSome};
 
 use std::alloc::{AllocError, Global};
 use wb_compose_files::Certified;

@@ -4,7 +4,8 @@ ghost use Rattle.std.specs.Prelude.{◌<◌, ℕ, length, IfSome, OnOk};
 ghost use Rattle.wb_eval_memo.specs.Memos.{IsWhole};
 ghost use Rattle.wb_eval_root.specs.Asked.{IsAskedAs};
 ghost use Rattle.wb_explain_instances.specs.Ends.{SaysEnd};
-ghost use Rattle.wb_explain_values.specs.Said.{SaysFound, SaysOfHostTerm, SaysOfNamed, SaysOfTerm};
+ghost use Rattle.wb_explain_values.specs.Inner.Found.{SaysFound};
+ghost use Rattle.wb_explain_values.specs.Said.{SaysOfHostTerm, SaysOfNamed, SaysOfTerm};
 ghost use Rattle.wb_flow_theory.specs.Modular.{EachProduction};
 ghost use Rattle.wb_flow_theory.specs.WellDefined.{IsWellDefinedProduction};
 ghost use Rattle.wb_operations.specs.Kept.{IsKept};
@@ -14,7 +15,7 @@ ghost use Rattle.wb_values.specs.ValuesIn.{tree_in};
 
 use crate::AskedValue;
 use std::alloc::{AllocError, Global};
-use wb_certify_files::well_defined_host_of;
+use wb_compose_files::well_defined_host_of;
 use wb_eval::{Waiting, waiting_instances};
 use wb_eval_root::asked_on;
 use wb_explain_instances::{Shown, push_instances};

@@ -1,14 +1,15 @@
 //! What is said of an attribute of a text that has no value?
 
 ghost use Rattle.std.specs.Prelude.{◌≡◌, IfOk, IfSome, MatchOption, OnOk};
-ghost use Rattle.wb_compose.specs.United.{IsOfUnion};
-ghost use Rattle.wb_compose_texts.specs.Inner.Parsed.{MayBeAsked};
-ghost use Rattle.wb_compose_texts.specs.Questions.{IsQuestion};
-ghost use Rattle.wb_compose_texts.specs.Roots.{HasNoRootAttribute, IsRootAttribute};
-ghost use Rattle.wb_compose_texts.specs.Unions.{all_resolved};
+ghost use Rattle.wb_compose_files.specs.Composed.{IsOfUnion};
+ghost use Rattle.wb_compose_files.specs.ParsedTexts.{MayBeAsked};
+ghost use Rattle.wb_compose_files.specs.Questions.{IsQuestion};
+ghost use Rattle.wb_compose_files.specs.Roots.{HasNoRootAttribute, IsRootAttribute};
+ghost use Rattle.wb_compose_files.specs.Unions.{all_resolved};
 ghost use Rattle.wb_eval_memo.specs.Memos.{IsWhole};
 ghost use Rattle.wb_explain_instances.specs.Ends.{SaysEnd};
-ghost use Rattle.wb_explain_values.specs.Said.{SaysFound, SaysOfParsed, SaysOfText};
+ghost use Rattle.wb_explain_values.specs.Inner.Found.{SaysFound, SaysOfParsed};
+ghost use Rattle.wb_explain_values.specs.Said.{SaysOfText};
 ghost use Rattle.wb_flow_theory.specs.Modular.{EachProduction};
 ghost use Rattle.wb_flow_theory.specs.WellDefined.{IsWellDefinedProduction};
 ghost use Rattle.wb_operations.specs.Kept.{IsKept};
@@ -18,8 +19,7 @@ use crate::AskedValue;
 use crate::certified::certified_of;
 use crate::places::places_of;
 use std::alloc::{AllocError, Global};
-use wb_compose_files::Certified;
-use wb_compose_texts::{Question, compose, composed_attributes, root_attribute};
+use wb_compose_files::{Certified, Question, compose, composed_attributes, root_attribute};
 use wb_eval::{Waiting, waiting_instances};
 use wb_explain_instances::{Leaves, Shown, leaf_counts, push_instances};
 use wb_operations::{Meaning, OperationRefusal, OperationTable};

@@ -1,5 +1,5 @@
 -- Items that are valid for a prefix, with their lookaheads, and the kernels of prefixes.
-use Rattle.std.specs.Prelude.{◌≡◌, ◌≢◌, ◌↔◌, ◌⊎◌, ℕ, ◌+◌, List, [], ◌∷◌, ◌++◌, drop}
+use Rattle.std.specs.Prelude.{◌≡◌, ◌≢◌, ◌<◌, ◌≤◌, ◌↔◌, ◌⊎◌, ℕ, ◌+◌, List, [], ◌∷◌, ◌++◌, drop}
 use Rattle.wb_base.specs.declared.symbol.Symbol.{Symbol}
 use Rattle.wb_base.specs.declared.symbol.Symbol.TheVariants.{Terminal, Nonterminal}
 use Rattle.wb_base.specs.Grammar.{GrammarView}
@@ -50,3 +50,7 @@ IsKernelItem g prefix item = HasItem g prefix item × ((item.dot ≢ 0) ⊎ ((it
 -- two prefixes have the same kernel
 abbrev pub SameKernel : GrammarView → List Symbol → List Symbol → Type 0
 SameKernel g prefix other = (item : Item) → IsKernelItem g prefix item ↔ IsKernelItem g other item
+
+-- the kernel of the prefix holds an item of a production from the one number to before the other
+abbrev pub HoldsFrom : GrammarView → List Symbol → ℕ → ℕ → Type 0
+HoldsFrom g prefix from to = (i : Item) × IsKernelItem g prefix i × (from ≤ i.production) × (i.production < to)

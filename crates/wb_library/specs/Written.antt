@@ -1,7 +1,7 @@
 -- What calls write for C.
 use Rattle.std.specs.Prelude.{◌≡◌, ◌-◌, ◌++◌, ℕ, List, drop, length, min, take}
-use Rattle.wb_session.specs.declared.place.LeafPlace.{LeafPlace}
-use Rattle.wb_session.specs.declared.session.Edited.{Edited}
+use Rattle.wb_session_library.specs.place.LeafPlace.{LeafPlace}
+use Rattle.wb_session_library.specs.session.Edited.{Edited}
 use Rattle.wb_session_library.specs.declared.node.Child.{Child}
 use Rattle.wb_session_library.specs.declared.node.Child.TheVariants as child
 use Rattle.wb_library.specs.declared.answers.ChildOut.{ChildOut}

@@ -3,8 +3,7 @@
 ghost use Rattle.std.specs.Prelude.{◌≡◌};
 ghost use Rattle.wb_library.specs.Written.{child_of, edit_of, place_of};
 
-use wb_session::{Edited, LeafPlace};
-use wb_session_library::Child;
+use wb_session_library::{Child, Edited, LeafPlace};
 
 /// A child of a node: the node of a number, or a leaf.
 #[repr(C)]

@@ -14,8 +14,7 @@ use crate::answers::{EditOut, edit_out};
 use crate::pointer::Pointer;
 use core::mem::replace_with;
 use wb_library_handles::{Handle, Loose};
-use wb_session::Edited;
-use wb_session_library::CallRefusal;
+use wb_session_library::{CallRefusal, Edited};
 
 /// Parses a text in a language, and writes the handle of the text.
 #[unsafe(no_mangle)]

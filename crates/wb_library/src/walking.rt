@@ -12,8 +12,7 @@ use crate::answers::{ChildOut, PlaceOut, child_out, place_out};
 use crate::pointer::Pointer;
 use core::mem::replace_with;
 use wb_library_handles::{Handle, Loose};
-use wb_session::LeafPlace;
-use wb_session_library::{CallRefusal, Child, Node, Reason, TextAnswer};
+use wb_session_library::{CallRefusal, Child, LeafPlace, Node, Reason, TextAnswer};
 
 /// Writes what is at the node of a number, of the trees of a text.
 #[unsafe(no_mangle)]

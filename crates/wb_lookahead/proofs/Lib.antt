@@ -1,4 +1,5 @@
 pub mod GotoLemmas
+pub mod KernelRowLemmas
 pub mod MarkLemmas
 pub mod MatrixLemmas
 pub mod MemberLemmas

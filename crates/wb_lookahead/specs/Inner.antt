@@ -1,4 +1,5 @@
 -- What loops keep, and words of private functions.
+pub mod KernelRows
 pub mod Parts
 pub mod Rests
 pub mod Rows

@@ -1,52 +1,55 @@
-//! Does an action fit into a row? There is one for each terminal, and a second one is a conflict.
+//! Does an action fit into a row of codes? There is one for each terminal, and a second one is a conflict.
 
-ghost use Rattle.std.specs.Prelude.{◌≡◌, ◌≤◌, ◌<◌, ◌↔◌, IsTrue, IfErr, OnOk, length};
+ghost use Rattle.std.specs.Prelude.{◌≡◌, ◌≤◌, ◌<◌, ◌↔◌, IsTrue, IfErr, OnOk, length, map};
 ghost use Rattle.wb_termset.specs.Sets.{IsMember};
+ghost use Rattle.wb_lookahead.specs.Codes.{action_at};
 ghost use Rattle.wb_lookahead.specs.Tables.{ComesBefore};
 ghost use Rattle.wb_lookahead.specs.Inner.Rows.{IsClash, IsReduction, Puts, ShowsBoth};
 
 use crate::action::{Action, TableRefusal};
+use crate::codes::action_from;
 use wb_base::Grammar;
 use wb_termset::TermSet;
 
-// Puts an action on each member of a set, or refuses where another stands.
+// Puts the action of a code on each member of a set, or refuses where another stands.
 pub(crate) fn put_all(
     state: usize,
     set: &TermSet,
-    action: Action,
-    row: &mut [Action],
+    code: u32,
+    row: &mut Vec<u32>,
 ) -> Result<(), TableRefusal>
-    requires { length row.old ≡ length set.now }
-    ensures ok { OnOk result (Puts row.old (IsMember set.now) action row.new) }
-    ensures refused { IfErr result (IsClash state row.old (IsMember set.now) action) }
+    requires { length row.old.items ≡ length set.now }
+    ensures ok { OnOk result (Puts (map action_at row.old.items) (IsMember set.now) (action_at code) (map action_at row.new.items)) }
+    ensures refused { IfErr result (IsClash state (map action_at row.old.items) (IsMember set.now) (action_at code)) }
 {
     let mut from = 0;
     'members: while let Some(terminal) = set.next_member(from) {
-        put(state, terminal, action, row)?;
+        put(state, terminal, code, row)?;
         from = terminal + 1;
     }
     Ok(())
 }
 
-// Puts an action on a terminal, or refuses where another stands.
+// Puts the action of a code on a terminal, or refuses where another stands.
 pub(crate) fn put(
     state: usize,
     terminal: usize,
-    action: Action,
-    row: &mut [Action],
+    code: u32,
+    row: &mut Vec<u32>,
 ) -> Result<(), TableRefusal>
-    requires { terminal < length row.old }
-    ensures ok { OnOk result (Puts row.old (λ t. t ≡ terminal) action row.new) }
-    ensures refused { IfErr result (IsClash state row.old (λ t. t ≡ terminal) action) }
+    requires { terminal < length row.old.items }
+    ensures ok { OnOk result (Puts (map action_at row.old.items) (λ t. t ≡ terminal) (action_at code) (map action_at row.new.items)) }
+    ensures refused { IfErr result (IsClash state (map action_at row.old.items) (λ t. t ≡ terminal) (action_at code)) }
 {
-    let there = row[terminal];
+    let action = action_from(code);
+    let there = action_from(row[terminal]);
     if there == action {
         return Ok(());
     }
     if there != Action::None {
         return Err(conflict(state, terminal, there, action));
     }
-    row[terminal] = action;
+    row[terminal] = code;
     Ok(())
 }
 

@@ -2,19 +2,17 @@
 //!
 //! One kernel's row is made in `rows.rt`; how tables are asked is in `parser_tables.rt`.
 
-ghost use Rattle.std.specs.Prelude.{◌≡◌, ◌+◌, ◌<◌, ◌++◌, ◌∷◌, [], ℕ, Bool, List, IfErr, IfOk, OnOk, length, map};
+ghost use Rattle.std.specs.Prelude.{◌≡◌, ◌+◌, ◌<◌, ◌++◌, ◌∷◌, [], ℕ, List, IfErr, IfOk, OnOk, length};
 ghost use Rattle.wb_items.specs.Kernels.{AreKernels, count_of};
 ghost use Rattle.wb_items.specs.LookaheadSets.{AreLookaheads};
-ghost use Rattle.wb_lookahead.specs.Codes.{action_at};
-ghost use Rattle.wb_lookahead.specs.Inner.Parts.{ArePartsUpTo, HasRow, ValidIn};
+ghost use Rattle.wb_lookahead.specs.Inner.Parts.{ArePartsUpTo, HasRow};
 ghost use Rattle.wb_lookahead.specs.Inner.Rows.{AreGotos};
 ghost use Rattle.wb_lookahead.specs.Tables.{AreTables, IsTableRefusal};
 
-use crate::action::{Action, TableRefusal};
-use crate::codes::codes_of;
+use crate::action::TableRefusal;
 use crate::matrix::Matrix;
 use crate::parser_tables::Tables;
-use crate::rows::{actions_at, gotos_at, valid_in};
+use crate::rows::{Row, gotos_at, row_at};
 use std::alloc::{AllocError, Global};
 use wb_base::{Grammar, push};
 use wb_items::{Kernels, Lookaheads};
@@ -94,8 +92,8 @@ fn add_kernel(
     ensures refused { IfErr result (IsTableRefusal kernels.now) }
 {
     add_gotos(alloc, grammar, kernels, state, &mut parts.gotos)?;
-    let row = actions_at(alloc, grammar, kernels, lookaheads, state)?;
-    add_row(alloc, &row, parts)?;
+    let row = row_at(alloc, grammar, kernels, lookaheads, state)?;
+    add_row(row, parts)?;
     Ok(())
 }
 
@@ -118,21 +116,14 @@ fn add_gotos(
 }
 
 // Adds the codes of actions, and the terminals that have one.
-fn add_row(alloc: Global, row: &[Action], parts: &mut Parts) -> Result<(), AllocError>
-    requires { length row.now ≡ parts.old.actions.width }
-    ensures actions { OnOk result ((codes : List ℕ) × (map action_at codes ≡ row.now) × HasRow parts.old.actions codes parts.new.actions) }
+fn add_row(row: Row, parts: &mut Parts) -> Result<(), AllocError>
+    requires { length row.codes.items ≡ parts.old.actions.width }
+    ensures actions { OnOk result (HasRow parts.old.actions row.codes.items parts.new.actions) }
     ensures gotos { parts.new.gotos ≡ parts.old.gotos }
-    ensures valid { OnOk result ((set : List Bool) × ValidIn row.now set × (parts.new.valid.items ≡ parts.old.valid.items ++ set ∷ [])) }
+    ensures valid { OnOk result (parts.new.valid.items ≡ parts.old.valid.items ++ row.valid ∷ []) }
 {
-    add_codes(alloc, row, &mut parts.actions)?;
-    push(&mut parts.valid, valid_in(alloc, row)?)
-}
-
-// Adds the codes of actions.
-fn add_codes(alloc: Global, row: &[Action], actions: &mut Matrix) -> Result<(), AllocError>
-    requires { length row.now ≡ actions.old.width }
-    ensures { OnOk result ((codes : List ℕ) × (map action_at codes ≡ row.now) × HasRow actions.old codes actions.new) }
-{
-    let codes = codes_of(alloc, row)?;
-    actions.add(&codes)
+    let Row { codes, valid } = row;
+    parts.actions.add(&codes)?;
+    drop(codes);
+    push(&mut parts.valid, valid)
 }

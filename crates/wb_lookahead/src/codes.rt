@@ -1,28 +1,16 @@
 //! How is an action or a kernel kept in 32 bits? By codes, whose meaning is a definition.
 
-ghost use Rattle.std.specs.Prelude.{◌≡◌, ◌<◌, ◌/◌, ◌%◌, IfOk, Some, map};
+ghost use Rattle.std.specs.Prelude.{◌≡◌, ◌<◌, ◌/◌, ◌%◌, IfOk, Some};
 ghost use Rattle.wb_lookahead.specs.Codes.{action_at, goto_at};
 
 use crate::action::Action;
-use std::alloc::{AllocError, Global};
-use wb_base::push;
+use std::alloc::AllocError;
 
 // Numbers from here on have no code, which is reported as out of memory.
 const LIMIT: usize = 1 << 30;
 
-// The codes of the actions.
-pub(crate) fn codes_of(alloc: Global, actions: &[Action]) -> Result<Vec<u32>, AllocError>
-    ensures { IfOk result (λ codes. map action_at codes.items ≡ actions.now) }
-{
-    let mut codes = Vec::with_capacity(alloc, actions.len())?;
-    'actions: for &action in actions {
-        push(&mut codes, code_of(action)?)?;
-    }
-    Ok(codes)
-}
-
 // The code of an action.
-fn code_of(action: Action) -> Result<u32, AllocError>
+pub(crate) fn code_of(action: Action) -> Result<u32, AllocError>
     ensures { IfOk result (λ code. action_at code ≡ action) }
 {
     match action {

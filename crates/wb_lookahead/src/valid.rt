@@ -13,7 +13,7 @@ ghost use Rattle.wb_lookahead.specs.Tables.{AreValidSets, IsTableRefusal};
 ghost use Rattle.wb_lookahead.specs.Inner.Valid.{AddsActions, AreClearUpTo, AreEmpty, AreSetsOf, HasConflictAt, IsClearSet, Meets};
 
 use crate::action::TableRefusal;
-use crate::rows::actions_at;
+use crate::rows::row_at;
 use std::alloc::{AllocError, Global};
 use wb_base::{Grammar, Symbol, push};
 use wb_items::{Item, Kernels, Lookaheads, symbol_after};
@@ -79,7 +79,7 @@ fn conflict_at(
     requires conflict { HasConflictAt kernels.now state }
     ensures { IsTableRefusal kernels.now result }
 {
-    match actions_at(alloc, grammar, kernels, lookaheads, state) {
+    match row_at(alloc, grammar, kernels, lookaheads, state) {
         Ok(_) => unreachable!(),
         Err(refusal) => refusal,
     }

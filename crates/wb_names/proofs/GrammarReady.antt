@@ -39,7 +39,8 @@ symbol_child t u c (child.Value kind.Int) e some a b = absurd (cc some)
 symbol_child t u c (child.Value kind.Bool) e some a b = absurd (cc some)
 symbol_child t u c (child.Value kind.Text) e some a b = absurd (cc some)
 
-module _ (file : File) (given : IsFile file) (hold : NamesHold (file_scope file)) (rows : Rows) (are : AreRows file rows) where
+module _ (file : File) (given : IsFile file) {format : ℕ} (hold : NamesHold (file_scope format file)) (rows : Rows)
+    (are : AreRows file rows) where
   symbols : All (λ (p : Production). All IsSymbol p.children) (take rows.concrete rows.productions)
   symbols = all_from_places (λ (p : Production). All IsSymbol p.children) (take rows.concrete rows.productions)
       (λ i p at. (concrete_row file given hold rows are i p at).symbols)
@@ -50,7 +51,7 @@ module _ (file : File) (given : IsFile file) (hold : NamesHold (file_scope file)
   -- with this grammar the value is resolved
   pub plain_resolved : IsResolved r
   plain_resolved =
-      gives_resolved file r given hold
+      gives_resolved file r given format hold
       (rows_resolve file given hold rows are (option_map (plain_grammar rows) rows.rest.start) (plain_for rows symbols))
 
   module _ (start : ℕ) (begins : rows.rest.start ≡ Some start) where

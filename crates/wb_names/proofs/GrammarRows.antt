@@ -82,7 +82,8 @@ concrete_role : (role : written.ProductionRole) → production_role role ≡ Con
 concrete_role w.Concrete e = refl
 concrete_role w.Abstract e = absurd (cc e)
 
-module _ (file : File) (given : IsFile file) (hold : NamesHold (file_scope file)) (rows : Rows) (are : AreRows file rows) where
+module _ (file : File) (given : IsFile file) {format : ℕ} (hold : NamesHold (file_scope format file)) (rows : Rows)
+    (are : AreRows file rows) where
   abbrev s : Scope
   s = are.scope
 

@@ -180,7 +180,8 @@ moved_by {X} entry before rows names table are is_table owner k j at =
 abbrev attribute_entry : Attribute → Entry
 attribute_entry a = (a.owner, a.name)
 
-module _ (file : File) (given : IsFile file) (hold : NamesHold (file_scope file)) (rows : Rows) (are : AreRows file rows) where
+module _ (file : File) (given : IsFile file) {format : ℕ} (hold : NamesHold (file_scope format file)) (rows : Rows)
+    (are : AreRows file rows) where
   abbrev s : Scope
   s = are.scope
 

@@ -1,5 +1,5 @@
 -- Hosts and extensions have files; what is made of a file is made of its specification, and its refusals are the specification's.
-use Rattle.std.proofs.Common.{◌≡◌, ◌∷◌, [], inr, All, Result, IfErr, arith, refl, subst, sym}
+use Rattle.std.proofs.Common.{◌≡◌, ◌∷◌, [], ℕ, inr, All, Result, IfErr, arith, refl, subst, sym}
 use Rattle.std.specs.Prelude.{IfOk}
 use Rattle.std.proofs.lemmas.List.Elements.{All-cons, All-nil}
 use Rattle.std.proofs.lemmas.Option.{slice_get_within}
@@ -48,41 +48,45 @@ module _ (spec : SpecView) (file : File) (resolved : IsResolved file.base) (name
     whole = subst (λ (z : File). All HasWholeEquations z.items) is whole;
   })
 
-module _ (spec : SpecView) (file : File) (r : Result ResolvedParts NameRefusal) where
-  pub host_made : spec.header ≡ h.Host → file ≡ host_file spec → IfOk r (IsValueOf file) → IfOk r (ResolvesHost spec)
-  host_made header is = IfOk-weaker r (IsValueOf file) (ResolvesHost spec) (λ made value.
-      let moved = subst (λ (z : File). IsValueOf z made) is value in
+module _ (spec : SpecView) (format : ℕ) (same : format ≡ spec.format) (file : File) (r : Result ResolvedParts NameRefusal) where
+  pub host_made : spec.header ≡ h.Host → file ≡ host_file spec → IfOk r (IsValueOf format file) → IfOk r (ResolvesHost spec)
+  host_made header is = IfOk-weaker r (IsValueOf format file) (ResolvesHost spec) (λ made value.
+      let moved = subst (λ (z : File). IsValueOf spec.format z made) is (subst (λ (k : ℕ). IsValueOf k file made) same value) in
       record { header = header; names = moved.names; value = moved.value })
 
-  pub host_refused : spec.header ≡ h.Host → file ≡ host_file spec → IfErr r (IsTrueRefusal (file_scope file))
+  pub host_refused : spec.header ≡ h.Host → file ≡ host_file spec → IfErr r (IsTrueRefusal (file_scope format file))
       → IfErr r (IsHostNameRefusal spec)
-  host_refused header is = IfErr-weaker r (IsTrueRefusal (file_scope file)) (IsHostNameRefusal spec) (λ e true. of e (moved e true)) where
-    moved : (e : NameRefusal) → IsTrueRefusal (file_scope file) e → IsTrueRefusal (file_scope (host_file spec)) e
-    moved e true = subst (λ (z : File). IsTrueRefusal (file_scope z) e) is true
+  host_refused header is =
+      IfErr-weaker r (IsTrueRefusal (file_scope format file)) (IsHostNameRefusal spec) (λ e true. of e (moved e true)) where
+        moved : (e : NameRefusal) → IsTrueRefusal (file_scope format file) e → IsTrueRefusal (file_scope spec.format (host_file spec)) e
+        moved e true = subst (λ (z : File). IsTrueRefusal (file_scope spec.format z) e) is
+            (subst (λ (k : ℕ). IsTrueRefusal (file_scope k file) e) same true)
 
-    of : (e : NameRefusal) → IsTrueRefusal (file_scope (host_file spec)) e → IsHostNameRefusal spec e
-    of (n.NoMemory error) true = tt
-    of (n.Unknown name) true = inr (header, true)
-    of (n.Duplicate name) true = inr (header, true)
-    of (n.Orphan name) true = inr (header, true)
-    of (n.WrongKind name) true = inr (header, true)
-    of (n.WrongHost name) true = absurd true
+        of : (e : NameRefusal) → IsTrueRefusal (file_scope spec.format (host_file spec)) e → IsHostNameRefusal spec e
+        of (n.NoMemory error) true = tt
+        of (n.Unknown name) true = inr (header, true)
+        of (n.Duplicate name) true = inr (header, true)
+        of (n.Orphan name) true = inr (header, true)
+        of (n.WrongKind name) true = inr (header, true)
+        of (n.WrongHost name) true = absurd true
 
   module _ (host : ResolvedParts) where
-    pub extension_made : spec.header ≡ h.Extension host.host → file ≡ extension_file host spec → IfOk r (IsValueOf file)
+    pub extension_made : spec.header ≡ h.Extension host.host → file ≡ extension_file host spec → IfOk r (IsValueOf format file)
         → IfOk r (ResolvesExtension host spec)
-    extension_made header is = IfOk-weaker r (IsValueOf file) (ResolvesExtension host spec) (λ made value.
-        let moved = subst (λ (z : File). IsValueOf z made) is value in
+    extension_made header is = IfOk-weaker r (IsValueOf format file) (ResolvesExtension host spec) (λ made value.
+        let moved = subst (λ (z : File). IsValueOf spec.format z made) is (subst (λ (k : ℕ). IsValueOf k file made) same value) in
         record { header = header; names = moved.names; value = moved.value })
 
     pub extension_refused : spec.header ≡ h.Extension host.host → file ≡ extension_file host spec
-        → IfErr r (IsTrueRefusal (file_scope file)) → IfErr r (IsExtensionNameRefusal host spec)
+        → IfErr r (IsTrueRefusal (file_scope format file)) → IfErr r (IsExtensionNameRefusal host spec)
     extension_refused header is =
-        IfErr-weaker r (IsTrueRefusal (file_scope file)) (IsExtensionNameRefusal host spec) (λ e true. of e (moved e true)) where
-          moved : (e : NameRefusal) → IsTrueRefusal (file_scope file) e → IsTrueRefusal (file_scope (extension_file host spec)) e
-          moved e true = subst (λ (z : File). IsTrueRefusal (file_scope z) e) is true
+        IfErr-weaker r (IsTrueRefusal (file_scope format file)) (IsExtensionNameRefusal host spec) (λ e true. of e (moved e true)) where
+          moved : (e : NameRefusal) → IsTrueRefusal (file_scope format file) e
+              → IsTrueRefusal (file_scope spec.format (extension_file host spec)) e
+          moved e true = subst (λ (z : File). IsTrueRefusal (file_scope spec.format z) e) is
+              (subst (λ (k : ℕ). IsTrueRefusal (file_scope k file) e) same true)
 
-          of : (e : NameRefusal) → IsTrueRefusal (file_scope (extension_file host spec)) e → IsExtensionNameRefusal host spec e
+          of : (e : NameRefusal) → IsTrueRefusal (file_scope spec.format (extension_file host spec)) e → IsExtensionNameRefusal host spec e
           of (n.NoMemory error) true = tt
           of (n.Unknown name) true = inr (inr (header, true))
           of (n.Duplicate name) true = inr (inr (header, true))

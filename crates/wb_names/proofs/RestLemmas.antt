@@ -133,8 +133,8 @@ module _ (base : ResolvedParts) (m : Moves) (is : IsResolved base) (tables : Has
       (subst (λ (o : Option GrammarView). IfSome o (λ (x : GrammarView). SeesNonterminal base.attributes 0 x.start)) at is.start)
 
 -- what items name is there
-pub items_there : (file : File) (s : Scope) → NamesHold (file_scope file) → HasDeclared s (declarations file.base file.items)
-    → All (λ (item : Item Pattern). FormIsThere s item.form) file.items
+pub items_there : (file : File) (s : Scope) {format : ℕ} → NamesHold (file_scope format file)
+    → HasDeclared s (declarations file.base file.items) → All (λ (item : Item Pattern). FormIsThere s item.form) file.items
 items_there file s hold has = all_from_contained (λ (item : Item Pattern). FormIsThere s item.form) file.items
     (λ item there. form_there s (declarations file.base file.items) (uses file.items) has hold.meant item.form
     (λ it more. flat_map_contains (λ (x : Item Pattern). form_uses x.form) file.items item it there more))

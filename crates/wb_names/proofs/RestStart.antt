@@ -35,8 +35,9 @@ each_end h R items at old new adds ended =
 
 module _ (file : File) (s : Scope) (m : Moves) where
   -- the start of the base
-  pub start_before : NamesHold (file_scope file) → BeginsAlone file → (g : GrammarView) → file.base.grammar ≡ Some g → (k : ℕ)
-      → IsNow m.nonterminals.items g.start k → AllZip (IsNumberNow s m) (sources (starts_of file.base) (starts file.items)) (k ∷ [])
+  pub start_before : {format : ℕ} → NamesHold (file_scope format file) → BeginsAlone file → (g : GrammarView)
+      → file.base.grammar ≡ Some g → (k : ℕ) → IsNow m.nonterminals.items g.start k
+      → AllZip (IsNumberNow s m) (sources (starts_of file.base) (starts file.items)) (k ∷ [])
   start_before hold alone g at k now =
       let other : file.owner ≢ 0 = λ z. let no : None ≡ Some g = sym (alone z) ∙ at in absurd (cc no) in
       let first : starts_of file.base ≡ g.start ∷ [] =

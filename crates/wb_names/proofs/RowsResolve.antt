@@ -35,7 +35,8 @@ use Rattle.wb_names.proofs.MovesRows.{are_moves, attributes_stay}
 use Rattle.wb_names.proofs.ProductionsBridge.{is_production}
 use Rattle.wb_names.proofs.ScopeRows.{is_scope, rows_numbering}
 
-module _ (file : File) (given : IsFile file) (hold : NamesHold (file_scope file)) (rows : Rows) (are : AreRows file rows) where
+module _ (file : File) (given : IsFile file) {format : ℕ} (hold : NamesHold (file_scope format file)) (rows : Rows)
+    (are : AreRows file rows) where
   abbrev n : Numbering
   n = rows_numbering rows
 

@@ -122,11 +122,11 @@ starts_count (item ∷ items) =
     let c = length-append (filter is_start (form_declarations item.form)) (filter is_start (item_declarations items)) in
     omega (arith, rest, first, a, b, c)
 
-module _ (file : File) (hold : NamesHold (file_scope file)) where
+module _ (file : File) {format : ℕ} (hold : NamesHold (file_scope format file)) where
   -- there is one start at most
   pub starts_few : length (starts file.items) ≤ 1
   starts_few =
-      let once = once_right (file_scope file).host (item_declarations file.items) hold.once in
+      let once = once_right (file_scope format file).host (item_declarations file.items) hold.once in
       let few = few_pass is_start starts_alike (item_declarations file.items) once in
       let count = starts_count file.items in
       let flat = ap length (starts_flat file.items) in

@@ -30,20 +30,20 @@ host_file spec = record { base = empty_host spec.name; owner = 0; extensions = [
 abbrev pub extension_file : ResolvedParts → SpecView → File
 extension_file host spec = record { base = host; owner = 1; extensions = spec.name ∷ []; items = spec.items }
 
--- what the name rules read of a file
-abbrev pub file_scope : File → Scope
-file_scope file = scope_of file.base file.owner file.items
+-- what the name rules read of a file of this format
+abbrev pub file_scope : ℕ → File → Scope
+file_scope format file = scope_of file.base file.owner format file.items
 
 -- the specification is a host, its names are right, and it stands for this value
 pub record ResolvesHost (spec : SpecView) (r : ResolvedParts) : Type 0 where
   pub header : spec.header ≡ h.Host
-  pub names : NamesOk (file_scope (host_file spec))
+  pub names : NamesOk (file_scope spec.format (host_file spec))
   pub value : Resolves (host_file spec) r
 
 -- the specification is an extension of this host, its names are right, and with the host it stands for this value
 pub record ResolvesExtension (host : ResolvedParts) (spec : SpecView) (r : ResolvedParts) : Type 0 where
   pub header : spec.header ≡ h.Extension host.host
-  pub names : NamesOk (file_scope (extension_file host spec))
+  pub names : NamesOk (file_scope spec.format (extension_file host spec))
   pub value : Resolves (extension_file host spec) r
 
 -- the header is that of an extension
@@ -55,7 +55,7 @@ abbrev pub IsHostNameRefusal : SpecView → NameRefusal → Type 0
 IsHostNameRefusal spec (n.NoMemory error) = Unit {0}
 IsHostNameRefusal spec refusal =
     (IsExtension spec.header × (refusal ≡ n.WrongKind spec.name))
-    ⊎ ((spec.header ≡ h.Host) × IsTrueRefusal (file_scope (host_file spec)) refusal)
+    ⊎ ((spec.header ≡ h.Host) × IsTrueRefusal (file_scope spec.format (host_file spec)) refusal)
 
 -- the extension is for another host, which is shown
 pub record IsForOther (host : ResolvedParts) (spec : SpecView) (refusal : NameRefusal) : Type 0 where
@@ -70,4 +70,4 @@ abbrev pub IsExtensionNameRefusal : ResolvedParts → SpecView → NameRefusal �
 IsExtensionNameRefusal host spec (n.NoMemory error) = Unit {0}
 IsExtensionNameRefusal host spec refusal =
     ((spec.header ≡ h.Host) × (refusal ≡ n.WrongKind spec.name)) ⊎ IsForOther host spec refusal
-    ⊎ ((spec.header ≡ h.Extension host.host) × IsTrueRefusal (file_scope (extension_file host spec)) refusal)
+    ⊎ ((spec.header ≡ h.Extension host.host) × IsTrueRefusal (file_scope spec.format (extension_file host spec)) refusal)

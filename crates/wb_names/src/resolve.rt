@@ -45,6 +45,7 @@ fn host_of(alloc: Global, spec: &Spec) -> Result<Resolved, NameRefusal>
     let before = nothing_before(alloc, spec.name())?;
     let made = resolve_in(
         alloc,
+        spec.format(),
         &Lent {
             base: before.parts(),
             owner: 0,
@@ -91,6 +92,7 @@ fn extended_host(alloc: Global, host: &Resolved, spec: &Spec) -> Result<Resolved
     let name = Bytes::from_slice(alloc, spec.name())?;
     let made = resolve_in(
         alloc,
+        spec.format(),
         &Lent {
             base: host.parts(),
             owner: 1,
@@ -102,14 +104,14 @@ fn extended_host(alloc: Global, host: &Resolved, spec: &Spec) -> Result<Resolved
     made
 }
 
-// The numbered value of a file.
-fn resolve_in(alloc: Global, file: &Lent) -> Result<Resolved, NameRefusal>
+// The numbered value of a file of this format.
+fn resolve_in(alloc: Global, format: u32, file: &Lent) -> Result<Resolved, NameRefusal>
     requires file { IsFile (lent_file file.now) }
     requires alone { BeginsAlone (lent_file file.now) }
-    ensures ok { IfOk result (IsValueOf (lent_file file.now)) }
-    ensures refused { IfErr result (IsTrueRefusal (file_scope (lent_file file.now))) }
+    ensures ok { IfOk result (IsValueOf format (lent_file file.now)) }
+    ensures refused { IfErr result (IsTrueRefusal (file_scope format (lent_file file.now))) }
 {
-    check_names(alloc, file.base, file.owner, file.items)?.release();
+    check_names(alloc, file.base, file.owner, format, file.items)?.release();
     Ok(numbered(alloc, file)?)
 }
 

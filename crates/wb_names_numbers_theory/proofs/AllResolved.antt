@@ -81,4 +81,4 @@ module _ (file : File) (r : ResolvedParts) (given : IsFile file) (k : Known file
 
 -- each value of a file whose names are right is resolved
 pub gives_resolved : (file : File) (r : ResolvedParts) → GivesResolved file r
-gives_resolved file r given hold resolves = resolved file r given (known file r given hold resolves)
+gives_resolved file r given format hold resolves = resolved file r given (known file r given format hold resolves)

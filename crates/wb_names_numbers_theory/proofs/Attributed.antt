@@ -38,9 +38,9 @@ use Rattle.wb_names_numbers_theory.proofs.RowsNamed.{IsOwners, named_nonterminal
 use Rattle.wb_names_numbers_theory.proofs.RowsOwned.{owned_occurrences}
 
 -- what is known where the names of a file are right
-pub known : (file : File) (r : ResolvedParts) → IsFile file → NamesHold (scope_of file.base file.owner file.items) → Resolves file r
-    → Known file r
-known file r is hold resolves =
+pub known : (file : File) (r : ResolvedParts) → IsFile file → (format : ℕ) → NamesHold (scope_of file.base file.owner format file.items)
+    → Resolves file r → Known file r
+known file r is format hold resolves =
     let ground : Ground file r = record {
       resolves = resolves;
       distinct = distinct file r resolves hold.once;
@@ -48,7 +48,14 @@ known file r is hold resolves =
       alone = is.alone;
       host = hosts file.base is.base is.alone;
     } in
-    record { ground = ground; hold = hold; scanned = children_scanned file hold; names = is.names; whole = is.whole }
+    record {
+      ground = ground;
+      format = format;
+      hold = hold;
+      scanned = children_scanned file format hold;
+      names = is.names;
+      whole = is.whole;
+    }
 
 -- the owner of what a row comes from
 abbrev pub terminal_owner : ℕ → Terminal ⊎ LexicalDeclaration → ℕ

@@ -34,9 +34,10 @@ use Rattle.wb_names_theory.specs.declared.usage.LabelWanted.TheVariants as read
 use Rattle.wb_names_theory.specs.declared.usage.Wanted.TheVariants as wanted
 use Rattle.wb_names_theory.specs.Declarations.{OccurrenceDeclaration, ProductionDeclaration, occurrences}
 use Rattle.wb_names_theory.specs.Declarations.{productions, plain_items, occurrence_of}
-use Rattle.wb_names_theory.specs.Declares.{base_declarations, closed_names, item_declarations, plain_declaration, target_declaration}
+use Rattle.wb_names_theory.specs.Declares.{base_declarations, item_declarations, plain_declaration, target_declaration}
 use Rattle.wb_names_theory.specs.Declares.{labelled}
 use Rattle.wb_names_theory.specs.Hold.{AreOwned}
+use Rattle.wb_names_theory.specs.NamesOk.{bounds_of}
 use Rattle.wb_names_theory.specs.Uses.{uses, target_uses}
 use Rattle.wb_names_numbers_theory.specs.Files.{File, equations_on}
 use Rattle.wb_names_numbers_theory.specs.Moved.{IsMovedEquation}
@@ -203,7 +204,7 @@ module _ (file : File) (r : ResolvedParts) (known : Known file r) where
           (ap (option_map (λ (y : Local). y.owner)) h.at ∙ ap Some h.owner)
 
       -- whose an equation is on a production of the host
-      module _ (owned : AreOwned (base_declarations file.base) owns (closed_names file.base))
+      module _ (owned : AreOwned (base_declarations file.base) owns (bounds_of file.base known.format))
           (of_host : Contains (base_declarations file.base) (d.Symbol row.name sort.Production)) where
         own_target : (from : is_for.Target) (to : Target) → Contains owns (target_declaration row.name from)
             → ((it : Usage) → Contains (target_uses row.name from) it → Contains (uses file.items) it)

@@ -73,10 +73,11 @@ one_of_three x y z = contains_first x (y ∷ z ∷ [])
 pub three_of_three : {X : Type 0} (x y z : X) → Contains (x ∷ y ∷ z ∷ []) z
 three_of_three x y z = contains_later x z (y ∷ z ∷ []) (two_of_two y z)
 
--- what is known of a file whose names are right
+-- what is known of a file whose names are right in a format
 pub record Known (file : File) (r : ResolvedParts) : Type 0 where
   pub ground : Ground file r
-  pub hold : NamesHold (scope_of file.base file.owner file.items)
+  pub format : ℕ
+  pub hold : NamesHold (scope_of file.base file.owner format file.items)
   pub scanned : ChildrenScanned file
   pub names : All (λ (x : Item Pattern). FormHasNames x.form) file.items
   pub whole : All HasWholeEquations file.items

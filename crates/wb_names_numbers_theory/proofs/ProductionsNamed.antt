@@ -87,8 +87,8 @@ child_used items x c name has inside e =
     (flat_map_contains (λ (c : named.Child). kind_uses (child_wanted x.role) c.kind) x.production.children c it inside one)))
 
 -- a terminal among them is declared as one that is scanned
-pub children_scanned : (file : File) → NamesHold (scope_of file.base file.owner file.items) → ChildrenScanned file
-children_scanned file hold x c name number has inside e r ground is =
+pub children_scanned : (file : File) (format : ℕ) → NamesHold (scope_of file.base file.owner format file.items) → ChildrenScanned file
+children_scanned file format hold x c name number has inside e r ground is =
     from x.role (child_used file.items x c name has inside e) where
       neither : (k : ℕ) → IsNumber (numbering_of r).nonterminals file.owner name k → ⊥
       neither k other = not_both (numbering_of r) ground.distinct file.owner name number k is other

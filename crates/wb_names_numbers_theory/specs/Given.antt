@@ -1,5 +1,5 @@
 -- What is given with a file, and that it then stands for a resolved specification.
-use Rattle.std.specs.Prelude.{◌≡◌, [], All}
+use Rattle.std.specs.Prelude.{◌≡◌, ℕ, [], All}
 use Rattle.wb_base.specs.Different.{Differ}
 use Rattle.wb_base.specs.Identifiers.{IsName}
 use Rattle.wb_syntax_resolved.specs.declared.resolved.ResolvedParts.{ResolvedParts}
@@ -26,6 +26,7 @@ pub record IsFile (file : File) : Type 0 where
   pub names : All (λ (item : Item Pattern). FormHasNames item.form) file.items
   pub whole : All HasWholeEquations file.items
 
--- where the names of a file are right, each value that it stands for is a resolved specification
+-- where the names of a file are right in a format, each value that it stands for is a resolved specification
 abbrev pub GivesResolved : File → ResolvedParts → Type 0
-GivesResolved file r = IsFile file → NamesHold (scope_of file.base file.owner file.items) → Resolves file r → IsResolved r
+GivesResolved file r = IsFile file → (format : ℕ) → NamesHold (scope_of file.base file.owner format file.items) → Resolves file r
+    → IsResolved r

@@ -13,7 +13,7 @@ pub fn one_value_law()
     ensures { (file : File) (r : ResolvedParts) → IsOnlyValue file r }
 {}
 
-/// Where the names of a file are right, each value that it stands for is a resolved specification.
+/// Where the names of a file are right in a format, each value that it stands for is a resolved specification.
 pub fn resolved_law()
     ensures { (file : File) (r : ResolvedParts) → GivesResolved file r }
 {}

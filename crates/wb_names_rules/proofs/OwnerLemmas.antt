@@ -19,7 +19,7 @@ use Rattle.wb_names_theory.specs.Meaning.{IsSymbol, HasSite}
 use Rattle.wb_names_theory.specs.declared.declaration.Site.{Site}
 use Rattle.wb_names_theory.specs.declared.refusal.NameRefusal.{NameRefusal}
 use Rattle.wb_names_theory.specs.declared.refusal.NameRefusal.TheVariants as r
-use Rattle.wb_names_theory.specs.Orphan.{IsOwnSymbol, IsOwnAttribute, IsOwnOccurrence, IsOfHost, FailsOrphan}
+use Rattle.wb_names_theory.specs.Orphan.{Bounds, IsOwnSymbol, IsOwnAttribute, IsOwnOccurrence, IsOfHost, FailsOrphan}
 use Rattle.wb_names_theory.specs.Orphan as o
 use Rattle.wb_names_rules.specs.Index.{CountOnce}
 use Rattle.wb_names_rules.specs.Inner.Owners.{HasOwnLocal, IsLocal, NamesOrphan, ShowsOrphan, IsOrphanIn, IsOrphanIf, IsForeignOccurrence}
@@ -125,10 +125,10 @@ module _ (declared : List Declaration) (from : ℕ) (once : CountOnce declared) 
     )
 
 -- an extension may declare an occurrence where a test says that it is its own, and its nonterminal isn't closed
-pub may_occur : {E : Type 0} (own : List Declaration) (hosts_closed : List (List ℕ)) (a n : List ℕ) (result : Result (Unit {0}) E)
-    → ¬ Contains hosts_closed n → OnOk result (IsOwnAttribute own a ⊎ IsOwnSymbol own n) → OnOk result (MayOccur own hosts_closed a n)
-may_occur own hosts_closed a n (Ok x) is_open is_own = record { is_own = is_own; is_open = is_open }
-may_occur own hosts_closed a n (Err e) is_open is_own = tt
+pub may_occur : {E : Type 0} (own : List Declaration) (bounds : Bounds) (a n : List ℕ) (result : Result (Unit {0}) E)
+    → ¬ Contains bounds.hosts_closed n → OnOk result (IsOwnAttribute own a ⊎ IsOwnSymbol own n) → OnOk result (MayOccur own bounds a n)
+may_occur own bounds a n (Ok x) is_open is_own = record { is_own = is_own; is_open = is_open }
+may_occur own bounds a n (Err e) is_open is_own = tt
 
 -- a refusal by this name, where this holds
 pub orphan_if : (P : Type 0) (shown : List ℕ) (refusal : NameRefusal) → P → NamesOrphan shown refusal → IsOrphanIf P shown refusal
@@ -139,13 +139,13 @@ orphan_if P shown (r.Unknown name) holds is = absurd is
 orphan_if P shown (r.WrongKind name) holds is = absurd is
 orphan_if P shown (r.WrongHost name) holds is = absurd is
 
-module _ (declared : List Declaration) (from : ℕ) (hosts_closed : List (List ℕ)) where
+module _ (declared : List Declaration) (from : ℕ) (bounds : Bounds) where
   -- a refusal by what a declaration shows
   shows_if : (P : Type 0) (one : Declaration) (shown : List ℕ)
-      → (P → Contains (drop from declared) one → FailsOrphan (take from declared) (drop from declared) hosts_closed shown)
-      → (refusal : NameRefusal) → IsOrphanIf P shown refusal → ShowsOrphan declared from hosts_closed one refusal
+      → (P → Contains (drop from declared) one → FailsOrphan (take from declared) (drop from declared) bounds shown)
+      → (refusal : NameRefusal) → IsOrphanIf P shown refusal → ShowsOrphan declared from bounds one refusal
   shows_if P one shown fails (r.Orphan name) shows = λ has.
-      subst (FailsOrphan (take from declared) (drop from declared) hosts_closed) (sym shows.0) (fails shows.1 has)
+      subst (FailsOrphan (take from declared) (drop from declared) bounds) (sym shows.0) (fails shows.1 has)
   shows_if P one shown fails (r.NoMemory error) shows = tt
   shows_if P one shown fails (r.Duplicate name) shows = absurd shows
   shows_if P one shown fails (r.Unknown name) shows = absurd shows
@@ -153,50 +153,50 @@ module _ (declared : List Declaration) (from : ℕ) (hosts_closed : List (List �
   shows_if P one shown fails (r.WrongHost name) shows = absurd shows
 
   pub shows_start : (name : List ℕ) (refusal : NameRefusal) → NamesOrphan name refusal
-      → ShowsOrphan declared from hosts_closed (d.Start name) refusal
+      → ShowsOrphan declared from bounds (d.Start name) refusal
   shows_start name refusal is =
       shows_if (Unit {0}) (d.Start name) name (λ _ has. o.start has) refusal (orphan_if (Unit {0}) name refusal tt is)
 
   pub shows_extensible : (name : List ℕ) (refusal : NameRefusal) → NamesOrphan name refusal
-      → ShowsOrphan declared from hosts_closed (d.Extensible name) refusal
+      → ShowsOrphan declared from bounds (d.Extensible name) refusal
   shows_extensible name refusal is =
       shows_if (Unit {0}) (d.Extensible name) name (λ _ has. o.extensible has) refusal (orphan_if (Unit {0}) name refusal tt is)
 
   pub shows_closed : (name : List ℕ) (refusal : NameRefusal) → NamesOrphan name refusal
-      → ShowsOrphan declared from hosts_closed (d.Closed name) refusal
+      → ShowsOrphan declared from bounds (d.Closed name) refusal
   shows_closed name refusal is =
       shows_if (Unit {0}) (d.Closed name) name (λ _ has. o.closed has) refusal (orphan_if (Unit {0}) name refusal tt is)
 
-  pub shows_symbol : (name : List ℕ) (is : Sort) (refusal : NameRefusal) → IsOrphanIf (is ≡ sort.Layout) name refusal
-      → ShowsOrphan declared from hosts_closed (d.Symbol name is) refusal
+  pub shows_symbol : (name : List ℕ) (is : Sort) (refusal : NameRefusal)
+      → IsOrphanIf ((bounds.format ≡ 1) × (is ≡ sort.Layout)) name refusal → ShowsOrphan declared from bounds (d.Symbol name is) refusal
   shows_symbol name is refusal shows =
-      shows_if (is ≡ sort.Layout) (d.Symbol name is) name
-      (λ e has. o.layout (subst (λ (z : Sort). Contains (drop from declared) (d.Symbol name z)) e has)) refusal shows
+      shows_if ((bounds.format ≡ 1) × (is ≡ sort.Layout)) (d.Symbol name is) name
+      (λ (first, e) has. o.layout first (subst (λ (z : Sort). Contains (drop from declared) (d.Symbol name z)) e has)) refusal shows
 
   pub shows_forward_needs : (name : List ℕ) (refusal : NameRefusal) → IsOrphanIf (¬ IsOwnSymbol (drop from declared) name) name refusal
-      → ShowsOrphan declared from hosts_closed (d.ForwardNeeds name) refusal
+      → ShowsOrphan declared from bounds (d.ForwardNeeds name) refusal
   shows_forward_needs name refusal shows =
       shows_if (¬ IsOwnSymbol (drop from declared) name) (d.ForwardNeeds name) name (λ not has. o.forward_needs has not) refusal shows
 
   pub shows_occurrence : (a n : List ℕ) (refusal : NameRefusal) → IsOrphanIf (IsForeignOccurrence (drop from declared) a n) a refusal
-      → ShowsOrphan declared from hosts_closed (d.Occurrence a n) refusal
+      → ShowsOrphan declared from bounds (d.Occurrence a n) refusal
   shows_occurrence a n refusal shows =
       shows_if (IsForeignOccurrence (drop from declared) a n) (d.Occurrence a n) a (λ not has. o.occurrence has not.0 not.1) refusal shows
 
-  pub shows_on_closed : (a n : List ℕ) (refusal : NameRefusal) → IsOrphanIf (Contains hosts_closed n) a refusal
-      → ShowsOrphan declared from hosts_closed (d.Occurrence a n) refusal
+  pub shows_on_closed : (a n : List ℕ) (refusal : NameRefusal) → IsOrphanIf (Contains bounds.hosts_closed n) a refusal
+      → ShowsOrphan declared from bounds (d.Occurrence a n) refusal
   shows_on_closed a n refusal shows =
-      shows_if (Contains hosts_closed n) (d.Occurrence a n) a (λ shut has. o.on_closed has shut) refusal shows
+      shows_if (Contains bounds.hosts_closed n) (d.Occurrence a n) a (λ shut has. o.on_closed has shut) refusal shows
 
   pub shows_preference : (first second : List ℕ) (refusal : NameRefusal)
       → IsOrphanIf (IsForeignPreference (drop from declared) first second) first refusal
-      → ShowsOrphan declared from hosts_closed (d.Preference first second) refusal
+      → ShowsOrphan declared from bounds (d.Preference first second) refusal
   shows_preference first second refusal shows =
       shows_if (IsForeignPreference (drop from declared) first second) (d.Preference first second) first
       (λ not has. o.preference has not.0 not.1) refusal shows
 
   pub shows_equation : (p a : List ℕ) (at : Site) (refusal : NameRefusal) → IsOrphanIf (IsForeignEquation declared from p a at) a refusal
-      → ShowsOrphan declared from hosts_closed (d.Equation p a at) refusal
+      → ShowsOrphan declared from bounds (d.Equation p a at) refusal
   shows_equation p a at refusal shows =
       shows_if (IsForeignEquation declared from p a at) (d.Equation p a at) a
       (λ f has. o.equation has f.of_host (subst (λ (z : List Declaration). HasSite z p at f.nonterminal) (sym (take-append-drop from declared)) f.there)
@@ -204,20 +204,20 @@ module _ (declared : List Declaration) (from : ℕ) (hosts_closed : List (List �
 
   -- what a test of a declaration's parts says, where it is matched as this one
   pub refused_as : {X : Type 0} (P : NameRefusal → Type 0) (result : Result X NameRefusal) (given one : Declaration) → given ≡ one
-      → ((refusal : NameRefusal) → P refusal → ShowsOrphan declared from hosts_closed one refusal) → IfErr result P
-      → IfErr result (ShowsOrphan declared from hosts_closed given)
+      → ((refusal : NameRefusal) → P refusal → ShowsOrphan declared from bounds one refusal) → IfErr result P
+      → IfErr result (ShowsOrphan declared from bounds given)
   refused_as P result given one is shows refused =
-      IfErr-weaker result P (ShowsOrphan declared from hosts_closed given)
-      (λ refusal p. subst (λ (z : Declaration). ShowsOrphan declared from hosts_closed z refusal) (sym is) (shows refusal p)) refused
+      IfErr-weaker result P (ShowsOrphan declared from bounds given)
+      (λ refusal p. subst (λ (z : Declaration). ShowsOrphan declared from bounds z refusal) (sym is) (shows refusal p)) refused
 
   pub passed_as : {X : Type 0} (result : Result X NameRefusal) (given one : Declaration) → given ≡ one
-      → OnOk result (MayDeclare declared from hosts_closed one) → OnOk result (MayDeclare declared from hosts_closed given)
-  passed_as result given one is passed = subst (λ (z : Declaration). OnOk result (MayDeclare declared from hosts_closed z)) (sym is) passed
+      → OnOk result (MayDeclare declared from bounds one) → OnOk result (MayDeclare declared from bounds given)
+  passed_as result given one is passed = subst (λ (z : Declaration). OnOk result (MayDeclare declared from bounds z)) (sym is) passed
 
   -- what one declaration shows is true
   pub shown_orphan : (own : List Declaration) (at : ℕ) (one : Declaration) → own ≡ drop from declared → at < length own
-      → one ≡ get_or own at one → (refusal : NameRefusal) → ShowsOrphan declared from hosts_closed one refusal
-      → IsOrphanIn declared from hosts_closed refusal
+      → one ≡ get_or own at one → (refusal : NameRefusal) → ShowsOrphan declared from bounds one refusal
+      → IsOrphanIn declared from bounds refusal
   shown_orphan own at one e within is (r.Orphan name) shows =
       shows (subst (λ (z : List Declaration). Contains z one) e (contains_at own one at (slice_get-get_or own at one within ∙ ap Some (sym is))))
   shown_orphan own at one e within is (r.NoMemory error) shows = tt

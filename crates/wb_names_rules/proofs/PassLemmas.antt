@@ -18,12 +18,12 @@ use Rattle.wb_names_theory.specs.declared.usage.Usage.TheVariants as u
 use Rattle.wb_names_theory.specs.declared.usage.Wanted.{Wanted}
 use Rattle.wb_names_theory.specs.declared.usage.Wanted.TheVariants as w
 use Rattle.wb_names_theory.specs.Declarations.{Items}
-use Rattle.wb_names_theory.specs.Declares.{base_declarations, closed_names, item_declarations, declarations}
+use Rattle.wb_names_theory.specs.Declares.{base_declarations, item_declarations, declarations}
 use Rattle.wb_names_theory.specs.Duplicate.{Counts}
 use Rattle.wb_names_theory.specs.Hold.{AreOnce, IsMeant, LabelFor, AttributeAt, AreMeant, AreOwned, NamesHold}
 use Rattle.wb_names_theory.specs.Meaning.{IsSymbol, HasSite, HasLeft}
-use Rattle.wb_names_theory.specs.NamesOk.{scope_of, NamesOk}
-use Rattle.wb_names_theory.specs.Orphan.{FailsOrphan}
+use Rattle.wb_names_theory.specs.NamesOk.{bounds_of, scope_of, NamesOk}
+use Rattle.wb_names_theory.specs.Orphan.{Bounds, FailsOrphan}
 use Rattle.wb_names_theory.specs.Orphan as o
 use Rattle.wb_names_theory.specs.Uses.{uses}
 use Rattle.wb_names_theory.specs.WrongKind.{misplaced}
@@ -38,44 +38,44 @@ use Rattle.wb_names_rules.proofs.TwiceLemmas.{nothing_twice}
 use Rattle.wb_names_rules.proofs.UnknownLemmas.{all_known}
 
 -- where an extension may declare all that it does, each of its declarations is as the rule asks
-pub all_owned : (declared own host : List Declaration) (from : ℕ) (hosts_closed : List (List ℕ)) → host ≡ take from declared
-    → own ≡ drop from declared → declared ≡ host ++ own → All (MayDeclare declared from hosts_closed) own → AreOwned host own hosts_closed
-all_owned declared own host from hosts_closed is_host is_own whole all = record {
-  start = λ name has. all_contained (MayDeclare declared from hosts_closed) own (d.Start name) all has;
-  extensible = λ name has. all_contained (MayDeclare declared from hosts_closed) own (d.Extensible name) all has;
-  closed = λ name has. all_contained (MayDeclare declared from hosts_closed) own (d.Closed name) all has;
-  layout = λ name has. all_contained (MayDeclare declared from hosts_closed) own (d.Symbol name sort.Layout) all has refl;
+pub all_owned : (declared own host : List Declaration) (from : ℕ) (bounds : Bounds) → host ≡ take from declared
+    → own ≡ drop from declared → declared ≡ host ++ own → All (MayDeclare declared from bounds) own → AreOwned host own bounds
+all_owned declared own host from bounds is_host is_own whole all = record {
+  start = λ name has. all_contained (MayDeclare declared from bounds) own (d.Start name) all has;
+  extensible = λ name has. all_contained (MayDeclare declared from bounds) own (d.Extensible name) all has;
+  closed = λ name has. all_contained (MayDeclare declared from bounds) own (d.Closed name) all has;
+  layout = λ first name has. all_contained (MayDeclare declared from bounds) own (d.Symbol name sort.Layout) all has first refl;
   forward_needs = λ name has.
       subst (λ (z : List Declaration). o.IsOwnSymbol z name) (sym is_own)
-      (all_contained (MayDeclare declared from hosts_closed) own (d.ForwardNeeds name) all has);
+      (all_contained (MayDeclare declared from bounds) own (d.ForwardNeeds name) all has);
   occurrences = λ a n has.
       subst (λ (z : List Declaration). o.IsOwnAttribute z a ⊎ o.IsOwnSymbol z n) (sym is_own)
-      (all_contained (MayDeclare declared from hosts_closed) own (d.Occurrence a n) all has).is_own;
-  on_closed = λ a n has. (all_contained (MayDeclare declared from hosts_closed) own (d.Occurrence a n) all has).is_open;
+      (all_contained (MayDeclare declared from bounds) own (d.Occurrence a n) all has).is_own;
+  on_closed = λ a n has. (all_contained (MayDeclare declared from bounds) own (d.Occurrence a n) all has).is_open;
   preferences = λ first second has.
       subst (λ (z : List Declaration). o.IsOwnSymbol z first ⊎ o.IsOwnSymbol z second) (sym is_own)
-      (all_contained (MayDeclare declared from hosts_closed) own (d.Preference first second) all has);
+      (all_contained (MayDeclare declared from bounds) own (d.Preference first second) all has);
   equations = λ p a n at has of_host there.
       subst (λ (z : List Declaration). o.IsOwnOccurrence z a n ⊎ o.IsOwnLocal z p at) (sym is_own)
-      (all_contained (MayDeclare declared from hosts_closed) own (d.Equation p a at) all has
+      (all_contained (MayDeclare declared from bounds) own (d.Equation p a at) all has
       (subst (λ (z : List Declaration). o.IsOfHost z p) is_host of_host) n
       (subst (λ (z : List Declaration). HasSite z p at n) (sym whole) there));
 }
 
 -- so no name shows the contrary
-pub none_orphan : (host own : List Declaration) (hosts_closed : List (List ℕ)) → AreOwned host own hosts_closed → (name : List ℕ)
-    → ¬ FailsOrphan host own hosts_closed name
-none_orphan host own hosts_closed owned name (o.start has) = owned.start name has
-none_orphan host own hosts_closed owned name (o.extensible has) = owned.extensible name has
-none_orphan host own hosts_closed owned name (o.closed has) = owned.closed name has
-none_orphan host own hosts_closed owned name (o.layout has) = owned.layout name has
-none_orphan host own hosts_closed owned name (o.forward_needs has not) = not (owned.forward_needs name has)
-none_orphan host own hosts_closed owned name (o.occurrence {nonterminal = n} has not nor) =
+pub none_orphan : (host own : List Declaration) (bounds : Bounds) → AreOwned host own bounds → (name : List ℕ)
+    → ¬ FailsOrphan host own bounds name
+none_orphan host own bounds owned name (o.start has) = owned.start name has
+none_orphan host own bounds owned name (o.extensible has) = owned.extensible name has
+none_orphan host own bounds owned name (o.closed has) = owned.closed name has
+none_orphan host own bounds owned name (o.layout first has) = owned.layout first name has
+none_orphan host own bounds owned name (o.forward_needs has not) = not (owned.forward_needs name has)
+none_orphan host own bounds owned name (o.occurrence {nonterminal = n} has not nor) =
     elim (owned.occurrences name n has) [ inl a ↦ not a | inr b ↦ nor b ]
-none_orphan host own hosts_closed owned name (o.on_closed {nonterminal = n} has shut) = owned.on_closed name n has shut
-none_orphan host own hosts_closed owned name (o.preference {second = second} has not nor) =
+none_orphan host own bounds owned name (o.on_closed {nonterminal = n} has shut) = owned.on_closed name n has shut
+none_orphan host own bounds owned name (o.preference {second = second} has not nor) =
     elim (owned.preferences name second has) [ inl a ↦ not a | inr b ↦ nor b ]
-none_orphan host own hosts_closed owned name (o.equation {production = p} {nonterminal = n} {at = at} has of_host there not nor) =
+none_orphan host own bounds owned name (o.equation {production = p} {nonterminal = n} {at = at} has of_host there not nor) =
     elim (owned.equations p name n at has of_host there) [ inl a ↦ not a | inr b ↦ nor b ]
 
 module _ (declared : List Declaration) (used : List Usage) (known : All (IsKnown declared) used) (kinds : All (IsOfKind declared) used) where
@@ -207,20 +207,20 @@ module _ (base : ResolvedParts) (items : Items) where
   begins_with declared from l = ap (take (length (base_declarations base))) l.all ∙ split_host
 
   -- an extension says what it may, where its own declarations pass
-  owned_of : (from : ℕ) → from ≡ length (base_declarations base)
-      → All (MayDeclare (declarations base items) from (closed_names base)) (drop from (declarations base items))
-      → AreOwned (base_declarations base) (item_declarations items) (closed_names base)
-  owned_of from e all =
+  owned_of : (bounds : Bounds) (from : ℕ) → from ≡ length (base_declarations base)
+      → All (MayDeclare (declarations base items) from bounds) (drop from (declarations base items))
+      → AreOwned (base_declarations base) (item_declarations items) bounds
+  owned_of bounds from e all =
       let host : base_declarations base ≡ take from (declarations base items) =
       sym split_host ∙ ap (λ (n : ℕ). take n (declarations base items)) (sym e) in
       let own : item_declarations items ≡ drop from (declarations base items) =
       sym split_own ∙ ap (λ (n : ℕ). drop n (declarations base items)) (sym e) in
-      all_owned (declarations base items) (item_declarations items) (base_declarations base) from (closed_names base) host own refl
-      (subst (All (MayDeclare (declarations base items) from (closed_names base))) (sym own) all)
+      all_owned (declarations base items) (item_declarations items) (base_declarations base) from bounds host own refl
+      (subst (All (MayDeclare (declarations base items) from bounds)) (sym own) all)
 
-module _ (base : ResolvedParts) (owner : ℕ) (items : Items) (declared : List Declaration) (from : ℕ)
+module _ (base : ResolvedParts) (owner format : ℕ) (items : Items) (declared : List Declaration) (from : ℕ)
     (l : AreListed base items declared from) (once : CountOnce declared) (used : UsesPass declared owner items)
-    (owned : OwnerPasses declared from owner (closed_names base)) where
+    (owned : OwnerPasses declared from owner (bounds_of base format)) where
   -- the same of what the base and the items declare
   once_there : CountOnce (declarations base items)
   once_there = subst CountOnce l.all once
@@ -228,22 +228,22 @@ module _ (base : ResolvedParts) (owner : ℕ) (items : Items) (declared : List D
   used_there : UsesPass (declarations base items) owner items
   used_there = subst (λ (z : List Declaration). UsesPass z owner items) l.all used
 
-  owned_there : owner ≢ 0 → AreOwned (base_declarations base) (item_declarations items) (closed_names base)
+  owned_there : owner ≢ 0 → AreOwned (base_declarations base) (item_declarations items) (bounds_of base format)
   owned_there extension =
-      owned_of base items from l.place
-      (subst (λ (z : List Declaration). All (MayDeclare z from (closed_names base)) (drop from z)) l.all (owned extension))
+      owned_of base items (bounds_of base format) from l.place
+      (subst (λ (z : List Declaration). All (MayDeclare z from (bounds_of base format)) (drop from z)) l.all (owned extension))
 
   -- no rule fails where all tests pass
-  pub rules_ok : NamesOk (scope_of base owner items)
+  pub rules_ok : NamesOk (scope_of base owner format items)
   rules_ok = record {
     once = nothing_twice (declarations base items) once_there;
     declared = all_known (declarations base items) (uses items) used_there.known;
     kinds = all_of_kind (declarations base items) (uses items) (misplaced owner items) used_there.kinds used_there.placed;
-    owned = λ extension. none_orphan (base_declarations base) (item_declarations items) (closed_names base) (owned_there extension);
+    owned = λ extension. none_orphan (base_declarations base) (item_declarations items) (bounds_of base format) (owned_there extension);
   }
 
   -- and each name means what its place asks for
-  pub rules_hold : IsResolved base → NamesHold (scope_of base owner items)
+  pub rules_hold : IsResolved base → NamesHold (scope_of base owner format items)
   rules_hold resolved =
       let ds = declarations base items in
       let us = uses items in

@@ -6,9 +6,9 @@ use Rattle.wb_names_theory.specs.declared.refusal.NameRefusal.{NameRefusal}
 use Rattle.wb_names_theory.specs.declared.refusal.NameRefusal.TheVariants as r
 use Rattle.wb_names_theory.specs.declared.usage.Usage.{Usage}
 use Rattle.wb_names_theory.specs.Declarations.{Items}
-use Rattle.wb_names_theory.specs.Declares.{base_declarations, closed_names, item_declarations, declarations}
-use Rattle.wb_names_theory.specs.NamesOk.{scope_of}
-use Rattle.wb_names_theory.specs.Orphan.{FailsOrphan}
+use Rattle.wb_names_theory.specs.Declares.{base_declarations, item_declarations, declarations}
+use Rattle.wb_names_theory.specs.NamesOk.{bounds_of, scope_of}
+use Rattle.wb_names_theory.specs.Orphan.{Bounds, FailsOrphan}
 use Rattle.wb_names_theory.specs.Refusals.{IsTrueRefusal}
 use Rattle.wb_names_theory.specs.Uses.{uses}
 use Rattle.wb_names_theory.specs.WrongKind.{misplaced, FailsWrongKind}
@@ -22,15 +22,15 @@ use Rattle.wb_names_rules.proofs.PassLemmas.{AreListed, split_host, split_own}
 use Rattle.wb_names_rules.proofs.TwiceLemmas.{nothing_twice}
 use Rattle.wb_names_rules.proofs.UnknownLemmas.{all_known}
 
-module _ (base : ResolvedParts) (owner : ℕ) (items : Items) where
+module _ (base : ResolvedParts) (owner format : ℕ) (items : Items) where
   -- a use that fails is of the first rule that does
   pub use_fails : (declared : List Declaration) (from : ℕ) → AreListed base items declared from → CountOnce declared
-      → (refusal : NameRefusal) → UsesFail declared owner items refusal → IsTrueRefusal (scope_of base owner items) refusal
+      → (refusal : NameRefusal) → UsesFail declared owner items refusal → IsTrueRefusal (scope_of base owner format items) refusal
   use_fails declared from l once refusal fails =
-      subst (λ (z : List Declaration). CountOnce z → UsesFail z owner items refusal → IsTrueRefusal (scope_of base owner items) refusal)
+      subst (λ (z : List Declaration). CountOnce z → UsesFail z owner items refusal → IsTrueRefusal (scope_of base owner format items) refusal)
       (sym l.all) (of_all refusal) once fails where
         of_all : (refusal : NameRefusal) → CountOnce (declarations base items) → UsesFail (declarations base items) owner items refusal
-            → IsTrueRefusal (scope_of base owner items) refusal
+            → IsTrueRefusal (scope_of base owner format items) refusal
         of_all (r.Unknown name) once fails = record { once = nothing_twice (declarations base items) once; fails = fails }
         of_all (r.WrongKind name) once fails = record {
           once = nothing_twice (declarations base items) once;
@@ -44,8 +44,8 @@ module _ (base : ResolvedParts) (owner : ℕ) (items : Items) where
 
   -- where uses pass, so is what an extension may not say
   pub owner_fails : (declared : List Declaration) (from : ℕ) → AreListed base items declared from → CountOnce declared
-      → UsesPass declared owner items → (refusal : NameRefusal) → OwnerFails declared from owner (closed_names base) refusal
-      → IsTrueRefusal (scope_of base owner items) refusal
+      → UsesPass declared owner items → (refusal : NameRefusal) → OwnerFails declared from owner (bounds_of base format) refusal
+      → IsTrueRefusal (scope_of base owner format items) refusal
   owner_fails declared from l once used (r.Orphan name) (extension, fails) =
       let used_there = subst (λ (z : List Declaration). UsesPass z owner items) l.all used in
       let host : take from declared ≡ base_declarations base =
@@ -57,8 +57,8 @@ module _ (base : ResolvedParts) (owner : ℕ) (items : Items) where
         declared = all_known (declarations base items) (uses items) used_there.known;
         kinds = all_of_kind (declarations base items) (uses items) (misplaced owner items) used_there.kinds used_there.placed;
         extension = extension;
-        fails = subst (λ (z : List Declaration). FailsOrphan z (item_declarations items) (closed_names base) name) host
-            (subst (λ (z : List Declaration). FailsOrphan (take from declared) z (closed_names base) name) own fails);
+        fails = subst (λ (z : List Declaration). FailsOrphan z (item_declarations items) (bounds_of base format) name) host
+            (subst (λ (z : List Declaration). FailsOrphan (take from declared) z (bounds_of base format) name) own fails);
       }
   owner_fails declared from l once used (r.NoMemory error) fails = tt
   owner_fails declared from l once used (r.Unknown name) fails = absurd fails
@@ -67,14 +67,14 @@ module _ (base : ResolvedParts) (owner : ℕ) (items : Items) where
   owner_fails declared from l once used (r.WrongHost name) fails = absurd fails
 
 -- what is declared twice is a true refusal
-pub duplicate_true : (base : ResolvedParts) (owner : ℕ) (items : Items) (refusal : NameRefusal)
-    → IsDuplicate (declarations base items) refusal → IsTrueRefusal (scope_of base owner items) refusal
-duplicate_true base owner items (r.Duplicate name) fails = fails
-duplicate_true base owner items (r.NoMemory error) fails = tt
-duplicate_true base owner items (r.Unknown name) fails = absurd fails
-duplicate_true base owner items (r.WrongKind name) fails = absurd fails
-duplicate_true base owner items (r.Orphan name) fails = absurd fails
-duplicate_true base owner items (r.WrongHost name) fails = absurd fails
+pub duplicate_true : (base : ResolvedParts) (owner format : ℕ) (items : Items) (refusal : NameRefusal)
+    → IsDuplicate (declarations base items) refusal → IsTrueRefusal (scope_of base owner format items) refusal
+duplicate_true base owner format items (r.Duplicate name) fails = fails
+duplicate_true base owner format items (r.NoMemory error) fails = tt
+duplicate_true base owner format items (r.Unknown name) fails = absurd fails
+duplicate_true base owner format items (r.WrongKind name) fails = absurd fails
+duplicate_true base owner format items (r.Orphan name) fails = absurd fails
+duplicate_true base owner format items (r.WrongHost name) fails = absurd fails
 
 -- what shows another kind fails the uses
 pub kind_fails : (declared : List Declaration) (owner : ℕ) (items : Items) (used : List Usage) (unplaced : List (List ℕ))
@@ -92,11 +92,11 @@ kind_fails declared owner items used unplaced e f known (r.Orphan name) wrong = 
 kind_fails declared owner items used unplaced e f known (r.WrongHost name) wrong = absurd wrong
 
 -- what shows what an extension may not say is the owner's
-pub extension_fails : (declared : List Declaration) (from owner : ℕ) (hosts_closed : List (List ℕ)) → owner ≢ 0 → (refusal : NameRefusal)
-    → IsOrphanIn declared from hosts_closed refusal → OwnerFails declared from owner hosts_closed refusal
-extension_fails declared from owner hosts_closed extension (r.Orphan name) fails = (extension, fails)
-extension_fails declared from owner hosts_closed extension (r.NoMemory error) fails = tt
-extension_fails declared from owner hosts_closed extension (r.Unknown name) fails = absurd fails
-extension_fails declared from owner hosts_closed extension (r.Duplicate name) fails = absurd fails
-extension_fails declared from owner hosts_closed extension (r.WrongKind name) fails = absurd fails
-extension_fails declared from owner hosts_closed extension (r.WrongHost name) fails = absurd fails
+pub extension_fails : (declared : List Declaration) (from owner : ℕ) (bounds : Bounds) → owner ≢ 0 → (refusal : NameRefusal)
+    → IsOrphanIn declared from bounds refusal → OwnerFails declared from owner bounds refusal
+extension_fails declared from owner bounds extension (r.Orphan name) fails = (extension, fails)
+extension_fails declared from owner bounds extension (r.NoMemory error) fails = tt
+extension_fails declared from owner bounds extension (r.Unknown name) fails = absurd fails
+extension_fails declared from owner bounds extension (r.Duplicate name) fails = absurd fails
+extension_fails declared from owner bounds extension (r.WrongKind name) fails = absurd fails
+extension_fails declared from owner bounds extension (r.WrongHost name) fails = absurd fails

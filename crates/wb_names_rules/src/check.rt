@@ -4,9 +4,9 @@
 
 ghost use Rattle.std.specs.Prelude.{◌≡◌, ◌≤◌, length, IfOk, IfErr, OnOk};
 ghost use Rattle.wb_syntax_resolved.specs.Resolved.{IsResolved};
-ghost use Rattle.wb_names_theory.specs.Declares.{closed_names, declarations as declarations_of};
+ghost use Rattle.wb_names_theory.specs.Declares.{declarations as declarations_of};
 ghost use Rattle.wb_names_theory.specs.Hold.{NamesHold};
-ghost use Rattle.wb_names_theory.specs.NamesOk.{NamesOk, scope_of};
+ghost use Rattle.wb_names_theory.specs.NamesOk.{NamesOk, bounds_of, scope_of};
 ghost use Rattle.wb_names_theory.specs.Refusals.{IsTrueRefusal};
 ghost use Rattle.wb_names_theory.specs.Uses.{uses};
 ghost use Rattle.wb_names_rules.specs.Inner.Closed.{IsOver};
@@ -27,19 +27,20 @@ use wb_syntax_resolved::ResolvedParts;
 /// alone: over a base with extensions, what these declare counts as the host's, so callers give a host alone.
 ///
 /// The first rule that fails is refused: that nothing is declared twice (N2), that each name is declared (N1) and of the right kind (N4),
-/// and that an extension says only what it may (N3). Which of several names that show it is answered is open. No clause bounds the
-/// time; it is about linear in what is declared and used.
+/// and that an extension says only what it may in a file of its format (N3). Which of several names that show it is answered is open. No
+/// clause bounds the time; it is about linear in what is declared and used.
 pub fn check_names(
     alloc: Global,
     base: &ResolvedParts,
     owner: usize,
+    format: u32,
     items: &[Item<Pattern>],
 ) -> Result<NameIndex, NameRefusal>
     requires { IsResolved base.now }
     ensures index { IfOk result (λ index. index ≡ declarations_of base.now items.now) }
-    ensures ok { IfOk result (λ index. NamesOk (scope_of base.now owner items.now)) }
-    ensures hold { IfOk result (λ index. NamesHold (scope_of base.now owner items.now)) }
-    ensures refused { IfErr result (IsTrueRefusal (scope_of base.now owner items.now)) }
+    ensures ok { IfOk result (λ index. NamesOk (scope_of base.now owner format items.now)) }
+    ensures hold { IfOk result (λ index. NamesHold (scope_of base.now owner format items.now)) }
+    ensures refused { IfErr result (IsTrueRefusal (scope_of base.now owner format items.now)) }
 {
     let mut declarations = Vec::new(alloc);
     add_base_declarations(base, &mut declarations)?;
@@ -47,7 +48,7 @@ pub fn check_names(
     add_item_declarations(items, &mut declarations)?;
     let index = NameIndex::new(alloc, declarations)?;
     check_uses(alloc, &index, owner, items)?;
-    check_owner(alloc, &index, base, from, owner)?;
+    check_owner(alloc, &index, base, format, from, owner)?;
     Ok(index)
 }
 
@@ -89,16 +90,17 @@ fn check_owner(
     alloc: Global,
     index: &NameIndex,
     base: &ResolvedParts,
+    format: u32,
     from: usize,
     owner: usize,
 ) -> Result<(), NameRefusal>
     requires within { from ≤ length index.now }
     requires over { IsOver base.now index.now }
-    ensures ok { OnOk result (spec.OwnerPasses index.now from owner (closed_names base.now)) }
-    ensures refused { IfErr result (spec.OwnerFails index.now from owner (closed_names base.now)) }
+    ensures ok { OnOk result (spec.OwnerPasses index.now from owner (bounds_of base.now format)) }
+    ensures refused { IfErr result (spec.OwnerFails index.now from owner (bounds_of base.now format)) }
 {
     if owner == 0 {
         return Ok(());
     }
-    check_owned(alloc, index, base, from)
+    check_owned(alloc, index, base, format, from)
 }

@@ -8,6 +8,7 @@ ghost use Rattle.wb_names_theory.specs.declared.declaration.Labelled.{Labelled};
 ghost use Rattle.wb_names_theory.specs.declared.declaration.Sort.TheVariants as sort;
 ghost use Rattle.wb_names_theory.specs.Declares.{closed_names};
 ghost use Rattle.wb_names_theory.specs.Meaning as meaning;
+ghost use Rattle.wb_names_theory.specs.NamesOk.{bounds_of};
 ghost use Rattle.wb_names_theory.specs.Orphan as rule;
 ghost use Rattle.wb_names_rules.specs.Inner.Closed.{IsOver};
 ghost use Rattle.wb_names_rules.specs.Inner.Owners as spec;
@@ -26,16 +27,17 @@ pub(crate) fn check_owned(
     alloc: Global,
     index: &NameIndex,
     base: &ResolvedParts,
+    format: u32,
     from: usize,
 ) -> Result<(), NameRefusal>
     requires within { from ≤ length index.now }
     requires over { IsOver base.now index.now }
-    ensures ok { OnOk result (All (spec.MayDeclare index.now from (closed_names base.now)) (drop from index.now)) }
-    ensures refused { IfErr result (spec.IsOrphanIn index.now from (closed_names base.now)) }
+    ensures ok { OnOk result (All (spec.MayDeclare index.now from (bounds_of base.now format)) (drop from index.now)) }
+    ensures refused { IfErr result (spec.IsOrphanIn index.now from (bounds_of base.now format)) }
 {
     let own = &index.declarations()[from..];
     'own: for declaration in own {
-        check_declaration(alloc, index, base, from, declaration)?;
+        check_declaration(alloc, index, base, format, from, declaration)?;
     }
     Ok(())
 }
@@ -45,18 +47,19 @@ fn check_declaration(
     alloc: Global,
     index: &NameIndex,
     base: &ResolvedParts,
+    format: u32,
     from: usize,
     declaration: &Declaration,
 ) -> Result<(), NameRefusal>
     requires { IsOver base.now index.now }
-    ensures ok { OnOk result (spec.MayDeclare index.now from (closed_names base.now) declaration.now) }
-    ensures refused { IfErr result (spec.ShowsOrphan index.now from (closed_names base.now) declaration.now) }
+    ensures ok { OnOk result (spec.MayDeclare index.now from (bounds_of base.now format) declaration.now) }
+    ensures refused { IfErr result (spec.ShowsOrphan index.now from (bounds_of base.now format) declaration.now) }
 {
     match declaration {
         Declaration::Start(name) => Err(orphan(name)),
         Declaration::Extensible(name) => Err(orphan(name)),
         Declaration::Closed(name) => Err(orphan(name)),
-        Declaration::Symbol { name, sort } => check_symbol(name, *sort),
+        Declaration::Symbol { name, sort } => check_symbol(format, name, *sort),
         Declaration::ForwardNeeds(name) => check_forward_needs(alloc, index, from, name),
         Declaration::Occurrence {
             attribute,
@@ -77,11 +80,14 @@ fn check_declaration(
     }
 }
 
-// Whether a symbol is no layout.
-fn check_symbol(name: &Bytes, is: Sort) -> Result<(), NameRefusal>
-    ensures ok { OnOk result (is ≢ sort.Layout) }
-    ensures refused { IfErr result (spec.IsOrphanIf (is ≡ sort.Layout) name.now) }
+// Whether a symbol is no layout, where the format is one in which extensions have none.
+fn check_symbol(format: u32, name: &Bytes, is: Sort) -> Result<(), NameRefusal>
+    ensures ok { OnOk result (format ≡ 1 → is ≢ sort.Layout) }
+    ensures refused { IfErr result (spec.IsOrphanIf ((format ≡ 1) × (is ≡ sort.Layout)) name.now) }
 {
+    if format != 1 {
+        return Ok(());
+    }
     match is {
         Sort::Layout => Err(orphan(name)),
         _ => Ok(()),

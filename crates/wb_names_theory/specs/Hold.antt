@@ -17,7 +17,7 @@ use Rattle.wb_names_theory.specs.declared.usage.Wanted.TheVariants as w
 use Rattle.wb_names_theory.specs.Duplicate.{AreSame}
 use Rattle.wb_names_theory.specs.Meaning.{IsSymbol, IsAttribute, Occurs, HasLabel, HasSite, Forwards, IsTree, IsLexeme}
 use Rattle.wb_names_theory.specs.NamesOk.{Scope}
-use Rattle.wb_names_theory.specs.Orphan.{IsOwnSymbol, IsOwnAttribute, IsOwnOccurrence, IsOwnLocal, IsOfHost}
+use Rattle.wb_names_theory.specs.Orphan.{Bounds, IsOwnSymbol, IsOwnAttribute, IsOwnOccurrence, IsOwnLocal, IsOfHost}
 use Rattle.wb_names_theory.specs.WrongKind.{Suits, SuitsDirection}
 
 -- declarations of the same thing are one
@@ -73,16 +73,16 @@ module _ (declared : List Declaration) where
         → Forwards declared production
     pub needs : (attribute nonterminal : List ℕ) → Contains used (u.Needs attribute nonterminal) → Occurs declared attribute nonterminal
 
--- an extension says what it may
-pub record AreOwned (host own : List Declaration) (hosts_closed : List (List ℕ)) : Type 0 where
+-- an extension says what it may within these bounds
+pub record AreOwned (host own : List Declaration) (bounds : Bounds) : Type 0 where
   pub start : (name : List ℕ) → ¬ Contains own (d.Start name)
   pub extensible : (name : List ℕ) → ¬ Contains own (d.Extensible name)
   pub closed : (name : List ℕ) → ¬ Contains own (d.Closed name)
-  pub layout : (name : List ℕ) → ¬ Contains own (d.Symbol name sort.Layout)
+  pub layout : bounds.format ≡ 1 → (name : List ℕ) → ¬ Contains own (d.Symbol name sort.Layout)
   pub forward_needs : (name : List ℕ) → Contains own (d.ForwardNeeds name) → IsOwnSymbol own name
   pub occurrences : (attribute nonterminal : List ℕ) → IsOwnOccurrence own attribute nonterminal
       → IsOwnAttribute own attribute ⊎ IsOwnSymbol own nonterminal
-  pub on_closed : (attribute nonterminal : List ℕ) → IsOwnOccurrence own attribute nonterminal → ¬ Contains hosts_closed nonterminal
+  pub on_closed : (attribute nonterminal : List ℕ) → IsOwnOccurrence own attribute nonterminal → ¬ Contains bounds.hosts_closed nonterminal
   pub preferences : (first second : List ℕ) → Contains own (d.Preference first second) → IsOwnSymbol own first ⊎ IsOwnSymbol own second
   pub equations : (production attribute nonterminal : List ℕ) (at : Site) → Contains own (d.Equation production attribute at)
       → IsOfHost host production → HasSite (host ++ own) production at nonterminal
@@ -93,4 +93,4 @@ pub record NamesHold (s : Scope) : Type 0 where
   pub once : AreOnce (s.host ++ s.own)
   pub meant : AreMeant (s.host ++ s.own) s.used
   pub placed : s.unplaced ≡ []
-  pub owned : s.owner ≢ 0 → AreOwned s.host s.own s.hosts_closed
+  pub owned : s.owner ≢ 0 → AreOwned s.host s.own s.bounds

@@ -6,29 +6,33 @@ use Rattle.wb_names_theory.specs.declared.usage.Usage.{Usage}
 use Rattle.wb_names_theory.specs.Declarations.{Items}
 use Rattle.wb_names_theory.specs.Declares.{base_declarations, closed_names, item_declarations}
 use Rattle.wb_names_theory.specs.Duplicate.{FailsDuplicate}
-use Rattle.wb_names_theory.specs.Orphan.{FailsOrphan}
+use Rattle.wb_names_theory.specs.Orphan.{Bounds, FailsOrphan}
 use Rattle.wb_names_theory.specs.Unknown.{FailsUnknown}
 use Rattle.wb_names_theory.specs.Uses.{uses}
 use Rattle.wb_names_theory.specs.WrongKind.{FailsWrongKind, misplaced}
 
 -- what the rules read: what is declared before a file, by its items, and what they use; the names of what they have where it has no place;
--- those of the nonterminals that the host closed; and whose the items are: 0 is a host
+-- what bounds an extension; and whose the items are: 0 is a host
 pub record Scope : Type 0 where
   pub host : List Declaration
   pub own : List Declaration
   pub used : List Usage
   pub unplaced : List (List ℕ)
-  pub hosts_closed : List (List ℕ)
+  pub bounds : Bounds
   pub owner : ℕ
 
--- the scope of the items of an owner's file on a base
-abbrev pub scope_of : ResolvedParts → ℕ → Items → Scope
-scope_of base owner items = record {
+-- what bounds an extension of a base, in a file of this format
+abbrev pub bounds_of : ResolvedParts → ℕ → Bounds
+bounds_of base format = record { hosts_closed = closed_names base; format = format }
+
+-- the scope of the items of an owner's file of this format on a base
+abbrev pub scope_of : ResolvedParts → ℕ → ℕ → Items → Scope
+scope_of base owner format items = record {
   host = base_declarations base;
   own = item_declarations items;
   used = uses items;
   unplaced = misplaced owner items;
-  hosts_closed = closed_names base;
+  bounds = bounds_of base format;
   owner = owner;
 }
 
@@ -46,7 +50,7 @@ AllOfKind s = (name : List ℕ) → ¬ FailsWrongKind (s.host ++ s.own) s.used s
 
 -- an extension says what it may
 abbrev pub AllOwned : Scope → Type 0
-AllOwned s = s.owner ≢ 0 → (name : List ℕ) → ¬ FailsOrphan s.host s.own s.hosts_closed name
+AllOwned s = s.owner ≢ 0 → (name : List ℕ) → ¬ FailsOrphan s.host s.own s.bounds name
 
 -- the name rules hold
 pub record NamesOk (s : Scope) : Type 0 where

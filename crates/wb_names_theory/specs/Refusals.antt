@@ -25,7 +25,7 @@ pub record IsOrphan (s : Scope) (name : List ℕ) : Type 0 where
   pub declared : AllDeclared s
   pub kinds : AllOfKind s
   pub extension : s.owner ≢ 0
-  pub fails : FailsOrphan s.host s.own s.hosts_closed name
+  pub fails : FailsOrphan s.host s.own s.bounds name
 
 -- the refusal tells of the first rule that fails; none here is about the first line of a file
 abbrev pub IsTrueRefusal : Scope → NameRefusal → Type 0

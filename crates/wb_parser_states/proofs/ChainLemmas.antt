@@ -16,10 +16,12 @@ use Rattle.wb_parser_states.specs.declared.chains.ChainEnd.{ChainEnd}
 use Rattle.wb_parser_states.specs.declared.chains.Key.{Key}
 use Rattle.wb_parser_states.specs.declared.chains.RuleAction.{RuleAction}
 use Rattle.wb_parser_states.specs.declared.chains.RuleAction.TheVariants as shown
+use Rattle.wb_parser_states.specs.declared.kept.CodedEnd.{CodedEnd}
 use Rattle.wb_parser_states.specs.declared.kept.Kept.{Kept}
 use Rattle.wb_parser_states.specs.declared.rules.Rule.{Rule}
 use Rattle.wb_parser_states.specs.Chains.{IsChain, IsMoveEnd, IsRuleAction, link, nothing}
 use Rattle.wb_parser_states.specs.Kept.{AreKept, end_of, key_of}
+use Rattle.wb_parser_states.specs.Inner.Coded.{IsCodedEnd}
 use Rattle.wb_parser_states.specs.Inner.Followed.{IsChainEnd, IsChainOf, IsKey}
 use Rattle.wb_parser_states.specs.Rules.{IsRule}
 use Rattle.wb_parser_states.specs.Stacks.{IsMoved, last_or}
@@ -70,8 +72,8 @@ module _ (parts : LanguageParts) (ok : IsLanguage parts.language) (of : AreTable
 -- a reduction, and the chain that begins with the state after its left side, lead to the states below it with the end of the chain on top
 pub move_carries : (parts : LanguageParts) → IsLanguage parts.language → AreTablesOf parts.language.grammar parts.tables → (t : ℕ) →
     t ≤ parts.language.grammar.terminals → (states : List ℕ) (rule : Rule) →
-    IsRuleAction parts.language.grammar (action_of parts.tables (last_or 0 states) t) (shown.Reduce rule) → (key : Key) (end : ChainEnd) →
-    IsMoveEnd parts.language.grammar parts.tables key end → key.terminal ≡ t → key.from ≡ rule.left →
+    IsRuleAction parts.language.grammar (action_of parts.tables (last_or 0 states) t) (shown.Reduce rule) → (key : Key) (end : CodedEnd) →
+    IsCodedEnd parts.language.grammar parts.tables key end → key.terminal ≡ t → key.from ≡ rule.left →
     key.below ≡ last_or 0 (take (length states - rule.width) states) →
     CarryOver parts t states (take (length states - rule.width) states ++ end.target ∷ [])
 move_carries parts ok of t le states rule (production, act, has) key end is terminal_is from_is below_is =
@@ -168,9 +170,3 @@ all_more list kept before place other at = elim (at_push list kept other place a
   | inl old ↦ before place other old
   | inr (last, same) ↦ sym same
 ]
-
--- what was found at a place
-pub kept_found : (g : GrammarView) (tables : TablesView) (list : List Kept) (place : ℕ) (kept : Kept) (key : Key) (end : ChainEnd) →
-    AreKept g tables list → slice_get list place ≡ Some kept → key_of kept ≡ key → end ≡ end_of kept → IsMoveEnd g tables key end
-kept_found g tables list place kept key end are at key_is end_is =
-    subst (λ z. IsMoveEnd g tables key z) (sym end_is) (subst (λ z. IsMoveEnd g tables z (end_of kept)) key_is (are place kept at))

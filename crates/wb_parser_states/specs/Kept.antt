@@ -1,24 +1,14 @@
--- What is kept of chains of reductions, with what reductions are made by.
-use Rattle.std.specs.Prelude.{◌≡◌, ◌/◌, ◌%◌, ℕ, zero, suc, List, Some, slice_get}
+-- What is kept of chains of reductions and of actions, with what reductions are made by.
+use Rattle.std.specs.Prelude.{◌≡◌, ◌/◌, ◌%◌, ℕ, List, Some, slice_get}
 use Rattle.wb_base.specs.Grammar.{GrammarView}
 use Rattle.wb_lookahead.specs.Contents.{TablesView}
 use Rattle.wb_parser_states.specs.declared.chains.ChainEnd.{ChainEnd}
 use Rattle.wb_parser_states.specs.declared.chains.Key.{Key}
-use Rattle.wb_parser_states.specs.declared.chains.RuleAction.{RuleAction}
-use Rattle.wb_parser_states.specs.declared.chains.RuleAction.TheVariants as shown
 use Rattle.wb_parser_states.specs.declared.kept.Kept.{Kept}
 use Rattle.wb_parser_states.specs.declared.reductions.Reductions.{Reductions}
 use Rattle.wb_parser_states.specs.Chains.{IsMoveEnd}
+use Rattle.wb_parser_states.specs.Codes.{AreCodes, action_in}
 use Rattle.wb_parser_states.specs.Rules.{AreRules}
-
--- the action of a kind with a number: a state; or a left side below 2^20, with the width above it
-abbrev pub of_kind : ℕ → ℕ → RuleAction
-of_kind zero number = shown.Shift number
-of_kind (suc _) number = shown.Reduce (record { left = number % 1048576; width = number / 1048576 })
-
--- the action that a code stands for: twice a number, and a kind
-abbrev pub action_in : ℕ → RuleAction
-action_in code = of_kind (code % 2) (code / 2)
 
 -- the key that a number stands for: the state below and the left side, each below 2^20, and the terminal above them
 abbrev pub key_in : ℕ → Key
@@ -37,7 +27,8 @@ end_of kept = record { target = kept.target; action = action_in kept.action }
 abbrev pub AreKept : GrammarView → TablesView → List Kept → Type 0
 AreKept g tables list = (place : ℕ) (kept : Kept) → slice_get list place ≡ Some kept → IsMoveEnd g tables (key_of kept) (end_of kept)
 
--- the left sides and widths are those of the grammar's productions, and the ends of chains are those of its tables
+-- the left sides and widths are those of the grammar's productions, and the ends of chains and the codes of actions those of its tables
 pub record AreReductions (g : GrammarView) (tables : TablesView) (reductions : Reductions) : Type 0 where
   pub rules : AreRules g reductions.rules.items
   pub ends : AreKept g tables reductions.ends.items
+  pub codes : AreCodes g tables reductions.codes

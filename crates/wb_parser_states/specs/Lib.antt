@@ -2,7 +2,9 @@
 pub mod Rules
 -- chains of reductions that take one symbol each, and their ends
 pub mod Chains
--- what is kept of chains
+-- actions as numbers
+pub mod Codes
+-- what is kept of chains and of actions
 pub mod Kept
 -- the states of a stack of trees, and what a reduction does to them
 pub mod Stacks

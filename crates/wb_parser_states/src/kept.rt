@@ -2,8 +2,9 @@
 //!
 //! Ends at which the text is accepted or stops aren't kept: a text comes to one of them at most.
 
-ghost use Rattle.std.specs.Prelude.{◌≡◌, ◌<◌, ◌%◌, ◌/◌, ℕ, IfSome, IsTrue, Some, slice_get};
-ghost use Rattle.wb_parser_states.specs.Kept.{action_in, end_of, key_in, key_of};
+ghost use Rattle.std.specs.Prelude.{◌≡◌, ◌≢◌, ◌<◌, ◌%◌, ◌/◌, ℕ, IfSome, IsTrue, Some, slice_get};
+ghost use Rattle.wb_parser_states.specs.Codes.{action_in};
+ghost use Rattle.wb_parser_states.specs.Kept.{end_of, key_in, key_of};
 
 use crate::chains::{ChainEnd, Key, RuleAction};
 use crate::rules::Rule;
@@ -25,6 +26,13 @@ pub(crate) struct Kept {
     key: u64,
     target: u32,
     action: u32,
+}
+
+// Where a chain ends, with the code of the action there, or 0 where that isn't known.
+#[derive(Clone, Copy)]
+pub(crate) struct CodedEnd {
+    pub(crate) target: usize,
+    pub(crate) code: u32,
 }
 
 // The place for a key. Keys that differ in their terminal alone are side by side, as those that are used in turn often do.
@@ -72,28 +80,46 @@ pub(crate) fn is_kept(kept: &Kept, key: Key) -> bool
 
 // The end that is kept.
 #[inline]
-pub(crate) fn end_in(kept: &Kept) -> ChainEnd
-    ensures { result ≡ end_of kept.now }
+pub(crate) fn end_in(kept: &Kept) -> CodedEnd
+    ensures { result ≡ record { target = kept.now.target; code = kept.now.action } }
 {
-    ChainEnd {
+    CodedEnd {
         target: kept.target as usize,
-        action: action_from(kept.action),
+        code: kept.action,
     }
 }
 
 // The action of a code.
 #[inline]
-fn action_from(code: u32) -> RuleAction
+pub(crate) fn action_from(code: u32) -> RuleAction
     ensures { result ≡ action_in code }
 {
-    let number = (code / 2) as usize;
     if code % 2 == 0 {
-        return RuleAction::Shift(number);
+        return RuleAction::Shift(state_in(code));
     }
-    RuleAction::Reduce(Rule {
+    RuleAction::Reduce(rule_in(code))
+}
+
+// The state to which the terminal is shifted by a code of that kind.
+#[inline(always)]
+pub(crate) fn state_in(code: u32) -> usize
+    requires { code % 2 ≡ 0 }
+    ensures { action_in code ≡ RuleAction.Shift result }
+{
+    (code / 2) as usize
+}
+
+// The left side and the width of the reduction by a code of that kind.
+#[inline(always)]
+pub(crate) fn rule_in(code: u32) -> Rule
+    requires { code % 2 ≡ 1 }
+    ensures { action_in code ≡ RuleAction.Reduce result }
+{
+    let number = (code / 2) as usize;
+    Rule {
         left: number % LIMIT,
         width: number / LIMIT,
-    })
+    }
 }
 
 // An end to be kept by its key, where it has a code and its numbers fit.
@@ -106,6 +132,16 @@ pub(crate) fn kept_of(key: Key, end: ChainEnd) -> Option<Kept>
         target: narrow(end.target)?,
         action: code_of(end.action)?,
     })
+}
+
+// The code of an action, and 0 where it has none.
+pub(crate) fn code_or_zero(action: RuleAction) -> u32
+    ensures { result ≢ 0 → action_in result ≡ action }
+{
+    match code_of(action) {
+        Some(code) => code,
+        None => 0,
+    }
 }
 
 // The code of an action, where it has one.

@@ -5,6 +5,7 @@
 #![tactic(auto)]
 
 mod chains;
+mod codes;
 mod kept;
 mod moves;
 mod outcome;

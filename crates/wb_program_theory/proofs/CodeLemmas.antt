@@ -1,5 +1,5 @@
 -- Words and known files have one code with which a specification is refused.
-use Rattle.std.proofs.Common.{◌≡◌, ◌∷◌, ◌∙◌, [], ℕ, List, Some, inl, inr, refl, subst, sym}
+use Rattle.std.proofs.Common.{◌≡◌, ◌∙◌, [], ℕ, List, Some, inl, inr, subst, sym}
 use Rattle.wb_certify_files.specs.HostContents.{IsBadText}
 use Rattle.wb_certify_files.specs.WellDefined.{IsWellDefinedTextRefusal}
 use Rattle.wb_certify_files.specs.declared.host_refusal.HostRefusal.TheVariants as h
@@ -9,7 +9,6 @@ use Rattle.wb_operations.specs.Operations.{Operations}
 use Rattle.wb_report.specs.Lines.{report_of}
 use Rattle.wb_report.specs.declared.done.Done.TheVariants as done
 use Rattle.wb_report.specs.declared.outcome.Outcome.TheVariants as o
-use Rattle.wb_syntax_resolved.specs.declared.resolved.ResolvedParts.{ResolvedParts}
 use Rattle.wb_world.specs.Shelf.{Files}
 use Rattle.wb_program.specs.Inner.Below.{ExcludesExtensions, ExcludesHeaders}
 use Rattle.wb_program.specs.Checks.{Ends}

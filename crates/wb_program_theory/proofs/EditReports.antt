@@ -20,7 +20,6 @@ use Rattle.wb_world.specs.Shelf.{Files}
 use Rattle.wb_program.specs.Commands.Edit.{EditsReport, ShownEdits, refused_line}
 use Rattle.wb_program.specs.Files.{FileIs}
 use Rattle.wb_program.specs.Inner.Below.{ExcludesExtensions, ExcludesHeaders}
-use Rattle.wb_program.specs.declared.status.Status.{Status}
 use Rattle.wb_program.specs.declared.status.Status.TheVariants.{Done, EditRefused, TextTooLong, TooLongToPrint}
 use Rattle.wb_program_words.specs.Asked as a
 use Rattle.wb_program_words.specs.Words.{Asks}

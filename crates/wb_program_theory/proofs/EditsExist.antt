@@ -1,7 +1,6 @@
 -- A text with edits has an answer in a language.
-use Rattle.std.proofs.Common.{◌≡◌, ◌<◌, ◌≤◌, ◌⊎◌, [], ◌∷◌, ℕ, zero, suc, List, Some, None, inl, inr, length, slice_get, take, refl, sym, ap}
+use Rattle.std.proofs.Common.{◌≡◌, ◌<◌, ◌≤◌, ◌⊎◌, [], ℕ, zero, suc, List, Some, inl, inr, length, slice_get, take, refl, sym}
 use Rattle.std.proofs.Common.{subst, arith}
-use Rattle.std.specs.Prelude.{slice_index_or}
 use Rattle.std.proofs.lemmas.Bool.{cases_lt}
 use Rattle.std.proofs.lemmas.Option.{slice_get_cases, slice_get_within}
 use Rattle.wb_compose_texts.specs.EditAnswers.{joined, AreLinesOf, IsEditsAnswerIn, IsLineOf}

@@ -101,7 +101,7 @@ module _ (operations : List OperationSignature) (files : Files) (r : ResolvedPar
   with_withdrawn : (values : List ResolvedParts) → Differ (names_of values) → AreWith values →
       ¬ ¬ ((names : List (List ℕ)) × AreWithdrawnNames r operations values names)
   with_withdrawn values differ is =
-      follows (withdrawn.law certified.grammar r.extensible (lexicon_of r certified.grammar) (written_in is.extended)
+      follows (withdrawn.law certified.grammar r.extensible (lexicon_of r certified.grammar) (written_in certified.grammar is.extended)
       (all_certified r certified.grammar operations is.extended apart)
       (all_apart r certified.grammar operations is.extended apart
       (subst Differ (ap names_of (sym is.are) ∙ map_names is.extended) differ))) (λ (numbers, are). (

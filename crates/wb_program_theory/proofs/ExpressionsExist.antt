@@ -1,12 +1,14 @@
 -- The terminals and layouts of a union are written by some expressions, and each of these matches some text.
-use Rattle.std.proofs.Common.{◌≡◌, ◌<◌, ◌++◌, ◌∷◌, [], ℕ, List, Option, Some, None, arith, drop, length, map, refl, subst, take}
+use Rattle.std.proofs.Common.{◌<◌, ◌+◌, ◌++◌, ◌∷◌, [], ℕ, List, Some, None, arith, drop, length, map, refl, take}
 use Rattle.std.proofs.lemmas.List.Elements.{All-append, All-cons, All-drop, All-head, All-map, All-nil, All-tail, All-take}
 use Rattle.std.specs.List.{AllZip}
 use Rattle.std.specs.Prelude.{All}
 use Rattle.wb_certify_files.specs.Names.{terminals_in}
+use Rattle.wb_base.specs.Grammar.{GrammarView}
 use Rattle.wb_compose_texts.specs.Joined.{Extended}
 use Rattle.wb_compose_texts.specs.Written.{written_in}
-use Rattle.wb_compose_texts.specs.Expressions.{AreUnitedExpressions, IsExpressionOf, IsWrittenAs, Row, added_rows, marker_prefix, name_of}
+use Rattle.wb_compose_texts.specs.Expressions.{AreUnitedExpressions, IsExpressionOf, IsWrittenAs, Row, added_layouts, added_rows, layouts_in}
+use Rattle.wb_compose_texts.specs.Expressions.{marker_prefix, name_of}
 use Rattle.wb_compose_texts.specs.Expressions.{rows_of, united_rows}
 use Rattle.wb_compose_theory_language.specs.Apart.{colon}
 use Rattle.wb_compose_theory_language.specs.Written.{WrittenPiece}
@@ -77,31 +79,48 @@ its_rows name is from to rows all =
     All-map CanBeWritten (λ (row : Terminal). (Some name, row)) (drop from (take to rows))
     (both_of name is (drop from (take to rows)) (All-drop IsMatched from (take to rows) (All-take IsMatched to rows all)))
 
-all_rows : (host : ResolvedParts) (values : List ResolvedParts) → All (λ (r : ResolvedParts). Bytes (name_of r)) values → All HaveMatches values
-    → All CanBeWritten (all_of (map (added_rows host) values))
-all_rows host [] names some = All-nil CanBeWritten
-all_rows host (r ∷ values) names some =
-    All-append CanBeWritten (added_rows host r) (all_of (map (added_rows host) values))
-    (its_rows (name_of r) (All-head (λ (r : ResolvedParts). Bytes (name_of r)) r values names) (terminals_in host.grammar)
-    (terminals_in r.grammar) r.terminals (All-head HaveMatches r values some))
-    (all_rows host values (All-tail (λ (r : ResolvedParts). Bytes (name_of r)) r values names) (All-tail HaveMatches r values some))
+-- rows of all extensions, of each of which these can be written
+all_rows : (rows_in : ResolvedParts → List Row)
+    → ((r : ResolvedParts) → Bytes (name_of r) → HaveMatches r → All CanBeWritten (rows_in r)) → (values : List ResolvedParts)
+    → All (λ (r : ResolvedParts). Bytes (name_of r)) values → All HaveMatches values → All CanBeWritten (all_of (map rows_in values))
+all_rows rows_in each [] names some = All-nil CanBeWritten
+all_rows rows_in each (r ∷ values) names some =
+    All-append CanBeWritten (rows_in r) (all_of (map rows_in values))
+    (each r (All-head (λ (r : ResolvedParts). Bytes (name_of r)) r values names) (All-head HaveMatches r values some))
+    (all_rows rows_in each values (All-tail (λ (r : ResolvedParts). Bytes (name_of r)) r values names) (All-tail HaveMatches r values some))
+
+-- the terminals that they add, and their own layouts
+all_added : (host : ResolvedParts) (values : List ResolvedParts) → All (λ (r : ResolvedParts). Bytes (name_of r)) values
+    → All HaveMatches values → All CanBeWritten (all_of (map (added_rows host) values))
+all_added host values names some =
+    all_rows (added_rows host)
+    (λ r name matched. its_rows (name_of r) name (terminals_in host.grammar) (terminals_in r.grammar) r.terminals matched) values names some
+
+all_layouts : (host : ResolvedParts) (values : List ResolvedParts) → All (λ (r : ResolvedParts). Bytes (name_of r)) values
+    → All HaveMatches values → All CanBeWritten (all_of (map (added_layouts host) values))
+all_layouts host values names some =
+    all_rows (added_layouts host)
+    (λ r name matched. its_rows (name_of r) name (terminals_in r.grammar + layouts_in host) (length r.terminals) r.terminals matched) values
+    names some
 
 -- names of extensions that are written in bytes
-pub names_below : (extended : List Extended) → All (λ (x : WrittenPiece). Bytes x.name) (written_in extended)
+pub names_below : (host : GrammarView) (extended : List Extended) → All (λ (x : WrittenPiece). Bytes x.name) (written_in host extended)
     → All (λ (r : ResolvedParts). Bytes (name_of r)) (map (λ (e : Extended). e.resolved) extended)
-names_below [] all = All-nil (λ (r : ResolvedParts). Bytes (name_of r))
-names_below (e ∷ extended) all =
+names_below host [] all = All-nil (λ (r : ResolvedParts). Bytes (name_of r))
+names_below host (e ∷ extended) all =
     All-cons (λ (r : ResolvedParts). Bytes (name_of r)) e.resolved (map (λ (e : Extended). e.resolved) extended)
-    (All-head (λ (x : WrittenPiece). Bytes x.name) _ (written_in extended) all)
-    (names_below extended (All-tail (λ (x : WrittenPiece). Bytes x.name) _ (written_in extended) all))
+    (All-head (λ (x : WrittenPiece). Bytes x.name) _ (written_in host extended) all)
+    (names_below host extended (All-tail (λ (x : WrittenPiece). Bytes x.name) _ (written_in host extended) all))
 
 pub some_expressions : (host : ResolvedParts) (values : List ResolvedParts) → All (λ (r : ResolvedParts). Bytes (name_of r)) values
     → AllMatch host values → (made : List Tree) × AreUnitedExpressions host values made × All MatchesSome made
 some_expressions host values names (own, theirs) =
+    let terminals = rows_of None 0 (terminals_in host.grammar) host.terminals in
+    let added = all_of (map (added_rows host) values) in
+    let layouts = rows_of None (terminals_in host.grammar) (length host.terminals) host.terminals in
     all_written (united_rows host values)
-    (All-append CanBeWritten
-    (rows_of None 0 (terminals_in host.grammar) host.terminals ++ all_of (map (added_rows host) values))
-    (rows_of None (terminals_in host.grammar) (length host.terminals) host.terminals)
-    (All-append CanBeWritten (rows_of None 0 (terminals_in host.grammar) host.terminals) (all_of (map (added_rows host) values))
-    (host_rows 0 (terminals_in host.grammar) host.terminals own) (all_rows host values names theirs))
-    (host_rows (terminals_in host.grammar) (length host.terminals) host.terminals own))
+    (All-append CanBeWritten (terminals ++ added ++ layouts) (all_of (map (added_layouts host) values))
+    (All-append CanBeWritten (terminals ++ added) layouts
+    (All-append CanBeWritten terminals added (host_rows 0 (terminals_in host.grammar) host.terminals own)
+    (all_added host values names theirs))
+    (host_rows (terminals_in host.grammar) (length host.terminals) host.terminals own)) (all_layouts host values names theirs))

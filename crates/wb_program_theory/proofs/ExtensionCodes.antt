@@ -71,16 +71,16 @@ module _ (host : ResolvedParts) where
   module _ (spec : SpecView) where
     -- the first line is an extension's, and the rules of names hold
     abbrev ExtensionNames : List ℕ → Type 0
-    ExtensionNames = First (spec.header ≢ header.Host) (codes "N4") (NameRules (file_scope (extension_file host spec)))
+    ExtensionNames = First (spec.header ≢ header.Host) (codes "N4") (NameRules (file_scope spec.format (extension_file host spec)))
 
     extension_names_one : HasOne ExtensionNames
     extension_names_one =
-        first_one (spec.header ≢ header.Host) (codes "N4") (NameRules (file_scope (extension_file host spec)))
-        (names_one (file_scope (extension_file host spec)))
+        first_one (spec.header ≢ header.Host) (codes "N4") (NameRules (file_scope spec.format (extension_file host spec)))
+        (names_one (file_scope spec.format (extension_file host spec)))
 
     by_header : (refusal : NameRefusal) (shown : Refusal) → ((spec.header ≡ header.Host) × (refusal ≡ n.WrongKind spec.name))
         ⊎ IsForOther host spec refusal
-        ⊎ ((spec.header ≡ header.Extension host.host) × IsTrueRefusal (file_scope (extension_file host spec)) refusal)
+        ⊎ ((spec.header ≡ header.Extension host.host) × IsTrueRefusal (file_scope spec.format (extension_file host spec)) refusal)
         → of_spec (name_reason refusal) ≡ Some shown → Coded ExtensionNames shown
     by_header refusal shown (inl (is, same)) shows =
         coded ExtensionNames _ shown (subst (λ (z : NameRefusal). of_spec (name_reason z) ≡ Some shown) same shows)
@@ -88,9 +88,9 @@ module _ (host : ResolvedParts) where
     by_header refusal shown (inr (inl other)) shows =
         absurd (none_some (subst (λ (z : NameRefusal). of_spec (name_reason z) ≡ Some shown) other.shown shows))
     by_header refusal shown (inr (inr (own, fails))) shows =
-        coded_by (NameRules (file_scope (extension_file host spec))) ExtensionNames
+        coded_by (NameRules (file_scope spec.format (extension_file host spec))) ExtensionNames
         (λ x later. inr ((λ is. no_host host.host (sym own ∙ is)), later)) shown
-        (names_coded (file_scope (extension_file host spec)) refusal shown fails shows)
+        (names_coded (file_scope spec.format (extension_file host spec)) refusal shown fails shows)
 
     extension_names_coded : (refusal : NameRefusal) (shown : Refusal) → IsExtensionNameRefusal host spec refusal
         → of_spec (name_reason refusal) ≡ Some shown → Coded ExtensionNames shown
@@ -103,8 +103,8 @@ module _ (host : ResolvedParts) where
 
     extension_names_hold : (r : ResolvedParts) → ResolvesExtension host spec r → (x : List ℕ) → ExtensionNames x → ⊥
     extension_names_hold r is x rules =
-        names_hold (file_scope (extension_file host spec)) is.names x
-        (go_on (spec.header ≢ header.Host) (codes "N4") (NameRules (file_scope (extension_file host spec))) x rules
+        names_hold (file_scope spec.format (extension_file host spec)) is.names x
+        (go_on (spec.header ≢ header.Host) (codes "N4") (NameRules (file_scope spec.format (extension_file host spec))) x rules
         (λ own. no_host host.host (sym is.header ∙ own)))
 
   module _ (excludes : RefusalsExclude) (operations : List OperationSignature) where

@@ -1,5 +1,5 @@
 -- Words that ask for `generate` have a report, where files are certified and what they write matches something.
-use Rattle.std.proofs.Common.{◌≡◌, ◌<◌, ◌≤◌, ◌⊎◌, ℕ, List, [], inl, inr, length, refl, sym, subst}
+use Rattle.std.proofs.Common.{◌≡◌, ◌<◌, ◌≤◌, ◌⊎◌, ℕ, List, [], inl, inr, length, refl, subst}
 use Rattle.std.specs.Prelude.{All}
 use Rattle.std.proofs.lemmas.Bool.{cases_lt}
 use Rattle.wb_base.specs.Different.{Differ}
@@ -14,14 +14,13 @@ use Rattle.wb_compose_texts.specs.generated_text.Generated.{Generated}
 use Rattle.wb_compose_texts.specs.generated_text.Generated.TheVariants as g
 use Rattle.wb_eval_theory.specs.Evaluable.{AreOperations}
 use Rattle.wb_lemmas.proofs.NotNot.{bind, certain, decide, follows}
-use Rattle.wb_operations.specs.Operations.{Operations, OperationSignature}
+use Rattle.wb_operations.specs.Operations.{Operations}
 use Rattle.wb_report.specs.Lines.{report_of}
 use Rattle.wb_report.specs.declared.done.Done.TheVariants as done
 use Rattle.wb_report.specs.declared.outcome.Outcome.TheVariants as o
 use Rattle.wb_scan_theory.proofs.AnswersExist.{answer_exists}
 use Rattle.wb_scan_theory.specs.Bounds.{HasNoCycle}
 use Rattle.wb_syntax_resolved.specs.declared.resolved.ResolvedParts.{ResolvedParts}
-use Rattle.wb_world.specs.Shelf.{Files}
 use Rattle.wb_program.specs.Inner.Below.{ExcludesExtensions, ExcludesHeaders}
 use Rattle.wb_program.specs.SeveralChecks.{names_of}
 use Rattle.wb_program.specs.declared.status.Status.TheVariants as s
@@ -51,7 +50,7 @@ module _ (operations : Operations) (r : ResolvedParts) (values : List ResolvedPa
   some_made =
       let names : All (λ (v : ResolvedParts). All (λ b. b < 256) (name_of v)) values =
       subst (All (λ (v : ResolvedParts). All (λ b. b < 256) (name_of v))) x.whole.extensions_are
-      (names_below x.whole.extended
+      (names_below x.whole.grammar x.whole.extended
       (all_spelled r x.whole.grammar operations.signatures x.whole.extended x.whole.certified).names) in
       let (expressions, written, some) = some_expressions r values names match in
       let grammar : x.language.grammar ≡ its = x.is_language.of_union.grammar in

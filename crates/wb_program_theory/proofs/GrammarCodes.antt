@@ -5,13 +5,12 @@ use lib.Chars.{codes}
 use Rattle.wb_base.specs.Grammar.{GrammarView}
 use Rattle.wb_certify_files.specs.Shows.{grammar_reason, of_grammar}
 use Rattle.wb_determinism_contexts.proofs.ConflictLemmas.{shown_conflict}
-use Rattle.wb_determinism_contexts.specs.Considered.{HasNoClashAt}
+use Rattle.wb_determinism_contexts.specs.Considered.{HasNoClashAt, LexiconView}
 use Rattle.wb_determinism_host.proofs.RefusalLemmas.{not_reduced}
 use Rattle.wb_determinism_host.specs.declared.refusal.DeterminismRefusal.{DeterminismRefusal}
 use Rattle.wb_determinism_host.specs.declared.refusal.DeterminismRefusal.TheVariants as d
-use Rattle.wb_determinism_host.specs.Hosts.{AreAcyclic, IsDeterministicHost, IsFitForParsing}
-use Rattle.wb_determinism_host.specs.Lexicons.{lexicon_of}
-use Rattle.wb_determinism_host.specs.Refusals.{IsHostRefusal, IsNoMemory}
+use Rattle.wb_determinism_host.specs.Hosts.{AreAcyclic, IsDeterministicBy, IsFitForParsing}
+use Rattle.wb_determinism_host.specs.Refusals.{IsNoMemory, IsRefusalBy}
 use Rattle.wb_grammar.specs.declared.refusal.Reason.{Reason}
 use Rattle.wb_grammar.specs.declared.refusal.Reason.TheVariants.{Unreachable, Unproductive}
 use Rattle.wb_grammar_theory.proofs.CycleLemmas.{first_element, hidden_cycle_above, unit_cycle_member}
@@ -40,13 +39,13 @@ has_unit_cycle g list cycle none =
 pub has_hidden : (g : GrammarView) (list : List ℕ) → (cycle : IsHiddenCycle g list) → ¬ HasNoHiddenLeftRecursion g
 has_hidden g list cycle none = none cycle.above (hidden_cycle_above g list cycle)
 
-module _ (r : ResolvedParts) (there : Option GrammarView) (Later : List ℕ → Type 0) where
+module _ (r : ResolvedParts) (there : Option GrammarView) (lexicon : GrammarView → LexiconView) (Later : List ℕ → Type 0) where
   -- the grammar with holes meets this
   abbrev WithHoles : (GrammarView → Type 0) → Type 0
   WithHoles P = OfGrammar there (λ g. P (with_holes_of g r.extensible))
 
   abbrev Clear : Type 0
-  Clear = OfGrammar there (λ g. HasNoClashAt (with_holes_of g r.extensible) (lexicon_of r g))
+  Clear = OfGrammar there (λ g. HasNoClashAt (with_holes_of g r.extensible) (lexicon g))
 
   -- the rules of a reduced grammar, and then the later ones
   abbrev pub ReducedRules : List ℕ → Type 0
@@ -85,11 +84,11 @@ module _ (r : ResolvedParts) (there : Option GrammarView) (Later : List ℕ → 
         )
 
     -- a deterministic one passes all
-    pub after_grammar : IsDeterministicHost r g → (x : List ℕ) → Later x → GrammarRules x
+    pub after_grammar : IsDeterministicBy r g (lexicon g) → (x : List ℕ) → Later x → GrammarRules x
     after_grammar is x later =
         after_fit is.fit x (inr (
           of_one there (λ k. HasNoConflict (with_holes_of k r.extensible)) g start is.no_conflict,
-          inr (of_one there (λ k. HasNoClashAt (with_holes_of k r.extensible) (lexicon_of r k)) g start is.no_clash, later),
+          inr (of_one there (λ k. HasNoClashAt (with_holes_of k r.extensible) (lexicon k)) g start is.no_clash, later),
         ))
 
     -- a grammar that isn't reduced is shown by either reason
@@ -100,8 +99,8 @@ module _ (r : ResolvedParts) (there : Option GrammarView) (Later : List ℕ → 
 
     -- a refusal for the grammar is of the first rule that fails; that of preferences comes before
     pub grammar_coded : (R : List ℕ → Type 0) → (AreAcyclic r → (x : List ℕ) → GrammarRules x → R x)
-        → ((cycle : List ℕ) → IsHostRefusal r g (d.PreferenceCycle cycle) → R (codes "G6")) → (refusal : DeterminismRefusal)
-        → IsHostRefusal r g refusal → ¬ IsNoMemory refusal → (shown : Refusal) → of_grammar (grammar_reason r refusal) ≡ Some shown
+        → ((cycle : List ℕ) → IsRefusalBy r g (lexicon g) (d.PreferenceCycle cycle) → R (codes "G6")) → (refusal : DeterminismRefusal)
+        → IsRefusalBy r g (lexicon g) refusal → ¬ IsNoMemory refusal → (shown : Refusal) → of_grammar (grammar_reason r refusal) ≡ Some shown
         → Coded R shown
     grammar_coded R goes cycles (d.Markers m) fails other shown is = absurd fails
     grammar_coded R goes cycles (d.PreferenceCycle cycle) fails other shown is =

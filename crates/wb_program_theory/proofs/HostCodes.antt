@@ -37,6 +37,7 @@ use Rattle.wb_program_theory.proofs.AlikeLemmas.{three_alike, written_alike}
 use Rattle.wb_program_theory.proofs.AttributeCodes.{AttributeRules, Coded, KindRules, after_kinds, attributes_coded, attributes_one, coded}
 use Rattle.wb_program_theory.proofs.AttributeCodes.{kinds_coded, kinds_one, none_some}
 use Rattle.wb_program_theory.proofs.ChainLemmas.{First, HasOne, first_one, go_on}
+use Rattle.wb_determinism_host.specs.Lexicons.{lexicon_of}
 use Rattle.wb_program_theory.proofs.GrammarCodes.{GrammarRules, after_grammar, grammar_coded, grammar_one}
 
 -- a host is no extension
@@ -66,22 +67,22 @@ one_value contents r s first second =
 module _ (spec : SpecView) where
   -- the first line is a host's, and the rules of names hold
   abbrev HostNames : List ℕ → Type 0
-  HostNames = First (spec.header ≡ header.Host) (codes "N4") (NameRules (file_scope (host_file spec)))
+  HostNames = First (spec.header ≡ header.Host) (codes "N4") (NameRules (file_scope spec.format (host_file spec)))
 
   host_names_one : HasOne HostNames
   host_names_one =
-      first_one (spec.header ≡ header.Host) (codes "N4") (NameRules (file_scope (host_file spec)))
-      (names_one (file_scope (host_file spec)))
+      first_one (spec.header ≡ header.Host) (codes "N4") (NameRules (file_scope spec.format (host_file spec)))
+      (names_one (file_scope spec.format (host_file spec)))
 
   by_header : (refusal : NameRefusal) (shown : Refusal) → (IsExtension spec.header × (refusal ≡ n.WrongKind spec.name))
-      ⊎ ((spec.header ≡ header.Host) × IsTrueRefusal (file_scope (host_file spec)) refusal)
+      ⊎ ((spec.header ≡ header.Host) × IsTrueRefusal (file_scope spec.format (host_file spec)) refusal)
       → of_spec (name_reason refusal) ≡ Some shown → Coded HostNames shown
   by_header refusal shown (inl ((host, is), same)) shows =
       coded HostNames _ shown (subst (λ (z : NameRefusal). of_spec (name_reason z) ≡ Some shown) same shows)
       (inl ((λ own. no_extension host (sym own ∙ is)), refl), (λ no. no))
   by_header refusal shown (inr (own, fails)) shows =
-      coded_by (NameRules (file_scope (host_file spec))) HostNames (λ x later. inr (own, later)) shown
-      (names_coded (file_scope (host_file spec)) refusal shown fails shows)
+      coded_by (NameRules (file_scope spec.format (host_file spec))) HostNames (λ x later. inr (own, later)) shown
+      (names_coded (file_scope spec.format (host_file spec)) refusal shown fails shows)
 
   host_names_coded : (refusal : NameRefusal) (shown : Refusal) → IsHostNameRefusal spec refusal
       → of_spec (name_reason refusal) ≡ Some shown → Coded HostNames shown
@@ -94,8 +95,8 @@ module _ (spec : SpecView) where
 
   host_names_hold : (r : ResolvedParts) → ResolvesHost spec r → (x : List ℕ) → HostNames x → ⊥
   host_names_hold r is x rules =
-      names_hold (file_scope (host_file spec)) is.names x
-      (go_on (spec.header ≡ header.Host) (codes "N4") (NameRules (file_scope (host_file spec))) x rules is.header)
+      names_hold (file_scope spec.format (host_file spec)) is.names x
+      (go_on (spec.header ≡ header.Host) (codes "N4") (NameRules (file_scope spec.format (host_file spec))) x rules is.header)
 
 module _ (r : ResolvedParts) (operations : List OperationSignature) where
   -- there is a start
@@ -107,7 +108,7 @@ module _ (r : ResolvedParts) (operations : List OperationSignature) where
   Attributes = AttributeRules r.attributes (start_of r) None
 
   abbrev Grammar : List ℕ → Type 0
-  Grammar = GrammarRules r r.grammar Attributes
+  Grammar = GrammarRules r r.grammar (lexicon_of r) Attributes
 
   abbrev Started : List ℕ → Type 0
   Started = First HasStart (codes "G1") Grammar
@@ -125,7 +126,7 @@ module _ (r : ResolvedParts) (operations : List OperationSignature) where
   host_one =
       kinds_one r.attributes operations Sound (first_one (AreAcyclic r) (codes "G6") Started
       (first_one HasStart (codes "G1") Grammar
-      (grammar_one r r.grammar Attributes (attributes_one r.attributes (start_of r) None))))
+      (grammar_one r r.grammar (lexicon_of r) Attributes (attributes_one r.attributes (start_of r) None))))
 
   well_defined_one : HasOne WellDefinedRules
   well_defined_one = kinds_one r.attributes operations Attributes (attributes_one r.attributes (start_of r) None)
@@ -135,7 +136,7 @@ module _ (r : ResolvedParts) (operations : List OperationSignature) where
       → IsDeterminismOf r there refusal → ¬ IsNoMemory refusal → (shown : Refusal)
       → of_grammar (grammar_reason r refusal) ≡ Some shown → Coded Sound shown
   determinism_coded (Some g) start refusal fails other shown is =
-      grammar_coded r r.grammar Attributes g start Sound (λ acyclic x later. inr (acyclic, inr ((g, start), later)))
+      grammar_coded r r.grammar (lexicon_of r) Attributes g start Sound (λ acyclic x later. inr (acyclic, inr ((g, start), later)))
       (λ cycle has. inl ((λ acyclic. acyclic cycle has.cycle_is), refl)) refusal fails other shown is
   determinism_coded None start (d.PreferenceCycle cycle) fails other shown is =
       coded Sound _ shown is (inl ((λ acyclic. acyclic cycle fails.cycle_is), refl), (λ no. no))
@@ -170,7 +171,7 @@ module _ (r : ResolvedParts) (operations : List OperationSignature) where
         there.deterministic.fit.sound.acyclic,
         inr (
           (there.grammar, there.start),
-          after_grammar r r.grammar Attributes there.grammar there.start there.deterministic x later,
+          after_grammar r r.grammar (lexicon_of r) Attributes there.grammar there.start there.deterministic x later,
         ),
       ))) shown
       (attributes_coded r (start_of r) None refusal shown (elim reason.0.reason [ inl x ↦ inl x | inr x ↦ inr (inl x) ]) reason.1 is)

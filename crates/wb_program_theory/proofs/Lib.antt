@@ -1,3 +1,5 @@
+mod ChosenLists
+mod SpanLemmas
 pub mod LanguageLemmas
 pub mod UnionLemmas
 pub mod ProductionLemmas

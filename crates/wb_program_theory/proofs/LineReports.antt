@@ -12,7 +12,6 @@ use Rattle.wb_syntax_resolved.specs.declared.resolved.ResolvedParts.{ResolvedPar
 use Rattle.wb_world.specs.Shelf.{Files}
 use Rattle.wb_program.specs.Inner.Below.{ExcludesExtensions, ExcludesHeaders}
 use Rattle.wb_program.specs.SeveralChecks.{AreEach, IsNextText}
-use Rattle.wb_program.specs.declared.status.Status.{Status}
 use Rattle.wb_program.specs.declared.status.Status.TheVariants.{Done, TooLongToPrint}
 use Rattle.wb_program_words.specs.Asked as a
 use Rattle.wb_program.specs.Commands.Certificate.{CertificateChecks, IsCertificateOf}

@@ -1,5 +1,5 @@
 -- Refusals of an extension by rules of markers, grammars and scanners have one code.
-use Rattle.std.proofs.Common.{◌≡◌, ℕ, List, Some, inl, inr, refl, subst}
+use Rattle.std.proofs.Common.{◌≡◌, ◌-◌, ℕ, List, Option, Some, None, ap, inl, inr, length, refl, subst, sym}
 use lib.Chars.{codes}
 use Rattle.wb_base.specs.declared.symbol.Symbol.{Symbol}
 use Rattle.wb_base.specs.Grammar.{GrammarView}
@@ -7,7 +7,7 @@ use Rattle.wb_certify_files.specs.Extensions.{AreMarkersKept, IsDeterministicBes
 use Rattle.wb_certify_files.specs.BesideRefusals.{AreMarkersRefused, IsReason}
 use Rattle.wb_certify_files.specs.ShownExtensions.{determinism_shown, marker_reason, of_extension}
 use Rattle.wb_compose_theory.specs.Numbered.{KeepsKernelLookaheads}
-use Rattle.wb_determinism.specs.Extensions.{IsDeterministicExtension, both_numbers, extended_grammar}
+use Rattle.wb_determinism.specs.Extensions.{IsDeterministicExtension, both_lexicon, both_numbers, extended_grammar}
 use Rattle.wb_determinism.specs.Images.{stands_for}
 use Rattle.wb_determinism.specs.Numbers.{up_by}
 use Rattle.wb_determinism.specs.Refusals.{IsEnvelopeFault, IsExtensionRefusal}
@@ -15,8 +15,10 @@ use Rattle.wb_determinism_host.specs.declared.refusal.DeterminismRefusal.{Determ
 use Rattle.wb_determinism_host.specs.declared.refusal.DeterminismRefusal.TheVariants as d
 use Rattle.wb_determinism_host.specs.declared.refusal.EnvelopeFault.{EnvelopeFault}
 use Rattle.wb_determinism_host.specs.declared.refusal.EnvelopeFault.TheVariants as f
-use Rattle.wb_determinism_host.specs.Hosts.{AreAcyclic, IsDeterministicHost}
-use Rattle.wb_determinism_host.specs.Refusals.{IsNoMemory}
+use Rattle.wb_determinism_host.specs.Hosts.{AreAcyclic, IsDeterministicBy}
+use Rattle.wb_determinism_host.specs.Lexicons.{lexicon_beside}
+use Rattle.wb_determinism_contexts.specs.Considered.{LexiconView}
+use Rattle.wb_determinism_host.specs.Refusals.{IsNoMemory, IsRefusalBy}
 use Rattle.wb_grammar_theory.specs.declared.item.Item.{Item}
 use Rattle.wb_grammar_theory.specs.Lookaheads.{IsLookahead}
 use Rattle.wb_marking.specs.Bridges.{AreBridges, AreExtensible, BeginWithMarkers, EachBeginsOne}
@@ -51,8 +53,16 @@ module _ (host r : ResolvedParts) (Later : List ℕ → Type 0) where
   abbrev Envelope : List ℕ → Type 0
   Envelope = First (Beside KeepsLookaheads) (codes "E5") (First (Beside StaysInEnvelope) (codes "E6") Later)
 
+  -- where the extension's productions begin, and what is scanned of the host with the extension
+  abbrev first_in : Option GrammarView → ℕ
+  first_in None = 0
+  first_in (Some k) = length (with_holes_of k host.extensible).productions - length r.extensible
+
+  abbrev scanned : GrammarView → LexiconView
+  scanned g = lexicon_beside r g (first_in host.grammar)
+
   abbrev Grammars : List ℕ → Type 0
-  Grammars = GrammarRules r r.grammar Envelope
+  Grammars = GrammarRules r r.grammar scanned Envelope
 
   abbrev Clashes : List ℕ → Type 0
   Clashes = First (HasNoMarkerClash r) (codes "E4") Grammars
@@ -75,7 +85,7 @@ module _ (host r : ResolvedParts) (Later : List ℕ → Type 0) where
       (first_one (OfGrammar r.grammar (EachBeginsOne r)) (codes "E2") Onward
       (first_one (OfGrammar r.grammar (AreExtensible r)) (codes "E3") Preferences
       (first_one (AreAcyclic r) (codes "G6") Clashes (first_one (HasNoMarkerClash r) (codes "E4") Grammars
-      (grammar_one r r.grammar Envelope
+      (grammar_one r r.grammar scanned Envelope
       (first_one (Beside KeepsLookaheads) (codes "E5") (First (Beside StaysInEnvelope) (codes "E6") Later)
       (first_one (Beside StaysInEnvelope) (codes "E6") Later one)))))))
 
@@ -102,9 +112,13 @@ module _ (host r : ResolvedParts) (Later : List ℕ → Type 0) where
     after_markers : AreMarkersKept r g → AreAcyclic r → (x : List ℕ) → Grammars x → MarkerRules x
     after_markers kept acyclic x later = after_bridges kept.bridges x (inr (acyclic, inr (kept.clashes, later)))
 
-    after_host : AreMarkersKept r g → IsDeterministicHost r g → (x : List ℕ) → Envelope x → MarkerRules x
+    scanned_is : both_lexicon r g K ≡ scanned g
+    scanned_is = ap (λ o. lexicon_beside r g (first_in o)) (sym host_start)
+
+    after_host : AreMarkersKept r g → IsDeterministicBy r g (both_lexicon r g K) → (x : List ℕ) → Envelope x → MarkerRules x
     after_host kept is x later =
-        after_markers kept is.fit.sound.acyclic x (after_grammar r r.grammar Envelope g start is x later)
+        after_markers kept is.fit.sound.acyclic x (after_grammar r r.grammar scanned Envelope g start
+        (subst (IsDeterministicBy r g) scanned_is is) x later)
 
     -- an extension that is deterministic beside its host keeps all
     pub after_beside : RefusalsExclude → IsDeterministicBeside host r k g → (x : List ℕ) → Later x → MarkerRules x
@@ -171,25 +185,26 @@ module _ (host r : ResolvedParts) (Later : List ℕ → Type 0) where
           (λ no. no),
         )
     beside_coded (d.NotReduced reason) fails other shown is =
-        grammar_coded r r.grammar Envelope g start MarkerRules (after_markers fails.0)
+        grammar_coded r r.grammar scanned Envelope g start MarkerRules (after_markers fails.0)
         (λ cycle has. after_bridges fails.0.bridges (codes "G6") (inl ((λ acyclic. acyclic cycle has.cycle_is), refl)))
         (d.NotReduced reason) fails.1 other shown is
     beside_coded (d.UnitCycle list) fails other shown is =
-        grammar_coded r r.grammar Envelope g start MarkerRules (after_markers fails.0)
+        grammar_coded r r.grammar scanned Envelope g start MarkerRules (after_markers fails.0)
         (λ cycle has. after_bridges fails.0.bridges (codes "G6") (inl ((λ acyclic. acyclic cycle has.cycle_is), refl)))
         (d.UnitCycle list) fails.1 other shown is
     beside_coded (d.HiddenLeftRecursion list) fails other shown is =
-        grammar_coded r r.grammar Envelope g start MarkerRules (after_markers fails.0)
+        grammar_coded r r.grammar scanned Envelope g start MarkerRules (after_markers fails.0)
         (λ cycle has. after_bridges fails.0.bridges (codes "G6") (inl ((λ acyclic. acyclic cycle has.cycle_is), refl)))
         (d.HiddenLeftRecursion list) fails.1 other shown is
     beside_coded (d.Conflict prefix t a b) fails other shown is =
-        grammar_coded r r.grammar Envelope g start MarkerRules (after_markers fails.0)
+        grammar_coded r r.grammar scanned Envelope g start MarkerRules (after_markers fails.0)
         (λ cycle has. after_bridges fails.0.bridges (codes "G6") (inl ((λ acyclic. acyclic cycle has.cycle_is), refl)))
         (d.Conflict prefix t a b) fails.1 other shown is
     beside_coded (d.Clash prefix a b text) fails other shown is =
-        grammar_coded r r.grammar Envelope g start MarkerRules (after_markers fails.0)
+        grammar_coded r r.grammar scanned Envelope g start MarkerRules (after_markers fails.0)
         (λ cycle has. after_bridges fails.0.bridges (codes "G6") (inl ((λ acyclic. acyclic cycle has.cycle_is), refl)))
-        (d.Clash prefix a b text) fails.1 other shown is
+        (d.Clash prefix a b text)
+        (subst (λ z. IsRefusalBy r g z (d.Clash prefix a b text)) scanned_is fails.1) other shown is
     beside_coded (d.Lookahead prefix item t) fails other shown is =
         let x = fails.1.1 in
         coded MarkerRules _ shown is (

@@ -1,7 +1,7 @@
 -- Expressions of the texts that begin with fixed bytes: there are some.
-use Rattle.std.proofs.Common.{◌≡◌, ◌∙◌, ◌⊎◌, ℕ, zero, suc, ◌*◌, ◌/◌, ◌%◌, ◌^◌, ◌<◌, List, [], ◌∷◌, ◌++◌, length, get_or, set, refl, sym, ap}
-use Rattle.std.proofs.Common.{subst, arith, inl, inr, w64, get_or-set_same, get_or-set_other, append_assoc}
-use Rattle.std.specs.Prelude.{All, bit_or, slice_index}
+use Rattle.std.proofs.Common.{◌≡◌, ◌∙◌, ◌⊎◌, ℕ, zero, suc, ◌*◌, ◌/◌, ◌%◌, ◌^◌, ◌<◌, List, [], ◌∷◌, ◌++◌, get_or, set, refl, sym, ap}
+use Rattle.std.proofs.Common.{subst, arith, inl, inr, w64, get_or-set_same, get_or-set_other}
+use Rattle.std.specs.Prelude.{All, bit_or}
 use Rattle.std.specs.Int.{bit_at}
 use Rattle.std.proofs.lemmas.Bool.{cases_eq}
 use Rattle.std.proofs.lemmas.List.Elements.{All-head, All-tail}

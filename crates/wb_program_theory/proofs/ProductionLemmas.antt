@@ -54,7 +54,7 @@ module _ (host : ResolvedParts) (g : GrammarView) (operations : List OperationSi
 
   -- so many productions each extension adds to both
   pub sizes_are : (xs : List Extended) → All Both xs
-      → map leads_in (additions_of host g xs) ≡ production_sizes g host.extensible (pieces_of (written_in xs))
+      → map leads_in (additions_of host g xs) ≡ production_sizes g host.extensible (pieces_of (written_in g xs))
   sizes_are [] all = refl
   sizes_are (e ∷ xs) all =
       let first = size_is e (All-head Both e xs all) in
@@ -70,13 +70,13 @@ module _ (host : ResolvedParts) (g : GrammarView) (operations : List OperationSi
     t = reordered_numbers rows (additions_of host g xs) (additions_of host g ys) to
 
     abbrev names : Renaming
-    names = names_to g host.extensible (written_in xs) (written_in ys) to
+    names = names_to g host.extensible (written_in g xs) (written_in g ys) to
 
     lead_is : length rows.productions ≡ length g.productions
     lead_is = taken host g whole start
 
     -- productions of the grammar
-    pub production_same : (p : ℕ) → p < length (united g host.extensible (pieces_of (written_in xs))).productions
+    pub production_same : (p : ℕ) → p < length (united g host.extensible (pieces_of (written_in g xs))).productions
         → names.production p ≡ t.production p
     production_same p less =
         let additions_re = reordering_map (addition_of host g) re in
@@ -85,7 +85,7 @@ module _ (host : ResolvedParts) (g : GrammarView) (operations : List OperationSi
         let sizes = sizes_are xs one in
         let sizes' = sizes_are ys two in
         let lead = lead_is in
-        let len = united_len g host.extensible (pieces_of (written_in xs)) in
+        let len = united_len g host.extensible (pieces_of (written_in g xs)) in
         let totals = ap total_of sizes in
         let here : p < length rows.productions + total_of (map leads_in (additions_of host g xs))
         = omega (arith, less, len, totals, lead) in
@@ -99,17 +99,17 @@ module _ (host : ResolvedParts) (g : GrammarView) (operations : List OperationSi
         (omega (arith, there, total)))
 
     -- a text's tree in new numbers
-    forest_values : (f : Forest) → IsDerived (united g host.extensible (pieces_of (written_in xs))) f
+    forest_values : (f : Forest) → IsDerived (united g host.extensible (pieces_of (written_in g xs))) f
         → values_of (renamed_forest names f) ≡ renamed_values t (values_of f)
     forest_values nothing d = refl
     forest_values (leaf k lexeme rest) d = ap (more (plain (text lexeme))) (forest_values rest d)
     forest_values (node p a children rest) (rule, below, d) =
-        let within = production_within (united g host.extensible (pieces_of (written_in xs))) p a (symbols children) rule in
+        let within = production_within (united g host.extensible (pieces_of (written_in g xs))) p a (symbols children) rule in
         let number = production_same p within in
         let first = forest_values children below in
         let later = forest_values rest d in
         λ z. more (tree (values.node (number z) (first z))) (later z)
 
-    pub shows_there : (f : Forest) → IsDerived (united g host.extensible (pieces_of (written_in xs))) f → (top : Tree) → Shows top f
+    pub shows_there : (f : Forest) → IsDerived (united g host.extensible (pieces_of (written_in g xs))) f → (top : Tree) → Shows top f
         → Shows (renamed_tree t top) (renamed_forest names f)
     shows_there f d top shows = forest_values f d ∙ ap (renamed_values t) shows

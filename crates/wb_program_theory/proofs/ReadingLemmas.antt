@@ -1,7 +1,6 @@
 -- What is reported of a text without markers is what is reported of it without the extensions.
-use Rattle.std.proofs.Common.{◌≡◌, ◌≤◌, ◌∙◌, ◌∷◌, [], ℕ, List, Some, ap, inl, inr, length, refl, sym, subst, arith}
+use Rattle.std.proofs.Common.{◌≡◌, ◌∙◌, ◌∷◌, [], ℕ, List, Some, ap, inl, inr, refl, sym, subst, arith}
 use Rattle.wb_base.specs.Different.{Differ}
-use Rattle.wb_certify_files.specs.HostContents.{IsHostText}
 use Rattle.wb_operations.specs.Operations.{OperationSignature, Operations}
 use Rattle.wb_compose_texts.specs.Readings.{IsUnionReading}
 use Rattle.wb_compose_texts.specs.declared.text_reading.TextReading.{TextReading}
@@ -18,15 +17,14 @@ use Rattle.wb_syntax_resolved.specs.declared.resolved.ResolvedParts.{ResolvedPar
 use Rattle.wb_world.specs.Shelf.{Files}
 use Rattle.wb_program.specs.Inner.Below.{ExcludesExtensions, ExcludesHeaders}
 use Rattle.wb_program.proofs.OneCheck.{on_file}
-use Rattle.wb_program.specs.Files.{KnownFile}
 use Rattle.wb_program.specs.SeveralChecks.{names_of}
 use Rattle.wb_program.specs.Texts.{IsText}
 use Rattle.wb_program.specs.declared.status.Status.{Status}
 use Rattle.wb_program.specs.declared.status.Status.TheVariants.{Done}
 use Rattle.wb_program.specs.Commands.Run.{RunChecks}
-use Rattle.wb_program.specs.Commands.Reading.{ReadingReport, ShownReading, TextReadingReport}
+use Rattle.wb_program.specs.Commands.Reading.{ShownReading}
 use Rattle.wb_program_theory.specs.Certified.{AreCertified, ReadingChecks, TreeChecks}
-use Rattle.wb_program_theory.specs.ReadingLaws.{HaveHostRun, HaveHostTree, IsAttributeOf, ReportsHostReading}
+use Rattle.wb_program_theory.specs.ReadingLaws.{HaveHostRun, HaveHostTree, ReportsHostReading}
 use Rattle.wb_program_theory.proofs.CertifiedLemmas.{one_host_value, passes, reports}
 use Rattle.wb_program_theory.proofs.FileLemmas.{all_differ}
 use Rattle.wb_program_theory.proofs.SeveralLemmas.{RefusesNone, several_certified}

@@ -1,5 +1,5 @@
 -- Two refusals by `recheck` have one code.
-use Rattle.std.proofs.Common.{◌≡◌, ◌∷◌, [], ℕ, List, Option, Some, None, inl, inr}
+use Rattle.std.proofs.Common.{◌∷◌, [], ℕ, List, Option, Some, None, inl, inr}
 use Rattle.wb_certify_files.specs.HostContents.{IsHostText}
 use Rattle.wb_certify_files.specs.declared.extension_refusal.FileRefusal.TheVariants as f
 use Rattle.wb_operations.specs.Operations.{OperationSignature}
@@ -8,7 +8,6 @@ use Rattle.wb_certify_files.specs.RecheckedExtensions.{IsRefusedExtension}
 use Rattle.wb_certify_files.specs.RecheckedHosts.{IsRecheckedHost, IsRefusedHost}
 use Rattle.wb_certify_files.specs.declared.contents_refusal.ContentsRefusal.{ContentsRefusal}
 use Rattle.wb_certify_files.specs.declared.contents_refusal.ContentsRefusal.TheVariants as k
-use Rattle.wb_report.specs.declared.refusal.Refusal.{Refusal}
 use Rattle.wb_syntax_resolved.specs.declared.resolved.ResolvedParts.{ResolvedParts}
 use Rattle.wb_world.specs.Shelf.{Files}
 use Rattle.wb_program.specs.CertificateChecks.{IsPair, RefusedPair}

@@ -73,17 +73,17 @@ module _ (host : ResolvedParts) (operations : List OperationSignature) (extensio
   }
 
   abbrev old : List WrittenPiece
-  old = written_in u.extended
+  old = written_in u.grammar u.extended
 
   abbrev new : List WrittenPiece
-  new = written_in extended_there
+  new = written_in u.grammar extended_there
 
   -- where numbers of the grammar go
   abbrev pub names : Renaming
   names = names_to u.grammar host.extensible old new to
 
   pub written_re : IsReordering to from old new
-  written_re = reordering_map (λ (e : Extended). written_with e.resolved e.grammar) extended_re
+  written_re = reordering_map (λ (e : Extended). written_with u.grammar e.resolved e.grammar) extended_re
 
   pub pieces : ArePieces u.grammar host.extensible (pieces_of old)
   pieces = (all_certified host u.grammar operations u.extended u.certified).are_pieces

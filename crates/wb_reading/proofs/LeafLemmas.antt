@@ -1,5 +1,5 @@
 -- What becomes of a leaf: what was scanned is next after leaves without markers, and is read, a marker, or the end of the walk.
-use Rattle.std.proofs.Common.{◌≡◌, ◌<◌, ◌≤◌, ℕ, Bool, List, [], ◌∷◌, ◌++◌, length, refl, sym, subst, arith, slice_range}
+use Rattle.std.proofs.Common.{◌≡◌, ◌<◌, ◌≤◌, ℕ, Bool, List, [], ◌∷◌, ◌++◌, length, refl, sym, ◌∙◌, subst, arith, slice_range}
 use Rattle.std.specs.Prelude.{All}
 use Rattle.std.proofs.lemmas.List.Elements.{All-push}
 use Rattle.wb_base.specs.declared.symbol.Symbol.{Symbol}
@@ -20,6 +20,7 @@ use Rattle.wb_parser_states.specs.declared.outcome.Outcome.TheVariants.{Shifts, 
 use Rattle.wb_parser_states.specs.Stacks.{last_or}
 use Rattle.wb_parser_states.specs.Steps.{AreAt, HasOutcome, IsOutcome}
 use Rattle.wb_parser_states.proofs.ReadyLemmas.{first_ready, scanned, shifted}
+use Rattle.wb_parser_states.proofs.StateLemmas.{top_pushed}
 use Rattle.wb_reading_theory.specs.Markers.{HasNoMarker, IsMarkerAt, IsPlain}
 use Rattle.wb_reading_theory.proofs.EndLemmas.{stack_marker}
 use Rattle.wb_reading_theory.proofs.TreeLemmas.{plain_joined}
@@ -150,12 +151,12 @@ module _ (parts : LanguageParts) (markers : List Bool) (text : List ℕ) where
         (subst (HasNoMarker markers) (sym stuck.are.leaves_are) n.plain) begin t lexeme after n.is_next unmarked stuck.no_shift
         stuck.no_reduction
 
-  -- where a leaf was shifted, the states are those of the tables, and the text goes on further
-  pub stays_sound : (states states' pushed : List ℕ) (at : ℕ) (answer : Scanned) (t end target : ℕ) → AreSound parts states →
+  -- where a leaf was shifted, the states are those of the tables, and the text goes on further, at the state on top
+  pub stays_sound : (states states' pushed : List ℕ) (at : ℕ) (answer : Scanned) (t end target state : ℕ) → AreSound parts states →
       All (λ s. s < size_of parts.tables) states' → pushed ≡ states' ++ target ∷ [] → target < size_of parts.tables →
       IsInside parts.language.grammar.terminals (length text) at answer → IsAhead markers answer (OtherLeaf t end) →
-      StaysSound parts (length text) at pushed (Goes end)
-  stays_sound states states' pushed at answer t end target sound below pushed_is lt inside is =
+      state ≡ target → StaysSound parts (length text) at pushed (Goes end state)
+  stays_sound states states' pushed at answer t end target state sound below pushed_is lt inside is state_is =
       let bounds = leaf_inside markers text answer parts.language.grammar.terminals (length text) at t end inside is in (
         record {
           language = sound.language;
@@ -165,4 +166,5 @@ module _ (parts : LanguageParts) (markers : List Bool) (text : List ℕ) where
         },
         bounds.on,
         bounds.within,
+        state_is ∙ top_pushed states' pushed target pushed_is,
       )

@@ -5,6 +5,7 @@
 #![tactic(auto)]
 
 mod ahead;
+mod guess;
 mod leaf;
 mod reading;
 mod walk;

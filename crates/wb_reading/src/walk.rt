@@ -6,6 +6,7 @@ ghost use Rattle.wb_scan_theory.specs.Facts.{IsLanguage};
 ghost use Rattle.wb_reading.specs.Answers.{IsFirstMarker};
 
 use crate::HostReading;
+use crate::guess::guesses_of;
 use crate::leaf::{Round, take_leaf};
 use std::alloc::{AllocError, Global};
 use wb_parser_states::{Reductions, reductions_of};
@@ -26,19 +27,30 @@ pub fn first_marker(
     ensures language { IfOk result (λ _. IsLanguage language.now.language) }
 {
     let mut reductions = reductions_of(alloc, language)?;
+    let mut guesses = guesses_of(alloc);
     let mut states = Vec::new(alloc);
-    let found = read_all(language, &mut reductions, markers, text, &mut states);
+    let found = read_all(
+        language,
+        &mut reductions,
+        markers,
+        text,
+        &mut guesses,
+        &mut states,
+    );
     drop(states);
+    drop(guesses);
     drop(reductions);
     found
 }
 
 // The same, on an empty stack.
+#[inline(never)]
 fn read_all(
     language: &Language,
     reductions: &mut Reductions,
     markers: &TermSet,
     text: &[u8],
+    guesses: &mut [u32],
     states: &mut Vec<usize>,
 ) -> Result<HostReading, AllocError>
     requires reductions { AreReductions language.now.language.grammar language.now.tables reductions.old }
@@ -48,9 +60,15 @@ fn read_all(
 {
     let _tables = language.tables();
     let mut at = 0;
+    let mut top = 0;
     'leaves: loop {
-        match take_leaf(language, reductions, markers, text, states, at)? {
-            Round::Goes(after) => at = after,
+        match take_leaf(
+            language, reductions, markers, text, guesses, states, top, at,
+        )? {
+            Round::Goes { after, state } => {
+                at = after;
+                top = state;
+            }
             Round::Done(found) => return Ok(found),
         }
     }

@@ -1,21 +1,21 @@
 -- What is considered, matches and beats at a prefix of a language does so in one that extends it; and there only markers do besides.
-use Rattle.std.proofs.Common.{◌≡◌, ◌⊎◌, ◌∙◌, ◌+◌, ◌-◌, ◌<◌, ◌≤◌, ℕ, Bool, List, Some, [], true, false, ap, inl, inr, length, map}
+use Rattle.std.proofs.Common.{◌≡◌, ◌⊎◌, ◌∙◌, ◌+◌, ◌-◌, ◌<◌, ◌≤◌, ℕ, Bool, List, Some, true, false, ap, inl, inr, length, map}
 use Rattle.std.proofs.Common.{slice_get, refl, subst, sym}
 use Rattle.std.proofs.Common.{arith}
-use Rattle.std.specs.Prelude.{Contains, option_map, slice_index_or}
-use Rattle.std.proofs.lemmas.Bool.{cases_order}
+use Rattle.std.specs.Prelude.{Contains, None, Option, option_map, slice_index_or}
+use Rattle.std.proofs.lemmas.Bool.{cases_lt, cases_order}
 use Rattle.std.proofs.lemmas.Option.{slice_get-map, slice_get_within}
-use Rattle.wb_lemmas.proofs.Places.{append_after, append_keeps, at_append, at_once, at_within}
+use Rattle.wb_lemmas.proofs.Places.{append_after, append_keeps, at_once, at_within}
 use Rattle.wb_base.specs.declared.symbol.Symbol.{Symbol}
+use Rattle.wb_base.specs.Grammar.{GrammarView}
 use Rattle.wb_termset.specs.Sets.{IsMember}
 use Rattle.wb_grammar_theory.specs.Items.{IsViablePrefix}
 use Rattle.wb_scan_theory.specs.declared.form.Form.{Form}
 use Rattle.wb_scan_theory.specs.Facts.{HasWinner, IsLanguage}
-use Rattle.wb_scan_theory.specs.Languages.{LanguageView, bare, forms_of, IsLayout}
-use Rattle.wb_scan_theory.specs.Winners.{Beats, BeatsAt, IsConsideredForm, MatchesAt, Wins, both_bare, both_prefixed, by_prefix}
+use Rattle.wb_scan_theory.specs.Languages.{LanguageView, bare, forms_of}
+use Rattle.wb_scan_theory.specs.Winners.{Beats, BeatsAt, HoldsOne, IsConsideredForm, MatchesAt, Wins, both_bare, both_prefixed, by_prefix}
 use Rattle.wb_scan_theory.specs.Winners.{layout, valid}
 use Rattle.wb_scan_theory.proofs.TokenLemmas.{wins_once}
-use Rattle.wb_compose_theory_order.specs.Languages.{IsPreferred}
 use Rattle.wb_reading_theory.specs.Languages.{IsSameForm, of_terminal, of_layout, KeepsForms, ExtendsLanguage}
 
 -- a number is a member or not
@@ -112,6 +112,12 @@ module _ {h u : LanguageView} (keeps : KeepsForms h u) where
       go one two e f (both_prefixed left right listed) =
           both_prefixed (λ g. left (sym e ∙ g)) (λ g. right (sym f ∙ g)) (preferred one two listed)
 
+-- layout without a span is considered at each prefix
+everywhere : (g : GrammarView) (prefix : List Symbol) (spans : List (Option (ℕ × ℕ))) (i k : ℕ) → i ≡ k →
+    slice_index_or spans k None ≡ None → HoldsOne g prefix (slice_index_or spans i None)
+everywhere g prefix spans i k same none =
+    subst (HoldsOne g prefix) (sym (ap (λ (n : ℕ). slice_index_or spans n None) same ∙ none)) tt
+
 -- a form of a marker
 pub record IsMarkerForm (u : LanguageView) (markers : List Bool) (q : ℕ) : Type 0 where
   pub form : Form
@@ -127,11 +133,14 @@ module _ {h u : LanguageView} {markers : List Bool} (of_host : IsLanguage h) (of
       let (q, to) = extends.forms.form_to p form at in
       let below = of_host.written.forms_below p form at in
       (q, of_terminal form at to, valid form to ((extends.valid.terminal prefix viable form.terminal below).1 v))
-  considered_to p (layout (low, high)) =
-      let len = extends.forms.layout in (
+  considered_to p (layout (low, high) holds) =
+      let len = extends.forms.layout in
+      let less : p - length h.forms < length h.layout = omega (arith, low, high) in (
         length u.forms + (p - length h.forms),
-        of_layout (p - length h.forms) (omega (arith, low, high)) (omega (arith, low)) refl,
-        layout (omega arith, omega (arith, low, high, len)),
+        of_layout (p - length h.forms) less (omega (arith, low)) refl,
+        layout (omega arith, omega (arith, low, high, len))
+            (everywhere u.grammar prefix u.spans (length u.forms + (p - length h.forms) - length u.forms) (p - length h.forms) (omega arith)
+            (extends.forms.everywhere (p - length h.forms) less).1),
       )
 
   -- what is considered there is considered here, or is a marker
@@ -150,13 +159,17 @@ module _ {h u : LanguageView} {markers : List Bool} (of_host : IsLanguage h) (of
         | inl marks ↦ inr (record { form = form; at = to; marks = marks })
         | inr not ↦ absurd (extends.valid.further prefix viable form.terminal low (of_union.written.forms_below q form to) not v)
       ]
-  considered_from q (layout (low, high)) =
-      let len = extends.forms.layout in
-      inl (
-        length h.forms + (q - length u.forms),
-        of_layout (q - length u.forms) (omega (arith, low, high, len)) refl (omega (arith, low)),
-        layout (omega arith, omega (arith, low, high, len)),
-      )
+  considered_from q (layout (low, high) holds) =
+      elim (cases_lt (q - length u.forms) (length h.layout)) [
+        | inl less ↦ inl (
+          length h.forms + (q - length u.forms),
+          of_layout (q - length u.forms) less refl (omega (arith, low)),
+          layout (omega arith, omega (arith, less))
+              (everywhere h.grammar prefix h.spans (length h.forms + (q - length u.forms) - length h.forms) (q - length u.forms)
+              (omega arith) (extends.forms.everywhere (q - length u.forms) less).0),
+        )
+        | inr far ↦ absurd (extends.layout prefix viable (q - length u.forms) (omega (arith, far)) (omega (arith, low, high)) holds)
+      ]
 
   module _ (text : List ℕ) (at : ℕ) where
     matches_to : (p : ℕ) (piece : List ℕ) → MatchesAt h prefix text at p piece →

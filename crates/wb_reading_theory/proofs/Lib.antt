@@ -16,6 +16,7 @@ pub mod OwnedLemmas
 pub mod ReadingLemmas
 pub mod UnionGrammarLemmas
 pub mod UnionFormLemmas
+mod FurtherItems
 pub mod UnionLanguageLemmas
 pub mod UnionAttributeLemmas
 pub mod PrintedLemmas

@@ -1,32 +1,29 @@
 -- The forms of the host alone are its forms in the union.
-use Rattle.std.proofs.Common.{◌≡◌, ◌<◌, ◌≤◌, ◌+◌, ◌-◌, ◌∙◌, ◌∷◌, ◌++◌, [], ℕ, zero, suc, List, Some, length, map, slice_get, refl, sym, ap}
-use Rattle.std.proofs.Common.{subst, inl, inr, arith}
-use Rattle.std.specs.Prelude.{All, Contains, option_map}
+use Rattle.std.proofs.Common.{◌≡◌, ◌<◌, ◌+◌, ◌∙◌, ◌++◌, [], ℕ, zero, suc, List, Some, length, map, slice_get, refl, sym, ap}
+use Rattle.std.proofs.Common.{subst, arith}
+use Rattle.std.specs.Prelude.{Contains, None, option_map, slice_index_or}
 use Rattle.std.specs.List.{range_with_len}
 use Rattle.std.proofs.lemmas.Option.{slice_get-map, slice_get-get_or}
 use Rattle.std.proofs.lemmas.List.Elements.{All-nil}
-use Rattle.wb_base.specs.Different.{Differ}
 use Rattle.wb_base.specs.Grammar.{GrammarView}
 use Rattle.wb_automata.specs.Automata.{IsMatch}
 use Rattle.wb_determinism_contexts.specs.Considered.{LexiconView}
 use Rattle.wb_scan_theory.specs.declared.form.Form.{Form}
 use Rattle.wb_scan_theory.specs.Languages.{LanguageView, bare, forms_of}
-use Rattle.wb_lemmas.proofs.Members.{contains_at}
 use Rattle.wb_lemmas.proofs.Places.{append_after, append_keeps, at_once, nothing_at}
 use Rattle.wb_compose_theory_order.specs.Languages.{IsPreferred}
 use Rattle.wb_compose_theory_grammar.specs.Certificates.{AreCertified, IsCertifiedPiece}
-use Rattle.wb_compose_theory_grammar.specs.Laws.{in_union}
-use Rattle.wb_compose_theory_grammar.specs.Pieces.{ArePieces, IsPiece}
-use Rattle.wb_compose_theory_grammar.specs.Places.{count_before, total_of}
+use Rattle.wb_compose_theory_grammar.specs.Pieces.{IsPiece}
+use Rattle.wb_compose_theory_grammar.specs.Places.{count_before}
 use Rattle.wb_compose_theory_grammar.specs.UnitedWorlds.{terminal_sizes, united}
 use Rattle.wb_compose_theory_grammar.proofs.PlaceLemmas.{lift_past}
 use Rattle.wb_compose_theory_language.specs.Apart.{AreWrittenApart, IsPieceApart}
 use Rattle.wb_compose_theory_language.specs.Forms as f
 use Rattle.wb_compose_theory_language.specs.Forms.{IsForm, IsMarkerOf}
-use Rattle.wb_compose_theory_language.specs.Languages.{IsTextOf, IsUnitedLanguage}
+use Rattle.wb_compose_theory_language.specs.Languages.{IsUnitedLanguage}
 use Rattle.wb_compose_theory_language.specs.Rows as r
 use Rattle.wb_compose_theory_language.specs.Rows.{Prefers, Reads, host_row, layout_count, sizes}
-use Rattle.wb_compose_theory_language.specs.Written.{WrittenPiece, pieces_of}
+use Rattle.wb_compose_theory_language.specs.Written.{WrittenPiece, host_layouts, pieces_of}
 use Rattle.wb_compose_theory_language.proofs.BareLemmas.{marker_own}
 use Rattle.wb_compose_theory_language.proofs.PreferenceLemmas.{in_host}
 use Rattle.wb_compose_theory_language.proofs.ReadLemmas.{reads_host}
@@ -93,23 +90,39 @@ module _ (host : GrammarView) (extensible : List ℕ) (own : LexiconView) (writt
   host_form extensions ok clear form (f.of_extension k x t at mine t_is is) less = is
 
   -- layout
+  -- its number by its place
+  pub number_at : (extensions : List WrittenPiece) (l : LanguageView) → IsUnitedLanguage host extensible own extensions l → (k : ℕ) →
+      k < layout_count host extensible own extensions →
+      slice_get l.layout k ≡ Some ((united host extensible (pieces_of extensions)).terminals + k)
+  number_at extensions l is k less =
+      ap (λ z. slice_get z k) is.layout ∙
+      range_at (united host extensible (pieces_of extensions)).terminals (layout_count host extensible own extensions) k less
+
+  host_number : (extensions : List WrittenPiece) → AreCertified host extensible (pieces_of extensions) → (k : ℕ) →
+      k < host_layouts host own → (united host extensible (pieces_of extensions)).terminals + k
+      ≡ host_row host extensible own extensions (host.terminals + k)
+  host_number extensions ok k less = let past = host_past host extensible own extensions ok.are_pieces k less in omega (arith, past)
+
+  -- the form of the host's
   layout_at : (extensions : List WrittenPiece) → AreCertified host extensible (pieces_of extensions) → (l : LanguageView) →
-      IsUnitedLanguage host extensible own extensions l → (k place : ℕ) → k < length l.layout → place ≡ length l.forms + k →
+      IsUnitedLanguage host extensible own extensions l → (k place : ℕ) → k < host_layouts host own → place ≡ length l.forms + k →
       IsHostForm extensions l place (host.terminals + k)
   layout_at extensions ok l is k place less place_is =
-      let count = layout_count host extensible own extensions in
       let total = (united host extensible (pieces_of extensions)).terminals in
-      let len : length l.layout ≡ count = ap length is.layout ∙ range_len total count in
-      let at : slice_get l.layout k ≡ Some (total + k) = ap (λ z. slice_get z k) is.layout ∙
-      range_at total count k (omega (arith, less, len)) in
-      let past = host_past host extensible own extensions ok.are_pieces k in
       record {
         form = bare (total + k);
         at = ap (slice_get (forms_of l)) place_is ∙ (append_after l.forms (map bare l.layout) k ∙
-            (slice_get-map bare l.layout k ∙ ap (option_map bare) at));
-        number = let e : total + k ≡ host_row host extensible own extensions (host.terminals + k) = omega (arith, past) in e;
+            (slice_get-map bare l.layout k ∙ ap (option_map bare) (number_at extensions l is k (omega (arith, less)))));
+        number = host_number extensions ok k less;
         no_prefix = refl;
       }
+
+  -- which is considered at each prefix
+  no_span : (extensions : List WrittenPiece) → AreCertified host extensible (pieces_of extensions) → (l : LanguageView) →
+      IsUnitedLanguage host extensible own extensions l → (k : ℕ) → k < host_layouts host own → slice_index_or l.spans k None ≡ None
+  no_span extensions ok l is k less =
+      is.spans.of_host k (host.terminals + k) (omega arith, omega (arith, less))
+      (number_at extensions l is k (omega (arith, less)) ∙ ap Some (host_number extensions ok k less))
 
   -- a terminal
   terminal_at : (extensions : List WrittenPiece) → AreCertified host extensible (pieces_of extensions) →
@@ -192,11 +205,16 @@ module _ (host : GrammarView) (extensible : List ℕ) (own : LexiconView) (writt
       here : IsHostForm [] h p row
       there : IsHostForm written u q row
 
-    layouts : length u.layout ≡ length h.layout
-    layouts =
-        ap length of_union.layout ∙ (range_len (united host extensible (pieces_of written)).terminals
-        (layout_count host extensible own written)
-        ∙ sym (ap length of_host.layout ∙ range_len (united host extensible []).terminals (layout_count host extensible own [])))
+    -- how many layouts there are
+    pub host_len : length h.layout ≡ host_layouts host own
+    host_len =
+        let len = ap length of_host.layout ∙ range_len (united host extensible []).terminals (layout_count host extensible own []) in
+        omega (arith, len)
+
+    pub union_len : length u.layout ≡ layout_count host extensible own written
+    union_len =
+        ap length of_union.layout ∙
+        range_len (united host extensible (pieces_of written)).terminals (layout_count host extensible own written)
 
     one_row : (p q : ℕ) → IsSameForm h u p q → OneRow p q
     one_row p q (of_terminal form at to) =
@@ -207,11 +225,12 @@ module _ (host : GrammarView) (extensible : List ℕ) (own : LexiconView) (writt
           there = terminal_at written certified apart u of_union form q to less;
         }
     one_row p q (of_layout k less p_is q_is) =
-        let len = layouts in
+        let len = host_len in
+        let near : k < host_layouts host own = omega (arith, less, len) in
         record {
           row = host.terminals + k;
-          here = layout_at [] alone h of_host k p less p_is;
-          there = layout_at written certified u of_union k q (omega (arith, less, len)) q_is;
+          here = layout_at [] alone h of_host k p near p_is;
+          there = layout_at written certified u of_union k q near q_is;
         }
 
     pub keeps_forms : h.grammar.terminals ≡ host.terminals → KeepsForms h u
@@ -224,7 +243,11 @@ module _ (host : GrammarView) (extensible : List ℕ) (own : LexiconView) (writt
           at_contained h.forms form
           (of_host.forms.every form (f.of_host low (host_form written certified apart form (of_union.forms.each q form at) low)));
       once = of_host.forms.once;
-      layout = layouts;
+      layout = let one = host_len in let two = union_len in omega (arith, one, two);
+      everywhere = λ k less.
+          let len = host_len in
+          let near : k < host_layouts host own = omega (arith, less, len) in
+          (no_span [] alone h of_host k near, no_span written certified u of_union k near);
       matches = λ p q same text.
           let one = one_row p q same in (
             λ m. row_matches written u of_union q one.row one.there text (matches_row [] alone clear h of_host p one.row one.here text m),

@@ -100,8 +100,8 @@ module _ (r : ResolvedParts) (operations : List OperationSignature) where
   rule_excluded Certified is (c.Types refusal) reason time = kinds_exclude is.kinds refusal reason.0 reason.1
   rule_excluded Certified is c.NoStart reason time = none_some (sym reason.none ∙ is.start)
   rule_excluded Certified is (c.Determinism refusal) reason time =
-      reason.1 (excluded r is.grammar refusal (subst (λ (g : Option GrammarView). IsDeterminismOf r g refusal) is.start reason.0.reason)
-      is.deterministic)
+      reason.1 (excluded r is.grammar _ refusal
+      (subst (λ (g : Option GrammarView). IsDeterminismOf r g refusal) is.start reason.0.reason) is.deterministic)
   rule_excluded Certified is (c.Attributes refusal) reason time =
       let start : start_of r ≡ Some is.grammar.start = ap (option_map (λ (g : GrammarView). g.start)) is.start in
       attributes_exclude (Some is.grammar.start) is.attributes refusal

@@ -149,17 +149,17 @@ module _ (r : ResolvedParts) (text : List ℕ) (holes : GrammarView) where
   marks_beside x handed is there reason before = grammar_beside x handed is there (λ g start. reason g holes start) (inl before)
 
   -- what hosts are asked before the conflict is asked of extensions too
-  host_reason : (x : DeterminismRefusal) (g : GrammarView) → IsHostRefusal r g x → IsExtensionRefusal r g holes x
-  host_reason (d.Markers m) g is = is
-  host_reason (d.PreferenceCycle cycle) g is = is
-  host_reason (d.NotReduced which) g is = is
-  host_reason (d.UnitCycle list) g is = is
-  host_reason (d.HiddenLeftRecursion list) g is = is
-  host_reason (d.Conflict prefix terminal first second) g is = is
-  host_reason (d.Clash prefix left right shown) g is = is
-  host_reason (d.Lookahead prefix item terminal) g is = absurd is
-  host_reason (d.Envelope prefix fault) g is = absurd is
-  host_reason (d.NoMemory error) g is = tt
+  host_reason : (x : DeterminismRefusal) (g : GrammarView) → IsBeforeConflict x → IsHostRefusal r g x → IsExtensionRefusal r g holes x
+  host_reason (d.Markers m) g before is = is
+  host_reason (d.PreferenceCycle cycle) g before is = is
+  host_reason (d.NotReduced which) g before is = is
+  host_reason (d.UnitCycle list) g before is = is
+  host_reason (d.HiddenLeftRecursion list) g before is = is
+  host_reason (d.Conflict prefix terminal first second) g before is = absurd before
+  host_reason (d.Clash prefix left right shown) g before is = absurd before
+  host_reason (d.Lookahead prefix item terminal) g before is = absurd before
+  host_reason (d.Envelope prefix fault) g before is = absurd before
+  host_reason (d.NoMemory error) g before is = tt
 
   module _ (keeps : KeepMarkers r) (x : DeterminismRefusal) (handed : RecheckRefusal) (is : IsReasonHandedOn x handed)
       (there : IsSome r.grammar) where
@@ -167,7 +167,7 @@ module _ (r : ResolvedParts) (text : List ℕ) (holes : GrammarView) where
     pub facts_beside : IfSome r.grammar (λ g. IsHostRefusal r g x) → IsBeforeConflict x → IsFaultBeside r holes text handed
     facts_beside reason before =
         grammar_beside x handed is there
-        (whole_reason r holes keeps x (IfSome_then r.grammar reason (λ g why. host_reason x g why))) (inl before)
+        (whole_reason r holes keeps x (IfSome_then r.grammar reason (λ g why. host_reason x g before why))) (inl before)
 
     -- one from the conflict on
     pub judged_beside : IfSome r.grammar (λ g. IsExtensionRefusal r g holes x) → IsCertificateOfExtension r text

@@ -24,8 +24,8 @@ pub use rechecked::RecheckedHost;
 pub use refusal::RecheckRefusal;
 pub use value::recheck_resolved;
 pub use wb_certify::{
-    CertifiedExtension, CertifiedHost, CertifyRefusal, certify_beside, certify_resolved,
-    check_well_defined, names_law, one_answer_law, release_extensions, resolve_extension,
-    resolve_host,
+    CertifiedExtension, CertifiedHost, CertifyRefusal, DeterminismRefusal, certify_beside,
+    certify_resolved, check_well_defined, names_law, one_answer_law, release_extensions,
+    resolve_extension, resolve_host,
 };
 pub use written::{extension_certificate, host_certificate, write_extension, write_host};

@@ -1,7 +1,7 @@
 -- What the automaton finds is what wins.
 use Rattle.std.proofs.Common.{◌≡◌, ◌≢◌, ◌<◌, ◌≤◌, ◌+◌, ◌-◌, ℕ, List, ◌++◌, length, take, drop, refl, sym, ◌∙◌, ap, subst, inl, inr, arith}
 use Rattle.std.proofs.Common.{length-append}
-use Rattle.std.specs.Prelude.{◌↔◌, Contains, All, None, Some, slice_range}
+use Rattle.std.specs.Prelude.{◌↔◌, Contains, All, Some, slice_range}
 use Rattle.std.proofs.lemmas.Bool.{cases_order}
 use Rattle.std.proofs.lemmas.Option.{slice_get_within}
 use Rattle.wb_scan.proofs.RangeLemmas.{range_split, range_length}
@@ -16,30 +16,34 @@ use Rattle.wb_scan_theory.specs.Languages.{LanguageView, forms_of}
 use Rattle.wb_scan_theory.specs.Winners.{MatchesAt, Wins}
 use Rattle.wb_scan_theory.specs.Parts.{AreLanguageParts, IsPrefixOf}
 use Rattle.wb_scan_theory.specs.Examined.{to_end}
-use Rattle.wb_scan_theory.proofs.PartLemmas.{considered_at}
 use Rattle.wb_scan_theory.proofs.SeenLemmas.{looked_piece}
 use Rattle.wb_scan_theory.proofs.BareLemmas.{forms_count}
 use Rattle.wb_scan_theory.proofs.TokenLemmas.{piece_some}
-use Rattle.wb_scan.proofs.LandingLemmas.{same_champion}
-use Rattle.wb_scan.specs.Inner.Longest.{IsLongest, IsSeenTo}
-use Rattle.wb_scan.specs.Landings.{IsChampion, ranked}
+use Rattle.wb_scan.proofs.LandingLemmas.{same_champion, some_same}
+use Rattle.wb_scan.specs.declared.landing.Landing.{Landing}
+use Rattle.wb_scan.specs.declared.longest.Reach.{Reach}
+use Rattle.wb_scan.specs.declared.won.Won.{Won}
+use Rattle.wb_scan.specs.declared.won.Won.TheVariants.{Nothing, Layout, Token}
+use Rattle.wb_scan.specs.Inner.Longest.{IsLongest, IsReached, IsSeenTo}
+use Rattle.wb_scan.specs.Landings.{AreLandings, IsChampion, IsOfForm, ranked}
+use Rattle.wb_scan.specs.Words.{won_in}
 use Rattle.wb_scan.specs.Inner.Rankings.{IsWonAt}
-use Rattle.wb_scan.specs.Inner.Found.{IsEnough, IsFound, IsNotFound}
+use Rattle.wb_scan.specs.Inner.Found.{IsEnough, IsFound, IsNotFound, IsSought}
 
 module _ {l : LanguageView} {tables : TablesView} {automaton : AutomatonView} (parts : AreLanguageParts l tables automaton) {state : ℕ}
     (below : state < size_of tables) where
   -- what matches at a prefix of the state matches in the state's set, and lies in the text
   matches_in : {prefix : List Symbol} {text : List ℕ} {at p : ℕ} {x : List ℕ} → IsPrefixOf l.grammar tables state prefix →
       MatchesAt l prefix text at p x → MatchesIn automaton state p x
-  matches_in {p = p} {x} of m = record {
-    considered = (parts.sets state p below).1 ((considered_at parts.language.written of p).1 m.considered);
+  matches_in {prefix} {p = p} {x} of m = record {
+    considered = (parts.sets state p prefix of).1 m.considered;
     is = subst (λ z. IsMatch z p x) (sym parts.expressions) m.is;
   }
 
   matches_at : {prefix : List Symbol} {text : List ℕ} {at p end : ℕ} → IsPrefixOf l.grammar tables state prefix → at ≤ end →
       MatchesIn automaton state p (slice_range text at end) → MatchesAt l prefix text at p (slice_range text at end)
-  matches_at {text = text} {at} {p} {end} of from m = record {
-    considered = (considered_at parts.language.written of p).0 ((parts.sets state p below).0 m.considered);
+  matches_at {prefix} {text} {at} {p} {end} of from m = record {
+    considered = (parts.sets state p prefix of).0 m.considered;
     is = subst (λ z. IsMatch z p (slice_range text at end)) parts.expressions m.is;
     rest = drop end text;
     here = drop_split text at end from;
@@ -132,6 +136,7 @@ module _ {l : LanguageView} {tables : TablesView} {automaton : AutomatonView} (p
             let b : length automaton.terminals ≡ length l.expressions = ap length parts.expressions in
             let c : length l.expressions ≡ length l.forms + length l.layout = parts.language.written.expressions_len in
             omega arith);
+        terminal = parts.language.written.forms_below p;
         prefix = λ f at_f. of_prefix f ((exact p).0 champion.listed)
             (parts.language.written.prefixes p f (slice_range text at end) at_f
             (subst (λ z. IsMatch z p (slice_range text at end)) parts.expressions ((exact p).0 champion.listed).is));
@@ -182,20 +187,44 @@ module _ {l : LanguageView} {tables : TablesView} {automaton : AutomatonView} (p
       let (terminal, m) = (matched_at longest ne).2 in
       none place (champion_of parts below longest accepted_at of terminal m w)
 
--- the form that wins at the state that was found, of the same forms, is found; and where none does, no form wins
+-- what wins at the state that was found, of the same forms, is what is sought
 module _ {l : LanguageView} {tables : TablesView} {automaton : AutomatonView} (parts : AreLanguageParts l tables automaton) {state : ℕ}
     (below : state < size_of tables) {text : List ℕ} {at end found : ℕ}
     (longest : IsLongest automaton state text at (length text) found end) (ne : end ≢ at) (forms : List Form) (layout : List ℕ)
     (preferences : List (ℕ × ℕ)) (f : forms ≡ l.forms) (g : layout ≡ l.layout) (h : preferences ≡ l.preferences) where
-  pub won_found : (form : ℕ) → IsWonAt (ranked forms layout preferences) automaton found (Some form) →
-      IsFound (record { language = l; tables = tables }) state text at form end
-  won_found form won = is_found parts below longest ne won.accepted won.exact form
-      (same_champion (ranked forms layout preferences) l f g h won.accepted form won.some)
+  won_form : (won : Won) (accepted : List ℕ) → ((terminal s : ℕ) (x : List ℕ) → LeadsTo automaton s x found →
+      Contains accepted terminal ↔ MatchesIn automaton s terminal x) →
+      ((place : ℕ) × IsChampion (ranked forms layout preferences) accepted place × IsOfForm forms place won) →
+      (form : ℕ) × IsFound (record { language = l; tables = tables }) state text at form end × IsOfForm l.forms form won
+  won_form won accepted exact (form, champion, of) = (
+    form,
+    is_found parts below longest ne accepted exact form (same_champion (ranked forms layout preferences) l f g h accepted form champion),
+    subst (λ fs. IsOfForm fs form won) f of,
+  )
 
-  pub won_not_found : IsWonAt (ranked forms layout preferences) automaton found None →
-      IsNotFound (record { language = l; tables = tables }) state text at
-  won_not_found won = is_not_found parts below longest ne won.accepted won.exact (λ place champion.
-      won.none refl place (same_champion l (ranked forms layout preferences) (sym f) (sym g) (sym h) won.accepted place champion))
+  pub won_sought : (won : Won) → IsWonAt (ranked forms layout preferences) automaton found won →
+      IsSought (record { language = l; tables = tables }) state text at end won
+  won_sought Nothing is = is_not_found parts below longest ne is.accepted is.exact (λ place champion.
+      is.wins place (same_champion l (ranked forms layout preferences) (sym f) (sym g) (sym h) is.accepted place champion))
+  won_sought Layout is = won_form Layout is.accepted is.exact is.wins
+  won_sought (Token terminal prefix) is = won_form (Token terminal prefix) is.accepted is.exact is.wins
+
+-- what the landing of the state that was reached says to win is what is sought
+pub reached_sought : {l : LanguageView} {tables : TablesView} {automaton : AutomatonView} → AreLanguageParts l tables automaton →
+    {state : ℕ} → state < size_of tables → {text : List ℕ} {at : ℕ} (forms : List Form) (layout : List ℕ) (preferences : List (ℕ × ℕ)) →
+    forms ≡ l.forms → layout ≡ l.layout → preferences ≡ l.preferences → (landings : List Landing) →
+    AreLandings (ranked forms layout preferences) automaton landings → (reach : Reach) →
+    IsReached automaton landings state text at reach → (won : Won) → won_in reach.landing.word ≡ Some won →
+    IsSought (record { language = l; tables = tables }) state text at reach.end won
+reached_sought {l} {tables} {automaton} parts {state} below {text} {at} forms layout preferences f g h landings are reach is won told =
+    elim is.kept [
+      | inl (e, nothing) ↦ subst (IsSought (record { language = l; tables = tables }) state text at reach.end)
+          (some_same Nothing won (sym nothing ∙ told)) (none_wins parts below is.longest e)
+      | inr (lt, listed) ↦ (let landing = are is.state reach.landing listed in
+          let ne : reach.end ≢ at = λ e. absurd (omega arith) in
+          won_sought parts below is.longest ne forms layout preferences f g h won
+          (record { accepted = landing.marked.accepted; exact = landing.marked.exact; wins = landing.wins won told }))
+    ]
 
 -- what was looked at is enough to see which form wins
 pub enough : {l : LanguageView} {tables : TablesView} {automaton : AutomatonView} → AreLanguageParts l tables automaton → {state : ℕ} →

@@ -1,6 +1,6 @@
 -- What is known of a state of an automaton, from what it accepts and where it leads.
 use Rattle.std.proofs.Common.{◌≡◌, ◌<◌, ◌≤◌, ◌+◌, ℕ, List, [], ◌∷◌, ◌++◌, length, refl, sym, ◌∙◌, ap, subst, inl, inr, arith}
-use Rattle.std.specs.Prelude.{◌==◌, All, Bool, Contains, IsNone, None, Option, Some, false, is_some, not, slice_get, true}
+use Rattle.std.specs.Prelude.{◌==◌, All, Bool, Contains, IfSome, IsNone, None, Option, Some, false, is_some, not, slice_get, true}
 use Rattle.std.proofs.lemmas.Bool.{cases_lt}
 use Rattle.std.proofs.lemmas.List.Elements.{All-contains, Contains-append_left, Contains-append_right}
 use Rattle.std.proofs.lemmas.Option.{slice_get_within}
@@ -16,8 +16,11 @@ use Rattle.wb_scan_theory.specs.Parts.{AreLanguageParts}
 use Rattle.wb_scan_theory.proofs.BareLemmas.{forms_count}
 use Rattle.wb_scan_theory.specs.Winners.{Beats, both_bare, both_prefixed, by_prefix}
 use Rattle.wb_scan.specs.declared.landing.Landing.{Landing}
-use Rattle.wb_scan.specs.Landings.{AreAccepted, AreLandings, IsChampion, IsLanding, IsMarked, ranked}
-use Rattle.wb_scan.specs.Inner.Rankings.{AreMarked, IsWonAt}
+use Rattle.wb_scan.specs.declared.won.Won.{Won}
+use Rattle.wb_scan.specs.declared.won.Won.TheVariants.{Nothing, Layout, Token}
+use Rattle.wb_scan.specs.Landings.{AreAccepted, AreLandings, IsChampion, IsLanding, IsMarked, IsOfForm, IsWon, ranked}
+use Rattle.wb_scan.specs.Words.{accepts_in, ends_in}
+use Rattle.wb_scan.specs.Inner.Rankings.{AreMarked}
 use Rattle.wb_scan.proofs.LongestLemmas.{nothing_listed, some_listed}
 
 -- no match goes on from the state by a byte before this one
@@ -68,32 +71,36 @@ turned' true e = refl
 turned' false e = cc
 
 -- the landing of a state, whose list of what it accepts was tested
-abbrev pub marked : (automaton : AutomatonView) (state form : ℕ) (accepted : List ℕ) (empty ends wins : Bool) → AreAccepted automaton state accepted →
-    empty ≡ (length accepted == 0) → (ends ≡ true → (set byte : ℕ) (text : List ℕ) → LeadsTo automaton set text state →
-    ¬ GoesOn automaton set (text ++ byte ∷ [])) →
-    IsMarked automaton state (record { accepts = not empty; ends = ends; wins = wins; form = form })
-marked automaton state form accepted empty ends wins exact is never = record {
+abbrev pub marked : (automaton : AutomatonView) (state : ℕ) (accepted : List ℕ) (empty ends : Bool) (landing : Landing) →
+    AreAccepted automaton state accepted → empty ≡ (length accepted == 0) → (ends ≡ true → (set byte : ℕ) (text : List ℕ) →
+    LeadsTo automaton set text state → ¬ GoesOn automaton set (text ++ byte ∷ [])) → accepts_in landing.word ≡ not empty →
+    ends_in landing.word ≡ ends → IsMarked automaton state landing
+marked automaton state accepted empty ends landing exact is never accepts_is ends_is = record {
   accepted = accepted;
   exact = exact;
-  some = λ e. some_listed accepted empty is (turned empty e);
-  none = λ e. nothing_listed accepted empty is (turned' empty e);
-  ends = never;
+  some = λ e. some_listed accepted empty is (turned empty (sym accepts_is ∙ e));
+  none = λ e. nothing_listed accepted empty is (turned' empty (sym accepts_is ∙ e));
+  ends = λ e. never (sym ends_is ∙ e);
 }
 
--- what is past the end of the list
+-- nothing is accepted, and nothing wins
 abbrev pub no_landing : Landing
-no_landing = record { accepts = false; ends = false; wins = false; form = 0 }
+no_landing = record { word = 0 }
 
--- the form that a landing names, or none
-pub won_some : (l : LanguageView) (automaton : AutomatonView) (state : ℕ) (landing : Landing) → IsLanding l automaton state landing →
-    landing.wins ≡ true → IsWonAt l automaton state (Some landing.form)
-won_some l automaton state landing is e =
-    record { accepted = is.marked.accepted; exact = is.marked.exact; some = is.wins e; none = λ none. cc }
+pub some_same : (won other : Won) → Some won ≡ Some other → won ≡ other
+some_same won other e = cc
 
-pub won_none : (l : LanguageView) (automaton : AutomatonView) (state : ℕ) (landing : Landing) → IsLanding l automaton state landing →
-    landing.wins ≡ false → IsWonAt l automaton state None
-won_none l automaton state landing is e =
-    record { accepted = is.marked.accepted; exact = is.marked.exact; some = tt; none = λ none. is.undecided e }
+-- what is kept of what wins is what wins
+pub kept_is : (kept : Option Won) (won other : Won) → IfSome kept (λ k. Some won ≡ Some k) → kept ≡ Some other → won ≡ other
+kept_is None won other said e = cc
+kept_is (Some k) won other said e = cc
+
+-- what wins is what the form that beats each other one is of
+pub won_is : (l : LanguageView) (places : List ℕ) (place : ℕ) (won : Won) → IsChampion l places place → IsOfForm l.forms place won →
+    IsWon l places won
+won_is l places place Nothing champion of = absurd of
+won_is l places place Layout champion of = (place, champion, of)
+won_is l places place (Token terminal prefix) champion of = (place, champion, of)
 
 -- what is accepted is known of each state of which more is
 pub marks : (l : LanguageView) (automaton : AutomatonView) (landings : List Landing) → AreLandings l automaton landings →
@@ -116,8 +123,8 @@ module _ (l m : LanguageView) (forms : l.forms ≡ m.forms) (layout : l.layout �
   same_beats f g (both_prefixed some some' c) = both_prefixed some some' (subst (λ ps. Contains ps (f.terminal, g.terminal)) preferences c)
 
   same_forms : forms_of l ≡ forms_of m
-  same_forms = ap (λ fs. forms_of (record { grammar = l.grammar; forms = fs; layout = l.layout; expressions = l.expressions; preferences = l.preferences })) forms
-      ∙ ap (λ ls. forms_of (record { grammar = l.grammar; forms = m.forms; layout = ls; expressions = l.expressions; preferences = l.preferences })) layout
+  same_forms = ap (λ fs. forms_of (record { grammar = l.grammar; forms = fs; layout = l.layout; spans = l.spans; expressions = l.expressions; preferences = l.preferences })) forms
+      ∙ ap (λ ls. forms_of (record { grammar = l.grammar; forms = m.forms; layout = ls; spans = l.spans; expressions = l.expressions; preferences = l.preferences })) layout
 
   pub same_champion : (places : List ℕ) (place : ℕ) → IsChampion l places place → IsChampion m places place
   same_champion places place champion = record {

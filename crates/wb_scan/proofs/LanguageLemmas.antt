@@ -5,6 +5,7 @@ use Rattle.wb_base.specs.declared.symbol.Symbol.{Symbol}
 use Rattle.wb_base.specs.Grammar.{GrammarView, IsGrammar}
 use Rattle.wb_determinism_contexts.specs.Parts.{ArePartsOf}
 use Rattle.wb_determinism_contexts.specs.declared.parts.Parts.{Parts}
+use Rattle.wb_determinism_contexts.proofs.OrderLemmas.{ordered_stable}
 use Rattle.wb_grammar.specs.Facts.{FactsView, AreFacts}
 use Rattle.wb_scan_theory.specs.declared.form.Form.{Form}
 use Rattle.wb_scan_theory.specs.Facts.{IsWritten, AreOrderedForms}
@@ -16,7 +17,6 @@ use Rattle.wb_regex.specs.Tree.{Tree}
 use Rattle.wb_scan.specs.Bare.{language_with, AreWrittenFor}
 use Rattle.wb_scan.specs.Inner.Lexicons.{AreStateSets}
 use Rattle.wb_scan.specs.Refusals.{AreAcyclic, IsFormClash, IsFree}
-use Rattle.wb_scan.proofs.ClashLemmas.{ordered_stable}
 use Rattle.wb_scan.proofs.FormLemmas.{bare_below, bare_is, bare_len, form_is}
 
 -- the tables are the grammar's

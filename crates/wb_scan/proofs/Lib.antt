@@ -2,6 +2,7 @@ pub mod BeatLemmas
 pub mod FoundLemmas
 pub mod LandingLemmas
 pub mod LongestLemmas
+mod ReachLemmas
 mod PreferenceLemmas
 pub mod RangeLemmas
 pub mod ScanLemmas

@@ -1,5 +1,5 @@
 -- The language of a grammar whose terminals are all written as they are.
-use Rattle.std.specs.Prelude.{◌≡◌, ◌+◌, ℕ, List, All, length, map, slice_get, Some}
+use Rattle.std.specs.Prelude.{◌≡◌, ◌+◌, ℕ, List, [], All, length, map, slice_get, Some}
 use Rattle.std.specs.List.{range_with_len}
 use Rattle.wb_base.specs.Grammar.{GrammarView}
 use Rattle.wb_graph.specs.Graphs.{IsEdgeBelow}
@@ -11,10 +11,16 @@ use Rattle.wb_regex.specs.Tree.{Tree}
 abbrev pub bare_forms : ℕ → List Form
 bare_forms count = map bare (range_with_len 0 count)
 
--- the language of a grammar with a bare form for each terminal
+-- the language of a grammar with a bare form for each terminal, and with layout that is considered at each prefix
 abbrev pub language_with : GrammarView → List Tree → List ℕ → List (ℕ × ℕ) → LanguageView
-language_with g expressions layout preferences =
-    record { grammar = g; forms = bare_forms g.terminals; layout = layout; expressions = expressions; preferences = preferences }
+language_with g expressions layout preferences = record {
+  grammar = g;
+  forms = bare_forms g.terminals;
+  layout = layout;
+  spans = [];
+  expressions = expressions;
+  preferences = preferences;
+}
 
 -- there is an expression for each terminal of the grammar, and then for each layout; layout is numbered on from the grammar's terminals;
 -- and preferences are between these

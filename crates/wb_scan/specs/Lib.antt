@@ -1,5 +1,7 @@
 -- a language with its tables, as callers see it
 pub mod Views
+-- what is kept of a state of an automaton in one word
+pub mod Words
 -- what is known of the states of an automaton before a text is scanned
 pub mod Landings
 -- what a scan answers

@@ -60,6 +60,7 @@ pub fn language_of(
         made.automaton,
         made.forms,
         layout,
+        Vec::new(alloc),
         preferences,
     ))
 }
@@ -203,10 +204,13 @@ fn sets_of(
     ensures { IfOk result (λ sets. AreStateSets (language_of_written grammar.now written.now) parts.now.tables sets.items) }
 {
     let layout = layout_set(alloc, grammar.terminals(), written.regexes.len())?;
+    let own_layout = TermSet::new(alloc, written.regexes.len())?;
     let lexicon = Lexicon {
         expressions: written.regexes,
         scanned: grammar.terminals(),
         layout: &layout,
+        own_layout: &own_layout,
+        own_productions: (0, 0),
         preferences: written.preferences,
     };
     considered_sets(alloc, &parts.kernels, parts.tables.valid_sets(), &lexicon)

@@ -1,29 +1,28 @@
-//! What is known of a state of the automaton before a text is scanned?
+//! What is known of each state of the automaton before a text is scanned?
 //!
-//! Whether a form is accepted there, whether no match goes on, and which form wins: so a scan reads one entry for each byte, and compares
-//! no forms.
+//! Whether a form is accepted there, whether no match goes on, and what wins: so a scan reads one word for each byte, and compares no
+//! forms.
 
 ghost use Rattle.std.specs.Prelude.{◌≡◌, ◌<◌, ◌∷◌, ◌++◌, [], ℕ, List, false, length, true};
 ghost use Rattle.wb_automata.specs.Automata.{GoesOn, LeadsTo};
-ghost use Rattle.wb_scan.specs.Landings.{AreLandings, IsLanding, IsMarked};
-ghost use Rattle.wb_scan.specs.Inner.Rankings.{AreMarked, AreRanked, IsWonAt, ranked_by};
+ghost use Rattle.wb_scan.specs.Landings.{AreLandings, IsLanding};
+ghost use Rattle.wb_scan.specs.Inner.Rankings.{AreRanked, ranked_by};
 
-use crate::winner::{Ranking, winner};
+use crate::winner::Ranking;
+use crate::won::won_of;
+use crate::word::word_of;
 use std::alloc::Global;
 use wb_automata::Automaton;
 use wb_base::push;
 
-// What is known of a state.
+// What is known of a state, as a word.
 #[derive(Clone, Copy)]
 pub(crate) struct Landing {
-    // Some form is accepted.
-    pub(crate) accepts: bool,
-    // No match goes on.
-    pub(crate) ends: bool,
-    // Of the forms that are accepted one beats each other, and it is at this place.
-    pub(crate) wins: bool,
-    pub(crate) form: usize,
+    pub(crate) word: u64,
 }
+
+// Nothing is accepted, and nothing wins.
+pub(crate) const NO_LANDING: Landing = Landing { word: 0 };
 
 // What is known of each state, and where memory runs out, of the first ones.
 pub(crate) fn landings_of(alloc: Global, automaton: &Automaton, ranking: &Ranking) -> Vec<Landing>
@@ -49,19 +48,9 @@ fn landing_of(automaton: &Automaton, ranking: &Ranking, state: usize) -> Landing
     let ends = ends_at(automaton, state);
     let places = automaton.accepted(state);
     let accepts = !places.is_empty();
-    match winner(ranking, places) {
-        Some(form) => Landing {
-            accepts,
-            ends,
-            wins: true,
-            form,
-        },
-        None => Landing {
-            accepts,
-            ends,
-            wins: false,
-            form: 0,
-        },
+    let won = won_of(ranking, places);
+    Landing {
+        word: word_of(accepts, ends, Some(won)),
     }
 }
 
@@ -87,46 +76,4 @@ fn goes_on(automaton: &Automaton, state: usize) -> bool
         }
     }
     false
-}
-
-// Whether a form is accepted at a state, and whether no match goes on.
-#[inline(always)]
-pub(crate) fn mark_at(automaton: &Automaton, landings: &[Landing], state: usize) -> Landing
-    requires landings { AreMarked automaton.now landings.now }
-    requires state { state < length automaton.now.paths }
-    ensures { IsMarked automaton.now state result }
-{
-    if state < landings.len() {
-        return landings[state];
-    }
-    Landing {
-        accepts: !automaton.accepted(state).is_empty(),
-        ends: false,
-        wins: false,
-        form: 0,
-    }
-}
-
-// The form that wins at a state.
-#[inline(always)]
-pub(crate) fn winner_at(
-    automaton: &Automaton,
-    landings: &[Landing],
-    ranking: &Ranking,
-    state: usize,
-) -> Option<usize>
-    requires ranked { AreRanked ranking.now automaton.now }
-    requires landings { AreLandings (ranked_by ranking.now) automaton.now landings.now }
-    requires state { state < length automaton.now.paths }
-    ensures { IsWonAt (ranked_by ranking.now) automaton.now state result }
-{
-    if state >= landings.len() {
-        return winner(ranking, automaton.accepted(state));
-    }
-    let landing = landings[state];
-    if landing.wins {
-        Some(landing.form)
-    } else {
-        None
-    }
 }

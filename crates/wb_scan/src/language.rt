@@ -26,6 +26,7 @@ pub struct Language {
     pub(crate) automaton: Automaton,
     pub(crate) forms: Vec<Form>,
     pub(crate) layout: Vec<usize>,
+    pub(crate) spans: Vec<Option<(usize, usize)>>,
     pub(crate) preferences: Preferences,
     pub(crate) landings: Vec<Landing>,
 }
@@ -41,16 +42,17 @@ impl Model for Language {
 
     ghost coded = { Prim.hlevel (codes, regex.the_row.coded) };
 
-    ghost view = { λ l. record { language = language_in l.grammar l.forms.items l.layout.items l.automaton.terminals l.preferences; tables = l.tables } };
+    ghost view = { λ l. record { language = language_in l.grammar l.forms.items l.layout.items l.spans.items l.automaton.terminals l.preferences; tables = l.tables } };
 
-    ghost invariant = { λ l. AreLanguageParts (language_in l.grammar l.forms.items l.layout.items l.automaton.terminals l.preferences) l.tables l.automaton × AreLandings (ranked l.forms.items l.layout.items l.preferences) l.automaton l.landings.items };
+    ghost invariant = { λ l. AreLanguageParts (language_in l.grammar l.forms.items l.layout.items l.spans.items l.automaton.terminals l.preferences) l.tables l.automaton × AreLandings (ranked l.forms.items l.layout.items l.preferences) l.automaton l.landings.items };
 }
 
 impl Language {
     /// The language of these parts.
     ///
     /// The grammar is reduced, without unit cycle, hidden left recursion and conflict, and the tables are its own. Forms are of its
-    /// terminals, and the layout terminal at place k has the number of the grammar's terminals and k more.
+    /// terminals, and the layout terminal at place k has the number of the grammar's terminals and k more. Where `spans` has two numbers at
+    /// that place, it is considered where the kernel holds an item of a production from the first to before the second, and else everywhere.
     ///
     /// The expressions of the automaton are one for each form, in order, and then one for each layout terminal. That of a form matches only
     /// texts that begin with the form's prefix, and none matches the empty text. The set of each state's number has the places of the forms
@@ -61,10 +63,11 @@ impl Language {
         automaton: Automaton,
         forms: Vec<Form>,
         layout: Vec<usize>,
+        spans: Vec<Option<(usize, usize)>>,
         preferences: Vec<(usize, usize)>,
     ) -> Language
-        requires { AreLanguageParts (language_in grammar forms.items layout.items automaton.terminals preferences.items) tables automaton }
-        ensures { result ≡ record { language = language_in grammar forms.items layout.items automaton.terminals preferences.items; tables = tables } }
+        requires { AreLanguageParts (language_in grammar forms.items layout.items spans.items automaton.terminals preferences.items) tables automaton }
+        ensures { result ≡ record { language = language_in grammar forms.items layout.items spans.items automaton.terminals preferences.items; tables = tables } }
     {
         let preferences = Preferences::new(preferences);
         let ranking = Ranking {
@@ -79,6 +82,7 @@ impl Language {
             automaton,
             forms,
             layout,
+            spans,
             preferences,
             landings,
         }
@@ -113,6 +117,7 @@ impl Drop for Language {
             automaton,
             forms,
             layout,
+            spans,
             preferences,
             landings,
         } = self;
@@ -121,6 +126,7 @@ impl Drop for Language {
         drop(automaton);
         drop(forms);
         drop(layout);
+        drop(spans);
         drop(preferences);
         drop(landings);
     }

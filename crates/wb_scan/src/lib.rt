@@ -16,7 +16,10 @@ mod next_token;
 mod preferences;
 mod refusal;
 mod scanned;
+mod unlisted;
 mod winner;
+mod won;
+mod word;
 
 pub use bare_language::language_of;
 pub use language::Language;

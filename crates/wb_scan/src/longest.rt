@@ -1,31 +1,32 @@
 //! How far does the longest match go from a place of a text on?
 //!
-//! The automaton is followed until no form that is considered can still match, and the last state that accepts one is kept. How far it was
-//! followed tells which bytes the answer rests on.
+//! The automaton is followed until no form that is considered can still match, and what is known of the last state that accepts one is
+//! kept. How far it was followed tells which bytes the answer rests on. States that aren't listed are followed in `unlisted`.
 
-ghost use Rattle.std.specs.Prelude.{◌≡◌, ◌+◌, ◌<◌, ◌≤◌, ◌^◌, length};
-ghost use Rattle.wb_scan.specs.Inner.Longest.{IsLongest, IsSeenTo};
+ghost use Rattle.std.specs.Prelude.{◌≡◌, ◌+◌, ◌<◌, ◌≤◌, ◌^◌, IfSome, Some, length, slice_get};
+ghost use Rattle.wb_scan.specs.Inner.Longest.{IsReached};
 ghost use Rattle.wb_scan.specs.Inner.Rankings.{AreMarked};
 
-use crate::landing::{Landing, mark_at};
+use crate::landing::{Landing, NO_LANDING};
+use crate::word::{accepts, ends};
 use wb_automata::Automaton;
 
-// The state and the end of a match. Where nothing matches, the end is where the search began.
+// The end of a match, and what is known of its state. Where nothing matches, the end is where the search began.
 #[derive(Clone, Copy)]
 struct Match {
-    state: usize,
     end: usize,
+    landing: Landing,
 }
 
-// The state and the end of the longest match, and the place before which the bytes were looked at for it.
+// The same of the longest match, and the place before which the bytes were looked at for it.
 #[derive(Clone, Copy)]
 pub(crate) struct Reach {
-    pub(crate) state: usize,
     pub(crate) end: usize,
+    pub(crate) landing: Landing,
     pub(crate) examined: usize,
 }
 
-// The longest match of the forms that are considered at a state.
+// The longest match of the forms that are considered at a state, or None where the search comes to a state that isn't listed.
 #[inline(always)]
 pub(crate) fn longest(
     automaton: &Automaton,
@@ -33,42 +34,61 @@ pub(crate) fn longest(
     set: usize,
     text: &[u8],
     at: usize,
-) -> Reach
+) -> Option<Reach>
     requires landings { AreMarked automaton.now landings.now }
     requires set { set < length automaton.now.sets }
     requires at { at ≤ length text.now }
-    ensures longest { IsLongest automaton.now set text.now at (length text.now) result.state result.end }
-    ensures state { result.state < length automaton.now.paths }
-    ensures examined { IsSeenTo automaton.now set text.now at result.examined }
+    ensures { IfSome result (IsReached automaton.now landings.now set text.now at) }
 {
     let mut state = automaton.start(set);
     let mut place = at;
-    let mut found = Match { state, end: at };
+    let mut found = Match {
+        end: at,
+        landing: NO_LANDING,
+    };
     'bytes: while place < text.len() {
         let Some(next) = automaton.step(state, text[place]) else {
-            return reached(found, place);
+            return Some(reached(found, place));
+        };
+        let Some(landing) = listed(landings, next) else {
+            return None;
         };
         state = next;
         place += 1;
-        let mark = mark_at(automaton, landings, state);
-        if mark.accepts {
-            found = Match { state, end: place };
-            if mark.ends {
-                return reached(found, place);
+        if accepts(landing.word) {
+            found = Match {
+                end: place,
+                landing,
+            };
+            if ends(landing.word) {
+                return Some(reached(found, place));
             }
         }
     }
-    reached(found, place)
+    Some(reached(found, place))
+}
+
+// What is listed of a state.
+#[inline(always)]
+fn listed(landings: &[Landing], state: usize) -> Option<Landing>
+    ensures { IfSome result (λ landing. slice_get landings.now state ≡ Some landing) }
+{
+    if state < landings.len() {
+        Some(landings[state])
+    } else {
+        None
+    }
 }
 
 // A match, where the byte at the place was the last to be looked at, or the text ended there.
+#[inline(always)]
 fn reached(found: Match, place: usize) -> Reach
     requires { place + 1 < 2 ^ 64 }
-    ensures { result ≡ record { state = found.state; end = found.end; examined = place + 1 } }
+    ensures { result ≡ record { end = found.end; landing = found.landing; examined = place + 1 } }
 {
     Reach {
-        state: found.state,
         end: found.end,
+        landing: found.landing,
         examined: place + 1,
     }
 }

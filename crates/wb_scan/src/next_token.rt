@@ -12,11 +12,13 @@ ghost use Rattle.wb_scan_theory.specs.Tokens.{NextToken};
 ghost use Rattle.wb_scan_theory.specs.Examined.{IsExamined, Scans};
 ghost use Rattle.wb_scan.specs.declared.scanned.Scanned.TheVariants.{Token};
 ghost use Rattle.wb_scan.specs.Scans.{next_in, IsInside};
-ghost use Rattle.wb_scan.specs.Inner.Found.{IsEnough, IsFound, IsNotFound, IsOver};
+ghost use Rattle.wb_scan.specs.Inner.Found.{IsEnough, IsOver, IsSought};
 
-use crate::landing::winner_at;
 use crate::longest::longest;
+use crate::unlisted::{last_match, won_at};
 use crate::winner::Ranking;
+use crate::won::Won;
+use crate::word::won;
 use crate::{Language, Scanned};
 
 /// What is next on a text at a state from a place on: a token, the end of the text, or nothing.
@@ -69,15 +71,17 @@ pub fn scan_examined(language: &Language, state: usize, text: &[u8], at: usize) 
     'layout: loop {
         let sought = sought_at(language, state, text, place);
         examined = later(examined, sought.examined);
-        let Some(found) = sought.found else {
-            let scanned = over_at(text, place);
-            return ExaminedScan { scanned, examined };
-        };
-        if found.form < language.forms.len() {
-            let scanned = token_at(language, place, found);
-            return ExaminedScan { scanned, examined };
+        match sought.won {
+            Won::Token { terminal, prefix } => {
+                let scanned = token_at(terminal, place, prefix, sought.end);
+                return ExaminedScan { scanned, examined };
+            }
+            Won::Layout => place = sought.end,
+            Won::Nothing => {
+                let scanned = over_at(text, place);
+                return ExaminedScan { scanned, examined };
+            }
         }
-        place = found.end;
     }
 }
 
@@ -113,35 +117,66 @@ fn over_at(text: &[u8], at: usize) -> Scanned
     }
 }
 
-// A form's place, and the end of the text that it matches.
-#[derive(Clone, Copy)]
-pub(crate) struct Found {
-    pub(crate) form: usize,
-    pub(crate) end: usize,
-}
-
-// The form that wins from a place on, where one does, and the place before which the bytes were looked at for it.
+// What wins from a place on, with the end of the text that it matches, and the place before which the bytes were looked at for it.
 #[derive(Clone, Copy)]
 struct Sought {
-    found: Option<Found>,
+    won: Won,
+    end: usize,
     examined: usize,
 }
 
-// Looks for the form that wins from a place on.
+// Looks for what wins from a place on.
 #[inline(always)]
 fn sought_at(language: &Language, state: usize, text: &[u8], at: usize) -> Sought
     requires state { state < size_of language.now.tables }
     requires at { at ≤ length text.now }
-    ensures some { IfSome result.found (λ found. IsFound language.now state text.now at found.form found.end) }
-    ensures none { IsNone result.found → IsNotFound language.now state text.now at }
+    ensures won { IsSought language.now state text.now at result.end result.won }
     ensures enough { IsEnough language.now state text.now at result.examined }
 {
     let reach = longest(&language.automaton, &language.landings, state, text, at);
-    let examined = reach.examined;
-    if reach.end == at {
+    let Some(reach) = reach else {
+        return sought_beyond(language, state, text, at);
+    };
+    let Some(won) = won(reach.landing.word) else {
+        return sought_beyond(language, state, text, at);
+    };
+    Sought {
+        won,
+        end: reach.end,
+        examined: reach.examined,
+    }
+}
+
+// The same from parts, so that an answer which is found by words isn't laid in memory.
+#[inline(always)]
+fn sought_beyond(language: &Language, state: usize, text: &[u8], at: usize) -> Sought
+    requires state { state < size_of language.now.tables }
+    requires at { at ≤ length text.now }
+    ensures won { IsSought language.now state text.now at result.end result.won }
+    ensures enough { IsEnough language.now state text.now at result.examined }
+{
+    let sought = sought_unlisted(language, state, text, at);
+    Sought {
+        won: sought.won,
+        end: sought.end,
+        examined: sought.examined,
+    }
+}
+
+// The same, where words don't tell it.
+#[inline(never)]
+fn sought_unlisted(language: &Language, state: usize, text: &[u8], at: usize) -> Sought
+    requires state { state < size_of language.now.tables }
+    requires at { at ≤ length text.now }
+    ensures won { IsSought language.now state text.now at result.end result.won }
+    ensures enough { IsEnough language.now state text.now at result.examined }
+{
+    let last = last_match(&language.automaton, state, text, at);
+    if last.end == at {
         return Sought {
-            found: None,
-            examined,
+            won: Won::Nothing,
+            end: at,
+            examined: last.examined,
         };
     }
     let ranking = Ranking {
@@ -149,38 +184,23 @@ fn sought_at(language: &Language, state: usize, text: &[u8], at: usize) -> Sough
         layout: &language.layout,
         preferences: &language.preferences,
     };
-    match winner_at(
-        &language.automaton,
-        &language.landings,
-        &ranking,
-        reach.state,
-    ) {
-        Some(form) => {
-            let end = reach.end;
-            Sought {
-                found: Some(Found { form, end }),
-                examined,
-            }
-        }
-        None => Sought {
-            found: None,
-            examined,
-        },
+    Sought {
+        won: won_at(&language.automaton, &ranking, last.state),
+        end: last.end,
+        examined: last.examined,
     }
 }
 
-// The token of a form that was found.
+// The token from a place on, whose lexeme begins after the prefix.
 #[inline(always)]
-fn token_at(language: &Language, at: usize, found: Found) -> Scanned
-    requires form { found.form < length language.now.language.forms }
-    requires prefix { (form : Form) → slice_get language.now.language.forms found.form ≡ Some form → at + length form.prefix ≤ found.end }
-    ensures { (form : Form) → slice_get language.now.language.forms found.form ≡ Some form → result ≡ Token form.terminal at (at + length form.prefix) found.end }
+fn token_at(terminal: usize, at: usize, prefix: usize, end: usize) -> Scanned
+    requires { at + prefix ≤ end }
+    ensures { result ≡ Token terminal at (at + prefix) end }
 {
-    let form = &language.forms[found.form];
     Scanned::Token {
-        terminal: form.terminal,
+        terminal,
         at,
-        lexeme: at + form.prefix.as_slice().len(),
-        end: found.end,
+        lexeme: at + prefix,
+        end,
     }
 }

@@ -7,6 +7,7 @@ pub mod FollowLemmas
 pub mod ForestLemmas
 pub mod HasOneLemmas
 pub mod MatchLemmas
+pub mod NumberingLemmas
 pub mod PartLemmas
 pub mod Pigeons
 pub mod SeenLemmas

@@ -10,7 +10,6 @@ use Rattle.wb_scan_theory.specs.Languages.{LanguageView}
 use Rattle.wb_scan_theory.specs.Tokens.{Next, NextToken, skipped, wins, ends, fails}
 use Rattle.wb_scan_theory.specs.Examined.{IsDead, IsLooked, up_to, Scans, skips, takes, finishes, misses}
 use Rattle.wb_scan_theory.specs.Parts.{AreLanguageParts, IsPrefixOf}
-use Rattle.wb_scan_theory.proofs.PartLemmas.{considered_at}
 
 pub range_size : (text : List ℕ) (from to : ℕ) → to ≤ length text → length (slice_range text from to) ≡ to - from
 range_size text from to le = length-take-le (to - from) (drop from text) (omega (arith, length-drop from text))
@@ -19,12 +18,12 @@ range_size text from to le = length-take-le (to - from) (drop from text) (omega 
 pub dead_piece : {l : LanguageView} {tables : TablesView} {automaton : AutomatonView} → AreLanguageParts l tables automaton → (state : ℕ) →
     state < size_of tables → {prefix : List Symbol} → IsPrefixOf l.grammar tables state prefix → (piece : List ℕ) →
     (GoesOn automaton state piece → ⊥) → IsDead l prefix piece
-dead_piece {l} parts state below of piece none place more considered is =
+dead_piece {l} parts state below {prefix} of piece none place more considered is =
     none (record {
       terminal = place;
       rest = more;
       is = record {
-        considered = (parts.sets state place below).1 ((considered_at parts.language.written of place).1 considered);
+        considered = (parts.sets state place prefix of).1 considered;
         is = subst (λ z. IsMatch z place (piece ++ more)) (sym parts.expressions) is;
       };
     })

@@ -1,15 +1,14 @@
 -- A language with tables and an automaton: what these say of it, and the prefixes that a state stands for.
-use Rattle.std.specs.Prelude.{◌≡◌, ◌<◌, ◌↔◌, ℕ, List, length, slice_get, Some}
+use Rattle.std.specs.Prelude.{◌≡◌, ◌<◌, ◌↔◌, ℕ, List, length}
 use Rattle.wb_base.specs.declared.symbol.Symbol.{Symbol}
 use Rattle.wb_base.specs.Grammar.{GrammarView}
-use Rattle.wb_termset.specs.Sets.{IsMember}
 use Rattle.wb_grammar_theory.specs.Items.{IsViablePrefix, SameKernel}
 use Rattle.wb_items.specs.Kernels.{KernelsView, AreKernels, count_of, prefix_of}
-use Rattle.wb_lookahead.specs.Contents.{TablesView, size_of, valid_of}
+use Rattle.wb_lookahead.specs.Contents.{TablesView, size_of}
 use Rattle.wb_lookahead.specs.Tables.{AreTables}
 use Rattle.wb_automata.specs.Automata.{AutomatonView, IsConsidered}
-use Rattle.wb_scan_theory.specs.declared.form.Form.{Form}
-use Rattle.wb_scan_theory.specs.Languages.{LanguageView, IsLayout}
+use Rattle.wb_scan_theory.specs.Languages.{LanguageView}
+use Rattle.wb_scan_theory.specs.Winners.{IsConsideredForm}
 use Rattle.wb_scan_theory.specs.Facts.{IsLanguage}
 
 -- the tables are those of the grammar, by some numbering of its kernels
@@ -26,17 +25,12 @@ pub record IsPrefixOf (g : GrammarView) (tables : TablesView) (state : ℕ) (pre
   pub viable : IsViablePrefix g prefix
   pub kernel : SameKernel g (prefix_of numbered.kernels state) prefix
 
--- the form is considered at the state: it is one of a terminal that is valid there, or of layout
-pub data IsConsideredAt (l : LanguageView) (tables : TablesView) (state place : ℕ) : Type 0 where
-  of_valid : (form : Form) → slice_get l.forms place ≡ Some form → IsMember (valid_of tables state) form.terminal →
-      IsConsideredAt l tables state place
-  of_layout : IsLayout l place → IsConsideredAt l tables state place
-
--- the tables are the language's, and the automaton is that of its expressions, with what is considered at each state as the set of the
--- state's number
+-- the tables are the language's, and the automaton is that of its expressions, with what is considered at the prefixes of each state as the
+-- set of the state's number
 pub record AreLanguageParts (l : LanguageView) (tables : TablesView) (automaton : AutomatonView) : Type 0 where
   pub language : IsLanguage l
   pub tables_of : AreTablesOf l.grammar tables
   pub expressions : automaton.terminals ≡ l.expressions
   pub count : length automaton.sets ≡ size_of tables
-  pub sets : (state place : ℕ) → state < size_of tables → IsConsidered automaton.sets state place ↔ IsConsideredAt l tables state place
+  pub sets : (state place : ℕ) (prefix : List Symbol) → IsPrefixOf l.grammar tables state prefix →
+      IsConsidered automaton.sets state place ↔ IsConsideredForm l prefix place

@@ -1,16 +1,24 @@
 -- The forms that are considered at a prefix, and which of those that match at a place of a text wins.
-use Rattle.std.specs.Prelude.{◌≡◌, ◌≢◌, ◌≤◌, ℕ, List, [], ◌++◌, Contains, drop, length, slice_get, Some}
+use Rattle.std.specs.Prelude.{◌≡◌, ◌≢◌, ◌≤◌, ℕ, List, [], ◌++◌, Contains, drop, length, slice_get, Option, Some, None}
 use Rattle.wb_base.specs.declared.symbol.Symbol.{Symbol}
+use Rattle.wb_base.specs.Grammar.{GrammarView}
+use Rattle.wb_grammar_theory.specs.Items.{HoldsFrom}
 use Rattle.wb_grammar_theory.specs.Lookaheads.{IsValidTerminal}
 use Rattle.wb_automata.specs.Automata.{IsMatch}
 use Rattle.wb_scan_theory.specs.declared.form.Form.{Form}
-use Rattle.wb_scan_theory.specs.Languages.{LanguageView, forms_of, IsLayout}
+use Rattle.wb_scan_theory.specs.Languages.{LanguageView, forms_of, IsLayout, span_at}
 
--- the form is considered at the prefix: it is one of a terminal that is valid there, or of layout
+-- the kernel of the prefix holds an item of one of these productions; where none are given, it may hold what it will
+abbrev pub HoldsOne : GrammarView → List Symbol → Option (ℕ × ℕ) → Type 0
+HoldsOne g prefix None = Unit {0}
+HoldsOne g prefix (Some span) = HoldsFrom g prefix span.0 span.1
+
+-- the form is considered at the prefix: it is one of a terminal that is valid there, or of layout by whose productions the kernel holds an
+-- item
 pub data IsConsideredForm (l : LanguageView) (prefix : List Symbol) (place : ℕ) : Type 0 where
   valid : (form : Form) → slice_get l.forms place ≡ Some form → IsValidTerminal l.grammar prefix form.terminal →
       IsConsideredForm l prefix place
-  layout : IsLayout l place → IsConsideredForm l prefix place
+  layout : IsLayout l place → HoldsOne l.grammar prefix (span_at l place) → IsConsideredForm l prefix place
 
 -- the form is considered at the prefix, and matches this piece of the text from the place `at` on
 pub record MatchesAt (l : LanguageView) (prefix : List Symbol) (text : List ℕ) (at place : ℕ) (piece : List ℕ) : Type 0 where

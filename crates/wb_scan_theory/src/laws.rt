@@ -4,7 +4,7 @@ ghost use Rattle.std.specs.Prelude.{◌≡◌, ◌≤◌, ◌↔◌, [], ℕ, Li
 ghost use Rattle.wb_base.specs.declared.symbol.Symbol.{Symbol};
 ghost use Rattle.wb_base.specs.Grammar.{GrammarView, IsGrammar};
 ghost use Rattle.wb_grammar_theory.specs.Trees.{Forest, symbols, IsDerived, leaves, DerivationTree};
-ghost use Rattle.wb_grammar_theory.specs.Items.{IsViablePrefix};
+ghost use Rattle.wb_grammar_theory.specs.Items.{IsViablePrefix, SameKernel};
 ghost use Rattle.wb_grammar_theory.specs.Lookaheads.{HasNoConflict};
 ghost use Rattle.wb_grammar_theory.specs.Shape.{IsReduced};
 ghost use Rattle.wb_items.specs.Kernels.{KernelsView, AreKernels};
@@ -18,7 +18,7 @@ ghost use Rattle.wb_scan_theory.specs.Winners.{IsConsideredForm};
 ghost use Rattle.wb_scan_theory.specs.Tokens.{Next, NextToken};
 ghost use Rattle.wb_scan_theory.specs.Texts.{ParsesTo, StopsAt, HasAnswer};
 ghost use Rattle.wb_scan_theory.specs.Facts.{IsLanguage, IsWritten, IsDeterministic, AreDecided, AreOrderedForms, HasOneWinner};
-ghost use Rattle.wb_scan_theory.specs.Parts.{AreTablesOf, IsPrefixOf, IsConsideredAt};
+ghost use Rattle.wb_scan_theory.specs.Parts.{AreTablesOf, IsPrefixOf};
 ghost use Rattle.wb_scan_theory.specs.Shown.{AgreesWith, Shows};
 ghost use Rattle.wb_scan_theory.specs.Words.{words_of};
 ghost use Rattle.wb_scan_theory.specs.Bounds.{IsSized, HasNoCycle, nodes, count, limit};
@@ -52,9 +52,10 @@ pub fn bare_law()
     ensures { (l : LanguageView) → IsWritten l → AreOrderedForms l → AreDecided l }
 {}
 
-/// What is considered at a state is what is considered at each prefix that it stands for, and each viable prefix is one of a state.
+/// All prefixes of a state have one kernel, so that the same is considered at each of them, and each viable prefix is one of a state.
 pub fn state_law()
-    ensures considered { (l : LanguageView) (tables : TablesView) (state : ℕ) (prefix : List Symbol) → IsWritten l → IsPrefixOf l.grammar tables state prefix → (place : ℕ) → IsConsideredAt l tables state place ↔ IsConsideredForm l prefix place }
+    ensures kernel { (g : GrammarView) (tables : TablesView) (state : ℕ) (prefix other : List Symbol) → IsGrammar g → IsPrefixOf g tables state prefix → IsPrefixOf g tables state other → SameKernel g prefix other }
+    ensures considered { (l : LanguageView) (tables : TablesView) (state : ℕ) (prefix other : List Symbol) → IsGrammar l.grammar → IsPrefixOf l.grammar tables state prefix → IsPrefixOf l.grammar tables state other → (place : ℕ) → IsConsideredForm l prefix place ↔ IsConsideredForm l other place }
     ensures every { (g : GrammarView) (tables : TablesView) → AreTablesOf g tables → (prefix : List Symbol) → IsViablePrefix g prefix → (state : ℕ) × IsPrefixOf g tables state prefix }
 {}
 

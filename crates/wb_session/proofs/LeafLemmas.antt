@@ -39,7 +39,8 @@ use Rattle.wb_session_theory.proofs.ReadLemmas.{reads_more, reads_then, first_re
 use Rattle.wb_session.specs.declared.checkpoint.Checkpoint.{Checkpoint}
 use Rattle.wb_session.specs.declared.place.LeafPlace.{LeafPlace}
 use Rattle.wb_session.specs.declared.stacks.Entry.{Entry}
-use Rattle.wb_session.specs.Stacks.{Roots, LeadsTo, bottom, above, IsStack, IsSound, state_in}
+use Rattle.wb_session.specs.Inner.Entries.{state_in}
+use Rattle.wb_session.specs.Stacks.{Roots, LeadsTo, bottom, above, IsStack, IsSound}
 use Rattle.wb_session.specs.Kept.{AreScanned, IsKept}
 use Rattle.wb_session.specs.Inner.Steps.{IsSettled}
 use Rattle.wb_session.specs.Places.{HasPlaces}

@@ -21,7 +21,8 @@ use Rattle.wb_parser_states.proofs.StateLemmas.{top_pushed}
 use Rattle.wb_parser.specs.Parses.{Extends}
 use Rattle.wb_parser.proofs.ExtendLemmas.{extends_length, extends_more}
 use Rattle.wb_session.specs.declared.stacks.Entry.{Entry}
-use Rattle.wb_session.specs.Stacks.{Roots, LeadsTo, bottom, above, IsStack, IsLinked, IsSound, no_entry, state_in}
+use Rattle.wb_session.specs.Inner.Entries.{no_entry, state_in}
+use Rattle.wb_session.specs.Stacks.{Roots, LeadsTo, bottom, above, IsStack, IsLinked, IsSound}
 use Rattle.wb_session.specs.Inner.Steps.{Grows}
 
 -- what is at a place of a list is there in a longer one that begins with it

@@ -33,7 +33,8 @@ use Rattle.wb_parser.specs.Parses.{Extends}
 use Rattle.wb_parser.proofs.ValueLemmas.{appended, values_in_append, values_of_joined, values_split}
 use Rattle.wb_session_theory.specs.Runs.{Reduces, rests, reduces}
 use Rattle.wb_session.specs.declared.stacks.Entry.{Entry}
-use Rattle.wb_session.specs.Stacks.{Roots, LeadsTo, bottom, above, IsStack, IsSound, state_in}
+use Rattle.wb_session.specs.Inner.Entries.{state_in}
+use Rattle.wb_session.specs.Stacks.{Roots, LeadsTo, bottom, above, IsStack, IsSound}
 use Rattle.wb_session.specs.Inner.Gathered.{AreParted, AreGathered}
 use Rattle.wb_session.specs.Inner.Nodes.{IsNode}
 use Rattle.wb_session.specs.Inner.Steps.{IsReduced, IsMade, AreMade, IsSettled}

@@ -12,3 +12,5 @@ pub mod Nodes
 pub mod Standing
 -- the run of an older text
 pub mod Older
+-- the state of a link
+pub mod Entries

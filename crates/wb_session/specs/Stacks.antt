@@ -1,5 +1,5 @@
 -- Stacks that share what is below: where a link leads, and the trees that the stack stands for.
-use Rattle.std.specs.Prelude.{◌≡◌, ◌<◌, ◌≤◌, ◌++◌, ◌∷◌, ℕ, zero, suc, List, [], All, Some, length, slice_get, slice_index_or}
+use Rattle.std.specs.Prelude.{◌≡◌, ◌<◌, ◌≤◌, ◌++◌, ◌∷◌, ℕ, suc, List, [], All, Some, length, slice_get}
 use Rattle.wb_grammar_theory.specs.Trees.{Forest}
 use Rattle.wb_lookahead.specs.Contents.{size_of}
 use Rattle.wb_values.specs.Tree.{Tree}
@@ -46,12 +46,3 @@ pub record IsSound (parts : LanguageParts) (roots : Roots) : Type 0 where
   pub linked : IsLinked roots.entries
   pub states : (k : ℕ) (x : Entry) → slice_get roots.entries k ≡ Some x → x.state < size_of parts.tables
   pub inside : All (IsIn (length roots.trees)) roots.values
-
--- what is past the end of a list
-abbrev pub no_entry : Entry
-no_entry = record { state = 0; below = 0; tree = 0 }
-
--- the state of the link's entry, and 0 at the bottom
-abbrev pub state_in : List Entry → ℕ → ℕ
-state_in entries zero = 0
-state_in entries (suc k) = (slice_index_or entries k no_entry).state

@@ -3,7 +3,8 @@
 ghost use Rattle.std.specs.Prelude.{◌≡◌, ◌<◌, ◌≤◌, ◌^◌, ℕ, IfOk, OnOk, Some, length};
 ghost use Rattle.wb_lookahead.specs.Contents.{size_of, goto_of};
 ghost use Rattle.wb_parser_states.specs.Rules.{AreRules};
-ghost use Rattle.wb_session.specs.Stacks.{roots_of, state_in, IsSound};
+ghost use Rattle.wb_session.specs.Inner.Entries.{state_in};
+ghost use Rattle.wb_session.specs.Stacks.{roots_of, IsSound};
 ghost use Rattle.wb_session.specs.Inner.Steps.{Grows, IsMade};
 
 use crate::node::node_of;

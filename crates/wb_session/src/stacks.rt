@@ -5,7 +5,8 @@
 
 ghost use Rattle.std.specs.Prelude.{◌≡◌, ◌<◌, ◌≤◌, ◌+◌, ◌-◌, ◌++◌, ◌∷◌, [], ℕ, IfOk, OnErr, OnOk, length};
 ghost use Rattle.wb_values.specs.declared.value.Value.TheVariants.{Text, Tree as Stored};
-ghost use Rattle.wb_session.specs.Stacks.{IsLinked, state_in};
+ghost use Rattle.wb_session.specs.Inner.Entries.{state_in};
+ghost use Rattle.wb_session.specs.Stacks.{IsLinked};
 ghost use Rattle.wb_session.specs.Inner.Gathered.{AreBeingGathered, AreGathered, IsRoot};
 
 use std::alloc::{AllocError, Global};

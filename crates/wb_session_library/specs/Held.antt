@@ -7,7 +7,6 @@ use Rattle.wb_session.specs.parsed.Parsed.{Parsed}
 use Rattle.wb_session.specs.KeptTexts.{IsKeptIn, answer_of, places_of, store_of, text_of}
 use Rattle.wb_session.specs.declared.place.LeafPlace.{LeafPlace}
 use Rattle.wb_compose_files.specs.Languages.{IsTextLanguage, TextLanguageParts}
-use Rattle.wb_session.specs.declared.kept_text.KeptText.{KeptText}
 use Rattle.wb_session_library.specs.Views.{TextView}
 use Rattle.wb_session_library.specs.declared.kept_texts.Held.{Held}
 use Rattle.wb_session_library.specs.declared.kept_texts.Held.TheVariants as h
@@ -41,16 +40,6 @@ pub record IsPlainIn (language : LanguageParts) (plain : PlainText) : Type 0 whe
 abbrev pub IsHeldIn : LanguageParts → Held → Type 0
 IsHeldIn language (h.Plain plain) = IsPlainIn language plain
 IsHeldIn language (h.Kept kept) = IsKeptIn language kept
-
--- a text that is kept to be edited, in its language
-abbrev pub kept_view : TextLanguageParts → KeptText → TextView
-kept_view l kept = record {
-  language = l;
-  text = text_of kept;
-  answer = answer_of kept;
-  places = Some (places_of kept);
-  store = store_of kept;
-}
 
 -- what is held of a text, in its language
 abbrev pub held_view : TextLanguageParts → Held → TextView

@@ -22,5 +22,8 @@ pub mod Kept
 pub mod Workbenches
 -- a text's answer in numbers
 pub mod Answers
+-- words of `wb_session` that callers speak of
+pub use Rattle.wb_session.specs.declared.place
+pub use Rattle.wb_session.specs.declared.session
 -- words of private functions
 pub mod Inner

@@ -4,7 +4,8 @@ ghost use Rattle.std.specs.Prelude.{◌≡◌, IfErr, IfOk, OnErr, OnOk};
 ghost use Rattle.wb_scan.specs.Views.{LanguageParts};
 ghost use Rattle.wb_session_library.specs.Edits.{IsEditRefusal, IsEdited, IsReleaseRefusal, IsReleased, StaysText};
 ghost use Rattle.wb_session.specs.KeptTexts.{IsKeptIn};
-ghost use Rattle.wb_session_library.specs.Held.{IsHeldIn, IsPlainIn, answer_in, held_view, kept_view, places_in, store_in, text_in};
+ghost use Rattle.wb_session_library.specs.Inner.Kept.{kept_view};
+ghost use Rattle.wb_session_library.specs.Held.{IsHeldIn, IsPlainIn, answer_in, held_view, places_in, store_in, text_in};
 ghost use Rattle.wb_session_library.specs.Places.{ArePlaces, HasNoPlace, IsPlace, counts};
 
 use crate::{CallRefusal, StandardLanguage};

@@ -26,4 +26,5 @@ pub use node::{Child, Node};
 pub use reason::Reason;
 pub use refusal::CallRefusal;
 pub use text::LanguageText;
+pub use wb_session::{Edited, LeafPlace};
 pub use workbench::Workbench;

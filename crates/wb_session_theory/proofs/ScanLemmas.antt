@@ -5,12 +5,13 @@ use Rattle.std.proofs.lemmas.List.{length-drop, drop-drop}
 use Rattle.wb_base.specs.declared.symbol.Symbol.{Symbol}
 use Rattle.wb_grammar_theory.specs.Items.{SameKernel}
 use Rattle.wb_grammar_theory.specs.Shape.{IsLive}
-use Rattle.wb_grammar_theory.proofs.ValidLemmas.{same_valid}
+use Rattle.wb_grammar_theory.proofs.FlowLemmas.{same_back}
 use Rattle.wb_automata.specs.Automata.{IsMatch}
 use Rattle.wb_scan_theory.specs.Languages.{LanguageView}
-use Rattle.wb_scan_theory.specs.Winners.{IsConsideredForm, valid, layout, MatchesAt, Wins}
+use Rattle.wb_scan_theory.specs.Winners.{IsConsideredForm, MatchesAt, Wins}
 use Rattle.wb_scan_theory.specs.Tokens.{Next, token, over, missing, NextToken, skipped, wins, ends, fails}
 use Rattle.wb_scan_theory.specs.Facts.{IsWritten}
+use Rattle.wb_scan_theory.proofs.PartLemmas.{considered_same}
 use Rattle.wb_scan_theory.proofs.TokenLemmas.{piece_some}
 use Rattle.wb_scan_theory.specs.Examined.{IsLooked, up_to, to_end, Scans, skips, takes, finishes, misses}
 use Rattle.wb_session_theory.specs.Inner.Agreeing.{AgreeUpTo, equal, in_front}
@@ -198,12 +199,10 @@ module _ {l : LanguageView} {prefix : List Symbol} where
 -- what is next depends on the kernel of the prefix alone
 module _ {l : LanguageView} (live : IsLive l.grammar) {prefix other : List Symbol} (same : SameKernel l.grammar prefix other) where
   considered_there : (p : ℕ) → IsConsideredForm l prefix p → IsConsideredForm l other p
-  considered_there p (valid form at v) = valid form at ((same_valid l.grammar live prefix other same form.terminal).0 v)
-  considered_there p (layout is) = layout is
+  considered_there = considered_same live same
 
   considered_back : (p : ℕ) → IsConsideredForm l other p → IsConsideredForm l prefix p
-  considered_back p (valid form at v) = valid form at ((same_valid l.grammar live prefix other same form.terminal).1 v)
-  considered_back p (layout is) = layout is
+  considered_back = considered_same live (same_back same)
 
   match_there : {text : List ℕ} {at p : ℕ} {x : List ℕ} → MatchesAt l prefix text at p x → MatchesAt l other text at p x
   match_there {p = p} m = record { considered = considered_there p m.considered; is = m.is; rest = m.rest; here = m.here }

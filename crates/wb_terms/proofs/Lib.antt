@@ -8,6 +8,8 @@ pub mod KindLemmas
 pub mod LeastLemmas
 pub mod LongLemmas
 pub mod MeetLemmas
+mod NameLemmas
+mod NextLemmas
 pub mod OntoLemmas
 pub mod PendingLemmas
 mod PlainLemmas

@@ -6,6 +6,7 @@ pub mod KindsFit
 pub mod Least
 pub mod Pending
 pub mod Plain
+pub mod ShortNames
 pub mod Smallest
 pub mod TermEntries
 pub mod TermLaws

@@ -2,11 +2,10 @@
 //!
 //! Files are in memory. The certificates follow from the rules: kernels are numbered and entries listed as they are first reached.
 
-use crate::failing_runs::{each_read_may_fail, each_write_may_fail};
-use crate::runs::{Row, each_ends_so, ends_so, expect};
-use crate::specifications::{DUP, KW0, TINY};
+use crate::expected::{each_ends_so, each_read_may_fail, each_write_may_fail, expect};
 use std::alloc::{AllocError, Global};
 use wb_program::Status;
+use wb_tests_runs::{DUP, KW0, Row, TINY, ends_so};
 
 const ONE: &str =
     "format 1; host one; terminal X /x/; nonterminal S; start S; concrete go : S ::= x : X { }";

@@ -2,9 +2,9 @@
 //!
 //! Files are in memory. A refusal may show any true example, so a row leaves open what may differ. The checks of a host are in `check`.
 
-use crate::runs::{Row, each_ends_so};
-use crate::specifications::{KW0, MINI, TINY};
+use crate::expected::each_ends_so;
 use wb_program::Status;
+use wb_tests_runs::{KW0, MINI, Row, TINY};
 
 const ADJ: &str = "format 1; host adj; \
     terminal A /a/; terminal X /x/; terminal P /p/; terminal Q /q/; terminal Y /y/; \

@@ -2,11 +2,10 @@
 //!
 //! Files are in memory. A refusal may show any true example, so there is a row for each.
 
-use crate::long_runs::{LongRow, each_long_ends_so};
-use crate::runs::{Row, each_ends_so, expect, one_ends_so, status_of};
-use crate::specifications::{AMB, KW, KW0, LIST, MINI, PTR};
+use crate::expected::{each_ends_so, each_long_ends_so, expect, one_ends_so};
 use std::alloc::{AllocError, Global};
 use wb_program::Status;
+use wb_tests_runs::{AMB, KW, KW0, LIST, LongRow, MINI, PTR, Row, status_of};
 use wb_world::MemorySink;
 
 static CERTIFIED: [Row; 4] = [

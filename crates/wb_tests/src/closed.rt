@@ -3,9 +3,9 @@
 //! Files are in memory: a host in `h`, and extensions or a text in `t`, `u` and `v`. Most hosts here are of format 2, their extensions of
 //! either.
 
-use crate::runs::{Row, each_ends_so};
-use crate::specifications::{COUNT, DUP, TINY};
+use crate::expected::each_ends_so;
 use wb_program::Status;
+use wb_tests_runs::{COUNT, DUP, Row, TINY};
 
 // `TINY` with T closed.
 const TINYC: &str = "format 2; host tinyc; \

@@ -2,9 +2,9 @@
 //!
 //! Files are in memory: a host in `h`, and extensions or a text in `t`, `u` and `v`. Refusals of single extensions are in `certify`.
 
-use crate::runs::{Row, each_ends_so};
-use crate::specifications::{A, B, DUP, LIST, MINI, MINUS, TINY};
+use crate::expected::each_ends_so;
 use wb_program::Status;
+use wb_tests_runs::{A, B, DUP, LIST, MINI, MINUS, Row, TINY};
 
 static COMPOSED: [Row; 12] = [
     (

@@ -1,6 +1,6 @@
-//! Tests of the program: runs of its top call over files in memory.
+//! Tests of the commands on hosts, extensions, certificates and terms: runs of the program's top call over files in memory.
 //!
-//! Tests of the libraries are in the other crates of tests. Nothing depends on this crate.
+//! Commands on texts are tested in `wb_tests_texts`, the libraries in the other crates of tests. Nothing depends on this crate.
 #![tactic(auto)]
 
 #[cfg(test)]
@@ -14,44 +14,22 @@ mod closed;
 #[cfg(test)]
 mod compose;
 #[cfg(test)]
-mod edit;
-#[cfg(test)]
-mod failing_runs;
-#[cfg(test)]
-mod generate;
-#[cfg(test)]
-mod long_runs;
-#[cfg(test)]
-mod long_texts;
+mod expected;
 #[cfg(test)]
 mod long_values;
 #[cfg(test)]
 mod many_extensions;
 #[cfg(test)]
-mod odd;
-#[cfg(test)]
 mod open_hosts;
 #[cfg(test)]
 mod prefixes;
 #[cfg(test)]
-mod reading;
-#[cfg(test)]
-mod reading_texts;
-#[cfg(test)]
 mod recheck;
 #[cfg(test)]
-mod run;
-#[cfg(test)]
-mod runs;
-#[cfg(test)]
 mod show;
-#[cfg(test)]
-mod specifications;
 #[cfg(test)]
 mod swapped;
 #[cfg(test)]
 mod syntax;
-#[cfg(test)]
-mod tree;
 #[cfg(test)]
 mod value;

@@ -1,9 +1,8 @@
 //! Does each run of `value` over long files, terms, trees or values end with its status?
 
-use crate::long_runs::{LongRow, Piece, each_long_ends_so};
-use crate::runs::{Row, each_ends_so};
-use crate::specifications::{CALC0, DBL, LOOP, TWINS};
+use crate::expected::{each_ends_so, each_long_ends_so};
 use wb_program::Status;
+use wb_tests_runs::{CALC0, DBL, LOOP, LongRow, Piece, Row, TWINS};
 
 // The greatest length of a file.
 const LIMIT: usize = 1_048_576;

@@ -4,12 +4,12 @@
 
 ghost use Rattle.std.specs.Prelude.{None};
 
-use crate::runs::{expect_none, fits, words_of};
-use crate::specifications::TINY;
+use crate::expected::expect_none;
 use std::alloc::{AllocError, Global};
 use std::process::Abort;
 use wb_operations::standard_table;
 use wb_program::{Status, workbench};
+use wb_tests_runs::{TINY, fits, words_of};
 use wb_world::{Got, MemorySink, Shelf};
 
 // A host, a text, and an extension of the host for each other name.

@@ -3,8 +3,9 @@
 //! A host whose units are empty and whose relations are asked of their left side, with extensions by different authors. What refuses an
 //! extension is in `certify`.
 
-use crate::runs::{Row, each_ends_so};
+use crate::expected::each_ends_so;
 use wb_program::Status;
+use wb_tests_runs::Row;
 
 // Whether an amount keeps to a limit, with places for relations, factors and units.
 const LIMITS: &str = r#"format 1; host limits;

@@ -2,12 +2,12 @@
 //!
 //! Files are in memory. The certificates follow from the rules, but for those of `mini` and its extension, which `certificate` writes.
 
-use crate::failing_runs::{each_read_may_fail, each_write_may_fail};
-use crate::long_runs::{LongRow, each_long_ends_so};
-use crate::runs::{Row, each_ends_so, expect, status_on};
-use crate::specifications::{DUP, KW0, MINI, POWER, TINY};
+use crate::expected::{
+    each_ends_so, each_long_ends_so, each_read_may_fail, each_write_may_fail, expect,
+};
 use std::alloc::{AllocError, Global};
 use wb_program::Status;
+use wb_tests_runs::{DUP, KW0, LongRow, MINI, POWER, Row, TINY, status_on};
 use wb_world::{MemoryShelf, MemorySink};
 
 const ONE: &str =

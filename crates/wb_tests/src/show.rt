@@ -2,13 +2,11 @@
 //!
 //! Files are in memory, and fail where a test sets them to.
 
-use crate::failing_runs::{Faults, ends_with_faults};
-use crate::long_runs::{LongRow, Piece, each_long_ends_so, text_of};
+use crate::expected::{each_ends_so, each_long_ends_so, expect_none, row_ends_with_faults};
 use crate::prefixes::MINI_PREFIXES;
-use crate::runs::{Row, each_ends_so, ends_so, expect_none, status_of};
-use crate::specifications::{ALL, MINI};
 use std::alloc::{AllocError, Global};
 use wb_program::Status;
+use wb_tests_runs::{ALL, Faults, LongRow, MINI, Piece, Row, ends_so, status_of, text_of};
 use wb_world::MemorySink;
 
 const SHOW: &str = "workbench show h";
@@ -185,7 +183,7 @@ static CUT: Row = (SHOW, &[MINI], Status::WriteFault, "format 1");
 
 #[test]
 fn a_write_that_fails_leaves_a_prefix_of_the_text(rt: HostRuntime) {
-    ends_with_faults(
+    row_ends_with_faults(
         &rt,
         &CUT,
         &Faults {

@@ -4,12 +4,12 @@ ghost use Rattle.wb_operations.specs.Given.{FitKinds, IsGiven, plains_of};
 ghost use Rattle.wb_operations.specs.Standard.{standard};
 ghost use Rattle.wb_operations.specs.Takes.{two_ints};
 
-use crate::runs::{Row, expect, row_ends_by};
-use crate::specifications::{CALC0, DIVS};
+use crate::expected::expect;
 use std::alloc::{AllocError, Global};
 use wb_base::Kind;
 use wb_operations::{Meaning, OperationTable, standard_sub};
 use wb_program::Status;
+use wb_tests_runs::{CALC0, DIVS, Row, row_ends_by};
 use wb_values::Value;
 
 // The first number less the second.

@@ -1,10 +1,10 @@
 //! Is a copy of a specification printed like the specification?
 
-use crate::specifications::MINI;
 use std::alloc::{AllocError, Global};
 use wb_reader::read_spec;
 use wb_reader_printer::print_spec;
 use wb_syntax::Spec;
+use wb_tests_runs::MINI;
 
 // Whether this is the canonical text of a specification.
 fn is_printed(alloc: Global, spec: &Spec, text: &[u8]) -> Result<bool, AllocError> {

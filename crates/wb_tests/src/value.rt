@@ -2,10 +2,11 @@
 //!
 //! Files are in memory, and fail where a test sets them to. Long terms and values are in `long_values`.
 
-use crate::failing_runs::{each_read_may_fail, each_write_may_fail};
-use crate::runs::{Row, each_ends_so, each_line_ends_so, one_ends_so};
-use crate::specifications::{CALC, CALC0, CYC, DBL, DIVS, MINI, TWINS};
+use crate::expected::{
+    each_ends_so, each_line_ends_so, each_read_may_fail, each_write_may_fail, one_ends_so,
+};
 use wb_program::Status;
+use wb_tests_runs::{CALC, CALC0, CYC, DBL, DIVS, MINI, Row, TWINS};
 
 const THREE: &str = "add(lit(1), lit(2))\n";
 

@@ -2,6 +2,7 @@
 //!
 //! Extensions are named `e`. Each row has the text after the first line. Expected answers follow from the rules.
 
+use crate::files::SUMS;
 use crate::written::{Asked, Row, Tested, extensions_get, hosts_get};
 
 // The host whose attributes and productions the extensions refer to.
@@ -132,6 +133,55 @@ static IN_FORMAT_1: [Row; 2] = [
 #[test]
 fn the_word_is_a_name_in_format_1(rt: HostRuntime) {
     assert!(rt; extensions_get(rt.alloc(), &NAMES, CLOSING, &IN_FORMAT_1));
+}
+
+static DASH_IN_FORMAT_2: Asked = Asked {
+    tested: Tested::Names,
+    first_line: "format 2; extension dash for tiny; ",
+};
+
+// Extensions of format 2 with layout of their own.
+static WITH_LAYOUT: [Row; 9] = [
+    (
+        "marking D /d/; ignore Dash /-/; \
+            concrete twin : T ::= m : D t : T { forwards to num(@to_text(@mul(2, t.value))); }",
+        "ok",
+    ),
+    ("ignore Dash /-/; prefer Dash over Num;", "ok"),
+    ("ignore Dash /-/; prefer Space over Dash;", "ok"),
+    ("ignore Dash /-/; prefer Plus over Num;", "N3 Plus"),
+    ("ignore Dash /-/; nonterminal Q; extensible Q;", "N3 Q"),
+    ("ignore Dash /-/; nonterminal Q; closed Q;", "N3 Q"),
+    ("ignore Space /-/;", "N2 Space"),
+    ("ignore Dash /-/; ignore Dash /_/;", "N2 Dash"),
+    (
+        "ignore Dash /-/; concrete twin : T ::= m : Dash { }",
+        "N4 Dash",
+    ),
+];
+
+static DASH_IN_FORMAT_1: Asked = Asked {
+    tested: Tested::Names,
+    first_line: "format 1; extension dash for tiny; ",
+};
+
+// The same in format 1, in which the host alone has layout.
+static WITHOUT_LAYOUT: [Row; 3] = [
+    (
+        "marking D /d/; ignore Dash /-/; \
+            concrete twin : T ::= m : D t : T { forwards to num(@to_text(@mul(2, t.value))); }",
+        "N3 Dash",
+    ),
+    ("ignore Dash /-/; prefer Dash over Num;", "N3 Dash"),
+    ("ignore Space /-/;", "N2 Space"),
+];
+
+#[test]
+fn an_extension_may_have_layout_in_format_2(rt: HostRuntime) {
+    assert!(rt;
+        extensions_get(rt.alloc(), &DASH_IN_FORMAT_2, SUMS, &WITH_LAYOUT)
+            && extensions_get(rt.alloc(), &DASH_IN_FORMAT_1, SUMS, &WITHOUT_LAYOUT)
+    );
 }
 
 static WITH_FIRST_LINES: Asked = Asked {

@@ -51,7 +51,7 @@ const STATEMENTS: &str = "format 1; host mini; \
     concrete paren : Factor ::= o : Open e : Expr c : Close {   e.env = top.env; top.value = e.value; }";
 
 // Sums of numbers.
-const SUMS: &str = "format 1; host tiny; \
+pub(crate) const SUMS: &str = "format 1; host tiny; \
     ignore Space /[ ]+/; terminal Num /[0-9]+/; terminal Plus /\\+/; \
     nonterminal E; nonterminal T; start E; extensible T; syn value : int; occurs value on E; occurs value on T; \
     concrete plus : E ::= a : E p : Plus b : T { top.value = @add(a.value, b.value); } \

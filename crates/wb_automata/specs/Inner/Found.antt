@@ -42,6 +42,11 @@ abbrev pub IsMoved : List RegexNode → List ℕ → Path → ℕ → Found → 
 IsMoved nodes ahead path b old new None = (new ≡ old) × ((q : ℕ) → holds_of nodes q b ≡ true → Contains ahead q → ⊥)
 IsMoved nodes ahead path b old new (Some j) = IsMovedTo nodes ahead path b old new j
 
+-- the places are those of the state, and there is no state only where there are no places
+abbrev pub IsTo : Found → List ℕ → Path → Found → Option ℕ → Type 0
+IsTo old places path new None = (new ≡ old) × (places ≡ [])
+IsTo old places path new (Some j) = IsPlaced old places path new j × (¬ (places ≡ []))
+
 -- every path of the list is earlier than this one
 abbrev pub AllBefore : List Path → Path → Type 0
 AllBefore paths w = (j : ℕ) (u : Path) → slice_get paths j ≡ Some u → IsEarlier u w

@@ -3,13 +3,13 @@ use Rattle.std.specs.Prelude.{◌≡◌, List, [], Some}
 use Rattle.wb_base.specs.Grammar.{GrammarView}
 use Rattle.wb_certify_host.specs.Hosts.{CertifiedView, IsCertified}
 use Rattle.wb_certify_host.specs.declared.refusal.CertifyRefusal.{CertifyRefusal}
-use Rattle.wb_determinism_host.specs.Hosts.{AreHostParts, IsDeterministicHost}
-use Rattle.wb_determinism_host.specs.declared.parts.HostParts.{HostParts}
-use Rattle.wb_determinism_host.specs.declared.refusal.DeterminismRefusal.{DeterminismRefusal}
-use Rattle.wb_determinism_host.specs.declared.refusal.DeterminismRefusal.TheVariants as d
-use Rattle.wb_determinism.specs.Extensions.{IsDeterministicExtension}
+use Rattle.wb_certify_host.specs.DeterministicHosts.{AreHostParts, IsDeterministicHost}
+use Rattle.wb_certify_host.specs.parts.HostParts.{HostParts}
+use Rattle.wb_certify_host.specs.determinism_refusal.DeterminismRefusal.{DeterminismRefusal}
+use Rattle.wb_certify_host.specs.determinism_refusal.DeterminismRefusal.TheVariants as d
+use Rattle.wb_determinism_beside.specs.DeterministicExtensions.{IsDeterministicExtension}
 use Rattle.wb_marking.specs.Bridges.{AreBridges}
-use Rattle.wb_names.specs.Resolving.{ResolvesExtension}
+use Rattle.wb_certify_host.specs.Resolving.{ResolvesExtension}
 use Rattle.wb_operations.specs.Operations.{OperationSignature}
 use Rattle.wb_syntax.specs.SpecText.{SpecView}
 use Rattle.wb_syntax_resolved.specs.declared.resolved.ResolvedParts.{ResolvedParts}

@@ -1,11 +1,10 @@
 -- Forms of the union as they are made, terminal by terminal, with their expressions.
-use Rattle.std.specs.Prelude.{◌≡◌, ◌<◌, ◌↔◌, ◌++◌, ◌∷◌, [], ℕ, Bool, true, false, List, Some, Contains, drop, length, map, slice_get}
+use Rattle.std.specs.Prelude.{◌≡◌, ◌<◌, ◌↔◌, ◌++◌, ◌∷◌, [], ℕ, Bool, true, false, List, Some, Contains, length, slice_get}
 use Rattle.wb_base.specs.Different.{Differ}
 use Rattle.wb_scan_theory.specs.declared.form.Form.{Form}
 use Rattle.wb_scan_theory.specs.Languages.{bare}
 use Rattle.wb_regex.specs.Matches.{Matches}
 use Rattle.wb_regex.specs.Tree.{Tree}
-use Rattle.wb_syntax_resolved.specs.declared.terminal.Terminal.{Terminal}
 use Rattle.wb_compose_theory_language.specs.Apart.{colon}
 use Rattle.wb_compose_theory_language.specs.Forms.{IsForm, IsWithdrawn}
 use Rattle.wb_compose_theory_language.specs.Languages.{IsTextOf}
@@ -50,10 +49,6 @@ module _ (lent : Lent) where
   pub record AreMadeBelow (bound : ℕ) (made : UnitedForms) : Type 0 where
     pub forms : AreFormsBelow bound made.forms.items made.expressions.items
     pub withdrawn : AreWithdrawnBelow bound made.withdrawn.items
-
-  -- the expressions of the host's layout were added
-  abbrev pub AreLayoutAdded : List Tree → List Tree → Type 0
-  AreLayoutAdded old new = new ≡ old ++ map (λ (t : Terminal). t.pattern) (drop lent.grammar.now.terminals lent.terminals.now)
 
 -- a bare form was added with its expression
 pub record IsBareAdded (old new : UnitedForms) (number : ℕ) (pattern : Tree) : Type 0 where

@@ -1,5 +1,5 @@
--- What is known of the own terminals of extensions, listed one after another.
-use Rattle.std.specs.Prelude.{◌≡◌, ◌≤◌, ◌<◌, ◌+◌, ◌↔◌, ◌++◌, ◌∷◌, [], ℕ, Bool, true, Option, Some, List, length, slice_get}
+-- What is known of the own terminals and own layout of extensions, listed one after another.
+use Rattle.std.specs.Prelude.{◌≡◌, ◌≤◌, ◌<◌, ◌+◌, ◌-◌, ◌↔◌, ◌++◌, ◌∷◌, [], ℕ, Bool, true, Option, Some, List, length, slice_get}
 use Rattle.wb_automata.specs.Sharing.{AreSharing, IsOnlyMatch}
 use Rattle.wb_regex.specs.Tree.{Tree}
 use Rattle.wb_syntax_resolved.specs.declared.terminal.Terminal.{Terminal}
@@ -8,39 +8,47 @@ use Rattle.wb_compose_language.specs.declared.known.Known.{Known}
 use Rattle.wb_compose_language.specs.declared.known.Told.{Told}
 use Rattle.wb_compose_language.specs.Inner.TextMachines.{IsTextMachine}
 
--- each terminal of the grammar has a row
-abbrev pub HasTerminals : Addition → Type 0
-HasTerminals x = x.grammar.now.terminals ≤ length x.terminals.now
+-- each terminal of the grammar has a row, and so have so many layouts of the host
+abbrev pub HasLayoutRows : ℕ → Addition → Type 0
+HasLayoutRows hosts x = x.grammar.now.terminals + hosts ≤ length x.terminals.now
 
--- the extension has no fewer terminals than so many, and each terminal of the grammar has a row
-abbrev pub HasOwnRows : ℕ → Addition → Type 0
-HasOwnRows own x = (own ≤ x.grammar.now.terminals) × HasTerminals x
+-- the extension has no fewer terminals than the host, which has so many, and so many layouts; and each has a row
+abbrev pub HasOwnRows : (own hosts : ℕ) → Addition → Type 0
+HasOwnRows own hosts x = (own ≤ x.grammar.now.terminals) × HasLayoutRows hosts x
 
--- the own terminals of the extension before the one of this number have their expressions from a place on
+-- the rows of the extension from the first number to before the second have their expressions from a place on
 abbrev pub HasPlaces : ℕ → ℕ → Addition → List Tree → ℕ → Type 0
-HasPlaces own bound x patterns base = (i : ℕ) (row : Terminal) → own + i < bound → slice_get x.terminals.now (own + i) ≡ Some row
+HasPlaces from bound x patterns base = (i : ℕ) (row : Terminal) → from + i < bound → slice_get x.terminals.now (from + i) ≡ Some row
     → slice_get patterns (base + i) ≡ Some row.pattern
 
 -- what is listed stays
 abbrev pub Keeps : List Tree → List Tree → Type 0
 Keeps old new = (k : ℕ) (p : Tree) → slice_get old k ≡ Some p → slice_get new k ≡ Some p
 
--- the expressions of the own terminals before the one of this number were put after others
-pub record ArePatternsAdded (own bound : ℕ) (x : Addition) (old new : List Tree) : Type 0 where
+-- the expressions of the rows from the first number to before the second were put after others
+pub record ArePatternsAdded (from bound : ℕ) (x : Addition) (old new : List Tree) : Type 0 where
   pub keeps : Keeps old new
-  pub len : own + length new ≡ bound + length old
-  pub places : HasPlaces own bound x new (length old)
+  pub len : from + length new ≡ bound + length old
+  pub places : HasPlaces from bound x new (length old)
 
--- the own terminals of an extension were put after others
-pub record IsAdded (own : ℕ) (x : Addition) (patterns : List Tree) (bases : List ℕ) (patterns' : List Tree) (bases' : List ℕ) : Type 0 where
+-- the own terminals of an extension, and then its own layout, were put after others
+pub record IsAdded (own hosts : ℕ) (x : Addition) (patterns : List Tree) (bases : List ℕ) (patterns' : List Tree)
+    (bases' : List ℕ) : Type 0 where
   pub bases_are : bases' ≡ bases ++ length patterns ∷ []
-  pub patterns_are : ArePatternsAdded own x.grammar.now.terminals x patterns patterns'
+  pub between : List Tree
+  pub terminals_are : ArePatternsAdded own x.grammar.now.terminals x patterns between
+  pub layouts_are : ArePatternsAdded (x.grammar.now.terminals + hosts) (length x.terminals.now) x between patterns'
 
--- for each extension there is the place from which on its own terminals have their expressions
-pub record AreBases (own : ℕ) (extensions : List Addition) (patterns : List Tree) (bases : List ℕ) : Type 0 where
+-- the own terminals of the extension have their expressions from a place on, and its own layout after these
+pub record HasOwnPlaces (own hosts : ℕ) (x : Addition) (patterns : List Tree) (base : ℕ) : Type 0 where
+  pub terminals : HasPlaces own x.grammar.now.terminals x patterns base
+  pub layouts : HasPlaces (x.grammar.now.terminals + hosts) (length x.terminals.now) x patterns (base + (x.grammar.now.terminals - own))
+
+-- for each extension there is the place from which on it has these
+pub record AreBases (own hosts : ℕ) (extensions : List Addition) (patterns : List Tree) (bases : List ℕ) : Type 0 where
   pub len : length bases ≡ length extensions
   pub each : (k : ℕ) (x : Addition) (base : ℕ) → slice_get extensions k ≡ Some x → slice_get bases k ≡ Some base
-      → HasPlaces own x.grammar.now.terminals x patterns base
+      → HasOwnPlaces own hosts x patterns base
 
 -- an expression for which a text is listed matches that text alone
 pub record AreTexts (patterns : List Tree) (texts : List (Option (List ℕ))) : Type 0 where

@@ -1,5 +1,5 @@
 -- What is known of a host with extensions while forms are made.
-use Rattle.std.specs.Prelude.{◌≡◌, ◌≤◌, ◌<◌, ℕ, List, Some, All, slice_get}
+use Rattle.std.specs.Prelude.{◌≡◌, ◌≤◌, ◌<◌, ℕ, List, Some, All, length, slice_get}
 use Rattle.wb_syntax_resolved.specs.declared.terminal.Terminal.{Terminal}
 use Rattle.wb_syntax_resolved.specs.declared.terminal.TerminalKind.TheVariants.{Marking}
 use Rattle.wb_compose_theory_grammar.specs.Places.{count_before}
@@ -12,6 +12,7 @@ use Rattle.wb_compose_language.specs.declared.extension_forms.OwnTerminal.{OwnTe
 use Rattle.wb_compose_language.specs.declared.union_forms.Opened.{Opened}
 use Rattle.wb_compose_language.specs.Lents.{IsUnitable, all_in, own_in}
 use Rattle.wb_compose_language.specs.Inner.Known.{AreBases, HasOwnRows, IsKnown}
+use Rattle.wb_compose_language.specs.Inner.Layouts.{hosts_in}
 use Rattle.wb_compose_language.specs.declared.withdrawn.Asked.{Asked}
 
 -- how many own terminals each extension has
@@ -22,12 +23,13 @@ sizes_in lent = sizes lent.grammar.now lent.extensible.now (own_in lent) (all_in
 abbrev pub union_terminals : Lent → ℕ
 union_terminals lent = (united lent.grammar.now lent.extensible.now (pieces_of (all_in lent))).terminals
 
--- each extension has rows for its own terminals, which are listed
+-- the host has rows for its terminals, and each extension for its own terminals and layout, which are listed
 pub record AreOpened (opened : Opened) : Type 0 where
-  pub rows : All (HasOwnRows opened.lent.grammar.now.terminals) opened.lent.extensions.now
+  pub host_rows : opened.lent.grammar.now.terminals ≤ length opened.lent.terminals.now
+  pub rows : All (HasOwnRows opened.lent.grammar.now.terminals (hosts_in opened.lent)) opened.lent.extensions.now
   pub known : IsKnown opened.known.now
-  pub bases : AreBases opened.lent.grammar.now.terminals opened.lent.extensions.now opened.known.now.owns.now.patterns.items
-      opened.known.now.owns.now.bases.items
+  pub bases : AreBases opened.lent.grammar.now.terminals (hosts_in opened.lent) opened.lent.extensions.now
+      opened.known.now.owns.now.patterns.items opened.known.now.owns.now.bases.items
 
 -- and all can be united
 pub record IsOpened (opened : Opened) : Type 0 where

@@ -4,38 +4,56 @@ use Rattle.wb_base.specs.Grammar.{GrammarView}
 use Rattle.wb_syntax_resolved.specs.declared.terminal.Preference.{Preference}
 use Rattle.wb_compose_theory.specs.Blocks.{spread}
 use Rattle.wb_compose_theory_grammar.specs.Places.{count_before, total_of}
+use Rattle.wb_compose_theory_grammar.specs.Unions.{added_terminals}
 use Rattle.wb_compose_theory_grammar.specs.UnitedWorlds.{united}
-use Rattle.wb_compose_theory_language.specs.Rows.{Prefers, host_row, piece_row, sizes}
+use Rattle.wb_compose_theory_language.specs.Rows.{Prefers, host_row, layouts_from, piece_row, sizes}
 use Rattle.wb_compose_theory_language.specs.Written.{WrittenPiece, pieces_of}
+use Rattle.wb_compose_language.specs.declared.addition.Addition.{Addition}
 use Rattle.wb_compose_language.specs.declared.addition.Lent.{Lent}
-use Rattle.wb_compose_language.specs.Lents.{all_in, own_in}
+use Rattle.wb_compose_language.specs.declared.preferences.Earlier.{Earlier}
 use Rattle.wb_compose_language.specs.declared.row.Block.{Block}
+use Rattle.wb_compose_language.specs.declared.row.Blocks.{Blocks}
+use Rattle.wb_compose_language.specs.declared.preferences.Sums.{Sums}
+use Rattle.wb_compose_language.specs.Inner.Layouts.{hosts_in, layout_sizes_in, owns_in}
+use Rattle.wb_compose_language.specs.Lents.{all_in, own_in}
 
--- the number in the union of a number of the host with the extension of the block
-abbrev pub row_in : Block → ℕ → ℕ
-row_in block t = spread block.own block.before block.size block.total t
+-- a number of the host with the extension of the block, among all of its kind
+abbrev pub among : Block → ℕ → ℕ
+among block t = spread block.own block.before block.size block.total t
+
+-- the number in the union: among terminals, and then among layouts
+abbrev pub row_in : Blocks → ℕ → ℕ
+row_in blocks t = among blocks.layouts (among blocks.terminals t)
+
+-- no block is larger than all together
+abbrev pub AreWithin : Blocks → Type 0
+AreWithin blocks = (blocks.terminals.size ≤ blocks.terminals.total) × (blocks.layouts.size ≤ blocks.layouts.total)
 
 -- a preference by the numbers of the union
-abbrev pub pair_in : Block → Preference → ℕ × ℕ
-pair_in block p = (row_in block p.first, row_in block p.second)
+abbrev pub pair_in : Blocks → Preference → ℕ × ℕ
+pair_in blocks p = (row_in blocks p.first, row_in blocks p.second)
 
--- the terminal is one of the block
-abbrev pub IsInBlock : Block → ℕ → Type 0
-IsInBlock block t = (block.own ≤ t) × (t < block.own + block.size)
+-- the number is one of so many from the first on
+abbrev pub IsFrom : (first count t : ℕ) → Type 0
+IsFrom first count t = (first ≤ t) × (t < first + count)
 
--- the preference names a terminal of the block
-abbrev pub IsOwnPair : Block → Preference → Type 0
-IsOwnPair block p = IsInBlock block p.first ⊎ IsInBlock block p.second
+-- the terminal or layout is the extension's own
+abbrev pub IsOwnNumber : Blocks → ℕ → Type 0
+IsOwnNumber blocks t = IsFrom blocks.terminals.own blocks.terminals.size t ⊎ IsFrom blocks.first blocks.layouts.size t
 
--- the preference is listed after the others, or it names no terminal of the block
-abbrev pub IsAddedIfOwn : Block → Preference → List (ℕ × ℕ) → List (ℕ × ℕ) → Type 0
-IsAddedIfOwn block p old new = (new ≡ old ++ pair_in block p ∷ []) ⊎ ((¬ IsOwnPair block p) × (new ≡ old))
+-- the preference names one of the extension's own
+abbrev pub IsOwnPair : Blocks → Preference → Type 0
+IsOwnPair blocks p = IsOwnNumber blocks p.first ⊎ IsOwnNumber blocks p.second
 
--- each preference that names a terminal of the block is listed besides, and nothing that is no preference
-pub record AreOwnAdded (block : Block) (ps : List Preference) (old new : List (ℕ × ℕ)) : Type 0 where
+-- the preference is listed after the others, or it names none of the extension's own
+abbrev pub IsAddedIfOwn : Blocks → Preference → List (ℕ × ℕ) → List (ℕ × ℕ) → Type 0
+IsAddedIfOwn blocks p old new = (new ≡ old ++ pair_in blocks p ∷ []) ⊎ ((¬ IsOwnPair blocks p) × (new ≡ old))
+
+-- each preference that names one of the extension's own is listed besides, and nothing that is no preference
+pub record AreOwnAdded (blocks : Blocks) (ps : List Preference) (old new : List (ℕ × ℕ)) : Type 0 where
   pub kept : (q : ℕ × ℕ) → Contains old q → Contains new q
-  pub added : (p : Preference) → Contains ps p → IsOwnPair block p → Contains new (pair_in block p)
-  pub only : (q : ℕ × ℕ) → Contains new q → Contains old q ⊎ ((p : Preference) × Contains ps p × (q ≡ pair_in block p))
+  pub added : (p : Preference) → Contains ps p → IsOwnPair blocks p → Contains new (pair_in blocks p)
+  pub only : (q : ℕ × ℕ) → Contains new q → Contains old q ⊎ ((p : Preference) × Contains ps p × (q ≡ pair_in blocks p))
 
 module _ (lent : Lent) where
   -- the union's grammar
@@ -49,6 +67,41 @@ module _ (lent : Lent) where
   -- how many all have
   abbrev pub total : ℕ
   total = total_of sizes_of
+
+  -- how many layouts of their own all have, and where these begin
+  abbrev pub layout_total : ℕ
+  layout_total = total_of (layout_sizes_in lent)
+
+  abbrev pub layouts_begin : ℕ
+  layouts_begin = layouts_from lent.grammar.now lent.extensible.now (own_in lent) (all_in lent)
+
+  -- these are so many
+  pub record AreSums (sums : Sums) : Type 0 where
+    pub terminals_are : sums.terminals ≡ total
+    pub layouts_are : sums.layouts ≡ layout_total
+    pub from_is : sums.from ≡ layouts_begin
+
+  -- before the extension of this number there are so many
+  pub record AreEarlier (k : ℕ) (earlier : Earlier) : Type 0 where
+    pub terminals_are : earlier.terminals ≡ count_before sizes_of k
+    pub layouts_are : earlier.layouts ≡ count_before (layout_sizes_in lent) k
+
+  -- the blocks have so many terminals, with so many before them, and so many layouts, with so many before these
+  pub record AreBlocks (blocks : Blocks) (before size layouts_before layouts : ℕ) : Type 0 where
+    pub own_is : blocks.terminals.own ≡ lent.grammar.now.terminals
+    pub before_is : blocks.terminals.before ≡ before
+    pub size_is : blocks.terminals.size ≡ size
+    pub total_is : blocks.terminals.total ≡ total
+    pub from_is : blocks.layouts.own ≡ layouts_begin
+    pub layouts_before_is : blocks.layouts.before ≡ layouts_before
+    pub layouts_is : blocks.layouts.size ≡ layouts
+    pub layout_total_is : blocks.layouts.total ≡ layout_total
+
+  -- they are those of the extension of this number
+  pub record AreBlocksOf (k : ℕ) (x : Addition) (blocks : Blocks) : Type 0 where
+    pub blocks_are : AreBlocks blocks (count_before sizes_of k) (added_terminals lent.grammar.now x.grammar.now)
+        (count_before (layout_sizes_in lent) k) (owns_in lent x)
+    pub first_is : blocks.first ≡ x.grammar.now.terminals + hosts_in lent
 
   -- the one is preferred to the other in the union
   abbrev pub IsPreferred : ℕ → ℕ → Type 0
@@ -68,7 +121,6 @@ module _ (lent : Lent) where
         other ≡ piece_row lent.grammar.now lent.extensible.now (own_in lent) (all_in lent) k x u →
         Contains x.lexicon.preferences (t, u) → IsPreferredBefore bound one other
 
-  -- the preferences of the host and of the extensions before the one of this number are listed, and so many terminals come before it
-  pub record AreGathered (bound before : ℕ) (pairs : List (ℕ × ℕ)) : Type 0 where
-    pub before_is : before ≡ count_before sizes_of bound
-    pub each : (one other : ℕ) → Contains pairs (one, other) ↔ IsPreferredBefore bound one other
+  -- the preferences of the host and of the extensions before the one of this number are listed
+  abbrev pub AreGathered : ℕ → List (ℕ × ℕ) → Type 0
+  AreGathered bound pairs = (one other : ℕ) → Contains pairs (one, other) ↔ IsPreferredBefore bound one other

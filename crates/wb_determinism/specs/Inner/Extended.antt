@@ -1,5 +1,5 @@
 -- A host beside an extended one, and the tests of the latter.
-use Rattle.std.specs.Prelude.{◌≡◌, ◌+◌, ℕ, List, map}
+use Rattle.std.specs.Prelude.{◌≡◌, ◌+◌, ℕ, List, false, map}
 use Rattle.wb_base.specs.declared.symbol.Symbol.{Symbol}
 use Rattle.wb_determinism_contexts.specs.Considered.{LexiconView}
 use Rattle.wb_determinism_host.specs.declared.refusal.DeterminismRefusal.{DeterminismRefusal}
@@ -7,15 +7,15 @@ use Rattle.wb_determinism_host.specs.declared.refusal.DeterminismRefusal.TheVari
 use Rattle.wb_determinism_host.specs.declared.refusal.EnvelopeFault.{EnvelopeFault}
 use Rattle.wb_determinism_host.specs.declared.refusal.EnvelopeFault.TheVariants as f
 use Rattle.wb_determinism_host.specs.HostGrammar.{HasGrammar}
-use Rattle.wb_determinism_host.specs.Hosts.{AreHostParts, IsDeterministicHost}
-use Rattle.wb_determinism_host.specs.Lexicons.{is_layout, preference_pairs}
+use Rattle.wb_determinism_host.specs.Hosts.{AreHostParts, IsDeterministicBy}
+use Rattle.wb_determinism_host.specs.Lexicons.{is_host_layout, preference_pairs}
 use Rattle.wb_syntax_resolved.specs.declared.resolved.ResolvedParts.{ResolvedParts}
 use Rattle.wb_syntax_resolved.specs.declared.terminal.Terminal.{Terminal}
 use Rattle.wb_determinism.specs.declared.context.Context.{Context}
 use Rattle.wb_determinism.specs.declared.extension.Extended.{Extended}
 use Rattle.wb_determinism.specs.EnvelopeClash.{HasNoEnvelopeClash}
 use Rattle.wb_determinism.specs.Inner.Keeps.{KeepsInEnvelope, HasNoEnvelopeConflict}
-use Rattle.wb_determinism.specs.Extensions.{IsHostBeside, extended_grammar, both_numbers}
+use Rattle.wb_determinism.specs.Extensions.{IsHostBeside, both_lexicon, both_numbers, extended_grammar}
 use Rattle.wb_determinism.specs.Images.{stands_for}
 use Rattle.wb_determinism.specs.LookaheadRule.{IsLookaheadFault}
 use Rattle.wb_determinism.specs.Inner.Clashes.{IsClashFault}
@@ -23,12 +23,14 @@ use Rattle.wb_determinism.specs.Inner.Shown.{IsInnerFault}
 use Rattle.wb_determinism.specs.Inner.Contexts.{HasImage, IsContext, both_of, host_of}
 use Rattle.wb_determinism.specs.Inner.Images.{AreImages}
 
--- what is scanned of so many terminals, and all layout
+-- what is scanned of so many terminals, and the host's layout
 abbrev pub lexicon_for : ResolvedParts → ℕ → LexiconView
 lexicon_for r scanned = record {
   expressions = map (λ (t : Terminal). t.pattern) r.terminals;
   scanned = scanned;
-  layout = map (λ (t : Terminal). is_layout t.kind) r.terminals;
+  layout = map is_host_layout r.terminals;
+  own_layout = map (λ (t : Terminal). false) r.terminals;
+  own_productions = (0, 0);
   preferences = preference_pairs r;
 }
 
@@ -36,7 +38,7 @@ lexicon_for r scanned = record {
 pub record IsExtended (x : Extended) : Type 0 where
   pub has : HasGrammar x.parts.now x.grammar.now
   pub host : IsHostBeside x.parts.now x.grammar.now x.host.now
-  pub deterministic : IsDeterministicHost x.parts.now x.grammar.now
+  pub deterministic : IsDeterministicBy x.parts.now x.grammar.now (both_lexicon x.parts.now x.grammar.now x.host.now.grammar)
   pub both : AreHostParts x.parts.now x.grammar.now x.both.now
 
 -- what is compared is that

@@ -1,17 +1,20 @@
 -- The new kernels of a host with an extension, and their lookaheads, as references to them.
-use Rattle.std.specs.Prelude.{◌≢◌, ◌↔◌, ◌+◌, ◌<◌, ◌≡◌, ℕ, Bool, List, Some, length, slice_get}
+use Rattle.std.specs.Prelude.{◌≢◌, ◌↔◌, ◌+◌, ◌<◌, ◌≡◌, ◌⊎◌, ℕ, Bool, List, Some, false, length, map, slice_get}
 use Rattle.wb_base.specs.declared.symbol.Symbol.{Symbol}
 use Rattle.wb_base.specs.Grammar.{GrammarView}
 use Rattle.wb_compose_theory.specs.Renamings.{Renaming, renamed_item}
-use Rattle.wb_determinism_contexts.specs.Considered.{IsClashAt, IsConsideredAt, LexiconView}
+use Rattle.wb_determinism_contexts.specs.Considered.{IsClashAt, LexiconView}
+use Rattle.wb_determinism_host.specs.Lexicons.{is_layout, preference_pairs}
 use Rattle.wb_determinism_kernels.specs.NewKernels.{AreNewKernels, prefix_with}
 use Rattle.wb_determinism_kernels.specs.Numbers.{up_by}
 use Rattle.wb_determinism_lookaheads.specs.NewLookaheads.{AreNewLookaheads}
 use Rattle.wb_grammar_theory.specs.declared.item.Item.{Item}
 use Rattle.wb_grammar_theory.specs.Items.{IsKernelItem}
-use Rattle.wb_grammar_theory.specs.Lookaheads.{HasConflict}
+use Rattle.wb_grammar_theory.specs.Lookaheads.{HasConflict, IsValidTerminal}
 use Rattle.wb_grammar_theory.specs.Shape.{IsLive}
 use Rattle.wb_items.specs.Kernels.{AreKernels, KernelsView, count_of}
+use Rattle.wb_syntax_resolved.specs.declared.resolved.ResolvedParts.{ResolvedParts}
+use Rattle.wb_syntax_resolved.specs.declared.terminal.Terminal.{Terminal}
 use Rattle.wb_termset.specs.Sets.{IsMember}
 use Rattle.wb_determinism_beside.specs.declared.found.Found.{Found}
 
@@ -51,10 +54,21 @@ pub record HasForeign (x : Found) (i : ℕ) : Type 0 where
 abbrev pub AreForeign : Found → Type 0
 AreForeign x = (i : ℕ) → i < new_in x → HasForeign x i
 
--- the prefix has no conflict, and the set has what is considered there
+-- what is scanned of so many terminals, and all layout: at a kernel with an item of the extension its layout is considered beside the host's
+abbrev pub lexicon_for : ResolvedParts → ℕ → LexiconView
+lexicon_for r scanned = record {
+  expressions = map (λ (t : Terminal). t.pattern) r.terminals;
+  scanned = scanned;
+  layout = map (λ (t : Terminal). is_layout t.kind) r.terminals;
+  own_layout = map (λ (t : Terminal). false) r.terminals;
+  own_productions = (0, 0);
+  preferences = preference_pairs r;
+}
+
+-- the prefix has no conflict, and the set has what is scanned and valid there, and layout
 pub record IsClear (k : GrammarView) (lexicon : LexiconView) (prefix : List Symbol) (set : List Bool) : Type 0 where
   pub no_conflict : (t : ℕ) → ¬ HasConflict k prefix t
-  pub each : (t : ℕ) → IsMember set t ↔ IsConsideredAt k lexicon prefix t
+  pub each : (t : ℕ) → IsMember set t ↔ (((t < lexicon.scanned) × IsValidTerminal k prefix t) ⊎ IsMember lexicon.layout t)
 
 -- a set for each of the first new kernels
 pub record AreClear (x : Found) (lexicon : LexiconView) (n : ℕ) (sets : List (List Bool)) : Type 0 where

@@ -119,6 +119,15 @@ IsVisit (task.Call i n) = ⊥
 IsVisit task.Stay = ⊥
 IsVisit other = Unit {0}
 
+-- and reads no attribute of a child or of the top
+abbrev pub IsOtherVisit : Task → Type 0
+IsOtherVisit (task.Build p n) = ⊥
+IsOtherVisit (task.Call i n) = ⊥
+IsOtherVisit task.Stay = ⊥
+IsOtherVisit (task.Read label x) = ⊥
+IsOtherVisit (task.Top x) = ⊥
+IsOtherVisit other = Unit {0}
+
 -- where the work stops is a fault, or a frame of this place
 abbrev pub IsStopped : Expression → ℕ → Stop → Ran → Type 0
 IsStopped x at (stop.Fault operation code) r = r ≡ ran.Fault operation code
@@ -191,6 +200,7 @@ way_to (place.Local y) = step.Local y
 -- the value of the instance of the key is known, or it is needed
 abbrev pub IsRead : Memo → Key → Ran → Type 0
 IsRead m k (ran.Value v) = known m k ≡ Some v
+IsRead m k ran.Top = ⊥
 IsRead m k (ran.Fault operation code) = ⊥
 IsRead m k (ran.Needs other frame) = (other ≡ k) × (frame ≡ None) × (known m k ≡ None)
 
@@ -207,6 +217,8 @@ module _ (a : AttributionParts) (operations : Operations) (trees : List Tree) wh
   -- the instance at work has the outcome, or it reads one that wasn't entered
   abbrev pub IsRan : Machine → List Value → Ran → Type 0
   IsRan m values (ran.Value v) = Runs a operations trees values m (done (value (value_in trees v))) × IsIn (length trees) v
+  IsRan m values ran.Top = (under : List Value) × (v : Value) × (values ≡ under ++ v ∷ [])
+      × Runs a operations trees under m (done (value (value_in trees v))) × IsIn (length trees) v
   IsRan m values (ran.Fault operation code) = Fails a operations trees m operation code
   IsRan m values (ran.Needs k frame) = IsFramed m values k frame
 

@@ -6,7 +6,7 @@ use Rattle.wb_syntax_resolved.specs.declared.equation.Equation.{Equation}
 use Rattle.wb_syntax_resolved.specs.declared.production.Forward.{Forward}
 use Rattle.wb_syntax_resolved.specs.declared.production.Local.{Local}
 use Rattle.wb_syntax_resolved.specs.declared.production.Production.{Production}
-use Rattle.wb_explain_flows.specs.declared.rule.Rule.{Rule}
+use Rattle.wb_explain_flows_lists.specs.declared.rule.Rule.{Rule}
 use Rattle.wb_explain_flows.specs.Rules.{ReadsVertex}
 
 -- one of the equations is for one vertex and reads the other, and is here

@@ -1,8 +1,8 @@
 -- Extensions that were added to a host.
 use Rattle.std.specs.Prelude.{◌≡◌, [], ℕ, List}
-use Rattle.wb_certify_files.specs.Hosts.{CertifiedView}
+use Rattle.wb_compose_files.specs.Hosts.{CertifiedView}
 use Rattle.wb_compose_files.specs.Certified.{CertifiedParts}
-use Rattle.wb_compose_texts.specs.Unions.{all_resolved}
+use Rattle.wb_compose_files.specs.Unions.{all_resolved}
 use Rattle.wb_operations.specs.Operations.{OperationSignature}
 use Rattle.wb_explain_language.specs.Languages.{AreNext}
 

@@ -3,7 +3,7 @@ use Rattle.std.specs.Prelude.{◌≡◌, ◌≢◌, ◌⊎◌, ◌+◌, ℕ, Lis
 use Rattle.wb_base.specs.declared.symbol.Kind.{Kind}
 use Rattle.wb_base.specs.declared.symbol.Kind.TheVariants as kind
 use Rattle.wb_syntax_expressions.specs.declared.node.Node.TheVariants as n
-use Rattle.wb_syntax_expressions.specs.Places.{HasNode, parts_of}
+use Rattle.wb_syntax_expressions.specs.Places.{HasNode}
 use Rattle.wb_operations.specs.Operations.{OperationSignature}
 use Rattle.wb_syntax_resolved.specs.declared.attribution.AttributionParts.{AttributionParts}
 use Rattle.wb_syntax_resolved.specs.declared.production.ChildKind.TheVariants as child

@@ -1,13 +1,9 @@
 -- Tables in the making: what was made for the first kernels.
-use Rattle.std.specs.Prelude.{◌≡◌, ◌≢◌, ◌<◌, ◌++◌, ◌∷◌, ◌↔◌, ℕ, Bool, List, [], length, map, slice_index_or}
+use Rattle.std.specs.Prelude.{◌≡◌, ◌<◌, ◌++◌, ◌∷◌, ℕ, List, [], length, map, slice_index_or}
 use Rattle.wb_items.specs.Kernels.{KernelsView}
 use Rattle.wb_lookahead.specs.declared.build_tables.Parts.{Parts}
 use Rattle.wb_lookahead.specs.Codes.{action_at}
-use Rattle.wb_lookahead.specs.Contents.{action_in}
 use Rattle.wb_lookahead.specs.Matrices.{AreMatrices, MatrixView}
-use Rattle.wb_lookahead.specs.declared.action.Action.{Action}
-use Rattle.wb_lookahead.specs.declared.action.Action.TheVariants.{None}
-use Rattle.wb_termset.specs.Sets.{IsMember}
 use Rattle.wb_lookahead.specs.Inner.Rows.{AreGotos, IsRowOf}
 use Rattle.wb_lookahead.specs.Tables.{IsValidSet}
 
@@ -23,8 +19,3 @@ pub record ArePartsUpTo (kernels : KernelsView) (parts : Parts) (n : ℕ) : Type
 -- the matrix has this row after those of the other
 abbrev pub HasRow : MatrixView → List ℕ → MatrixView → Type 0
 HasRow old row new = new ≡ record { width = old.width; rows = old.rows ++ row ∷ [] }
-
--- the set is that of the terminals on which the row has an action
-pub record ValidIn (row : List Action) (set : List Bool) : Type 0 where
-  pub len : length set ≡ length row
-  pub each : (t : ℕ) → IsMember set t ↔ (action_in row t ≢ None)

@@ -74,9 +74,9 @@ abbrev pub value_of : File → Rows → Option GrammarView → ResolvedParts
 value_of file rows grammar =
     made_value rows file.base.host file.extensions (map (signature_of file.extensions) rows.productions) grammar
 
--- the file's names are right, and it stands for this value
-pub record IsValueOf (file : File) (r : ResolvedParts) : Type 0 where
-  pub names : NamesOk (file_scope file)
+-- the names of a file of this format are right, and it stands for this value
+pub record IsValueOf (format : ℕ) (file : File) (r : ResolvedParts) : Type 0 where
+  pub names : NamesOk (file_scope format file)
   pub value : Resolves file r
 
 -- the grammar of the first rows, so many of them, where there is a start; they are of so many terminals and nonterminals

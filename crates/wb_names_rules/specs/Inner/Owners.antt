@@ -9,43 +9,43 @@ use Rattle.wb_names_theory.specs.declared.declaration.Sort.TheVariants.{Layout}
 use Rattle.wb_names_theory.specs.declared.refusal.NameRefusal.{NameRefusal}
 use Rattle.wb_names_theory.specs.declared.refusal.NameRefusal.TheVariants as r
 use Rattle.wb_names_theory.specs.Meaning.{HasSite}
-use Rattle.wb_names_theory.specs.Orphan.{IsOwnSymbol, IsOwnAttribute, IsOwnOccurrence, IsOwnLocal, IsOfHost, FailsOrphan}
+use Rattle.wb_names_theory.specs.Orphan.{Bounds, IsOwnSymbol, IsOwnAttribute, IsOwnOccurrence, IsOwnLocal, IsOfHost, FailsOrphan}
 
--- an extension may declare this occurrence, where the host closed these nonterminals
-pub record MayOccur (own : List Declaration) (hosts_closed : List (List ℕ)) (a n : List ℕ) : Type 0 where
+-- an extension may declare this occurrence, within these bounds
+pub record MayOccur (own : List Declaration) (bounds : Bounds) (a n : List ℕ) : Type 0 where
   pub is_own : IsOwnAttribute own a ⊎ IsOwnSymbol own n
-  pub is_open : ¬ Contains hosts_closed n
+  pub is_open : ¬ Contains bounds.hosts_closed n
 
 -- an extension may write an equation on this production, for this attribute of the tree at this site
 abbrev pub MayWrite : List Declaration → ℕ → List ℕ → List ℕ → Site → Type 0
 MayWrite declared from p a at = IsOfHost (take from declared) p → (n : List ℕ) → HasSite declared p at n
     → IsOwnOccurrence (drop from declared) a n ⊎ IsOwnLocal (drop from declared) p at
 
--- an extension may declare this, where the host closed these nonterminals
-abbrev pub MayDeclare : List Declaration → ℕ → List (List ℕ) → Declaration → Type 0
-MayDeclare declared from hosts_closed (d.Start name) = ⊥
-MayDeclare declared from hosts_closed (d.Extensible name) = ⊥
-MayDeclare declared from hosts_closed (d.Closed name) = ⊥
-MayDeclare declared from hosts_closed (d.Symbol name is) = is ≢ Layout
-MayDeclare declared from hosts_closed (d.ForwardNeeds name) = IsOwnSymbol (drop from declared) name
-MayDeclare declared from hosts_closed (d.Occurrence a n) = MayOccur (drop from declared) hosts_closed a n
-MayDeclare declared from hosts_closed (d.Preference first second) =
+-- an extension may declare this, within these bounds
+abbrev pub MayDeclare : List Declaration → ℕ → Bounds → Declaration → Type 0
+MayDeclare declared from bounds (d.Start name) = ⊥
+MayDeclare declared from bounds (d.Extensible name) = ⊥
+MayDeclare declared from bounds (d.Closed name) = ⊥
+MayDeclare declared from bounds (d.Symbol name is) = bounds.format ≡ 1 → is ≢ Layout
+MayDeclare declared from bounds (d.ForwardNeeds name) = IsOwnSymbol (drop from declared) name
+MayDeclare declared from bounds (d.Occurrence a n) = MayOccur (drop from declared) bounds a n
+MayDeclare declared from bounds (d.Preference first second) =
     IsOwnSymbol (drop from declared) first ⊎ IsOwnSymbol (drop from declared) second
-MayDeclare declared from hosts_closed (d.Equation p a at) = MayWrite declared from p a at
-MayDeclare declared from hosts_closed other = Unit {0}
+MayDeclare declared from bounds (d.Equation p a at) = MayWrite declared from p a at
+MayDeclare declared from bounds other = Unit {0}
 
 -- the refusal tells that an extension says what it may not, of which its own declaration is an example, unless memory ran out
-abbrev pub ShowsOrphan : List Declaration → ℕ → List (List ℕ) → Declaration → NameRefusal → Type 0
-ShowsOrphan declared from hosts_closed one (r.Orphan name) = Contains (drop from declared) one
-    → FailsOrphan (take from declared) (drop from declared) hosts_closed name
-ShowsOrphan declared from hosts_closed one (r.NoMemory error) = Unit {0}
-ShowsOrphan declared from hosts_closed one other = ⊥
+abbrev pub ShowsOrphan : List Declaration → ℕ → Bounds → Declaration → NameRefusal → Type 0
+ShowsOrphan declared from bounds one (r.Orphan name) = Contains (drop from declared) one
+    → FailsOrphan (take from declared) (drop from declared) bounds name
+ShowsOrphan declared from bounds one (r.NoMemory error) = Unit {0}
+ShowsOrphan declared from bounds one other = ⊥
 
 -- the refusal tells that an extension says what it may not, unless memory ran out
-abbrev pub IsOrphanIn : List Declaration → ℕ → List (List ℕ) → NameRefusal → Type 0
-IsOrphanIn declared from hosts_closed (r.Orphan name) = FailsOrphan (take from declared) (drop from declared) hosts_closed name
-IsOrphanIn declared from hosts_closed (r.NoMemory error) = Unit {0}
-IsOrphanIn declared from hosts_closed other = ⊥
+abbrev pub IsOrphanIn : List Declaration → ℕ → Bounds → NameRefusal → Type 0
+IsOrphanIn declared from bounds (r.Orphan name) = FailsOrphan (take from declared) (drop from declared) bounds name
+IsOrphanIn declared from bounds (r.NoMemory error) = Unit {0}
+IsOrphanIn declared from bounds other = ⊥
 
 -- a label is that of a local
 abbrev pub IsLocal : Labelled → Type 0

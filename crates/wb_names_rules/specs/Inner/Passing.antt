@@ -4,7 +4,7 @@ use Rattle.wb_names_theory.specs.declared.declaration.Declaration.{Declaration}
 use Rattle.wb_names_theory.specs.declared.refusal.NameRefusal.{NameRefusal}
 use Rattle.wb_names_theory.specs.declared.refusal.NameRefusal.TheVariants as r
 use Rattle.wb_names_theory.specs.Declarations.{Items}
-use Rattle.wb_names_theory.specs.Orphan.{FailsOrphan}
+use Rattle.wb_names_theory.specs.Orphan.{Bounds, FailsOrphan}
 use Rattle.wb_names_theory.specs.Unknown.{FailsUnknown}
 use Rattle.wb_names_theory.specs.Uses.{uses}
 use Rattle.wb_names_theory.specs.WrongKind.{FailsWrongKind, misplaced}
@@ -30,13 +30,13 @@ module _ (declared : List Declaration) (owner : ℕ) (items : Items) where
   UsesFail (r.NoMemory error) = Unit {0}
   UsesFail other = ⊥
 
-module _ (declared : List Declaration) (from owner : ℕ) (hosts_closed : List (List ℕ)) where
+module _ (declared : List Declaration) (from owner : ℕ) (bounds : Bounds) where
   -- an extension, whose own declarations begin at a place, says only what it may
   abbrev pub OwnerPasses : Type 0
-  OwnerPasses = owner ≢ 0 → All (MayDeclare declared from hosts_closed) (drop from declared)
+  OwnerPasses = owner ≢ 0 → All (MayDeclare declared from bounds) (drop from declared)
 
   -- the refusal tells that an extension says what it may not, unless memory ran out
   abbrev pub OwnerFails : NameRefusal → Type 0
-  OwnerFails (r.Orphan name) = (owner ≢ 0) × FailsOrphan (take from declared) (drop from declared) hosts_closed name
+  OwnerFails (r.Orphan name) = (owner ≢ 0) × FailsOrphan (take from declared) (drop from declared) bounds name
   OwnerFails (r.NoMemory error) = Unit {0}
   OwnerFails other = ⊥

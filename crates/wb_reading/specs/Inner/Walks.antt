@@ -8,6 +8,7 @@ use Rattle.wb_scan_theory.specs.Parts.{AreTablesOf}
 use Rattle.wb_scan.specs.Views.{LanguageParts}
 use Rattle.wb_scan.specs.declared.scanned.Scanned.{Scanned}
 use Rattle.wb_scan.specs.declared.scanned.Scanned.TheVariants.{Token, End, NoToken}
+use Rattle.wb_parser_states.specs.Stacks.{last_or}
 use Rattle.wb_parser_states.specs.Steps.{AreReady}
 use Rattle.wb_reading_theory.specs.Markers.{HasNoMarker}
 use Rattle.wb_reading.specs.declared.ahead.Ahead.{Ahead}
@@ -46,10 +47,11 @@ HasRead parts markers text states at = (read : List Leaf) × HasNoMarker markers
 
 -- what became of a leaf: it was read; or the answer is found
 abbrev pub IsRound : LanguageParts → List Bool → List ℕ → List ℕ → Round → Type 0
-IsRound parts markers text states (Goes after) = HasRead parts markers text states after
+IsRound parts markers text states (Goes after state) = HasRead parts markers text states after
 IsRound parts markers text states (Done found) = IsFirstMarker parts.language markers text found
 
--- where the text goes on, it does so further, and the states are still those of the tables
+-- where the text goes on, it does so further, at the state on top, and the states are still those of the tables
 abbrev pub StaysSound : LanguageParts → ℕ → ℕ → List ℕ → Round → Type 0
-StaysSound parts size at states (Goes after) = AreSound parts states × (at < after) × (after ≤ size)
+StaysSound parts size at states (Goes after state) =
+    AreSound parts states × (at < after) × (after ≤ size) × (state ≡ last_or 0 states)
 StaysSound parts size at states (Done found) = Unit {0}

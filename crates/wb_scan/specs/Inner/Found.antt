@@ -8,6 +8,9 @@ use Rattle.wb_scan_theory.specs.Tokens.{Next}
 use Rattle.wb_scan_theory.specs.Examined.{IsLooked, Scans}
 use Rattle.wb_scan.specs.declared.scanned.Scanned.{Scanned}
 use Rattle.wb_scan.specs.declared.scanned.Scanned.TheVariants.{Token, End, NoToken}
+use Rattle.wb_scan.specs.declared.won.Won.{Won}
+use Rattle.wb_scan.specs.declared.won.Won.TheVariants.{Nothing}
+use Rattle.wb_scan.specs.Landings.{IsOfForm}
 use Rattle.wb_scan.specs.Views.{LanguageParts}
 
 -- the form wins at each prefix of the state, with the text up to the end
@@ -15,6 +18,7 @@ pub record IsFound (parts : LanguageParts) (state : ℕ) (text : List ℕ) (at f
   pub some : at < end
   pub within : end ≤ length text
   pub below : form < length parts.language.forms + length parts.language.layout
+  pub terminal : (f : Form) → slice_get parts.language.forms form ≡ Some f → f.terminal < parts.language.grammar.terminals
   pub prefix : (f : Form) → slice_get parts.language.forms form ≡ Some f → (at + length f.prefix ≤ end) ×
       (slice_range text at end ≡ f.prefix ++ slice_range text (at + length f.prefix) end)
   pub wins : (prefix : List Symbol) → IsPrefixOf parts.language.grammar parts.tables state prefix →
@@ -25,6 +29,11 @@ abbrev pub IsNotFound : LanguageParts → ℕ → List ℕ → ℕ → Type 0
 IsNotFound parts state text at =
     (prefix : List Symbol) → IsPrefixOf parts.language.grammar parts.tables state prefix → (place : ℕ) (piece : List ℕ) →
     ¬ Wins parts.language prefix text at place piece
+
+-- with the text up to the end this wins at each prefix of the state: no form, or one of this sort
+abbrev pub IsSought : LanguageParts → ℕ → List ℕ → ℕ → ℕ → Won → Type 0
+IsSought parts state text at end Nothing = IsNotFound parts state text at
+IsSought parts state text at end won = (form : ℕ) × IsFound parts state text at form end × IsOfForm parts.language.forms form won
 
 -- the end is next where it is reached, and nothing elsewhere
 abbrev pub IsOver : ℕ → ℕ → Scanned → Type 0

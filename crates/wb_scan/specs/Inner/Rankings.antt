@@ -1,10 +1,11 @@
 -- What decides which form beats which, and what is known of a state by it.
-use Rattle.std.specs.Prelude.{◌≡◌, ℕ, IfSome, IsNone, List, Option, Some, length, slice_get}
+use Rattle.std.specs.Prelude.{◌≡◌, ℕ, List, Some, length, slice_get}
 use Rattle.wb_automata.specs.Automata.{AutomatonView}
 use Rattle.wb_scan_theory.specs.Languages.{LanguageView, forms_of}
 use Rattle.wb_scan.specs.declared.landing.Landing.{Landing}
 use Rattle.wb_scan.specs.declared.winner.Ranking.{Ranking}
-use Rattle.wb_scan.specs.Landings.{AreAccepted, IsChampion, IsMarked, ranked}
+use Rattle.wb_scan.specs.declared.won.Won.{Won}
+use Rattle.wb_scan.specs.Landings.{AreAccepted, IsMarked, IsWon, ranked}
 
 -- a language in which forms beat each other so
 abbrev pub ranked_by : Ranking → LanguageView
@@ -19,9 +20,8 @@ abbrev pub AreMarked : AutomatonView → List Landing → Type 0
 AreMarked automaton landings =
     (state : ℕ) (landing : Landing) → slice_get landings state ≡ Some landing → IsMarked automaton state landing
 
--- the form beats each other one that is accepted at the state, or none does
-pub record IsWonAt (l : LanguageView) (automaton : AutomatonView) (state : ℕ) (form : Option ℕ) : Type 0 where
+-- this wins of what is accepted at the state
+pub record IsWonAt (l : LanguageView) (automaton : AutomatonView) (state : ℕ) (won : Won) : Type 0 where
   pub accepted : List ℕ
   pub exact : AreAccepted automaton state accepted
-  pub some : IfSome form (IsChampion l accepted)
-  pub none : IsNone form → (place : ℕ) → ¬ IsChampion l accepted place
+  pub wins : IsWon l accepted won

@@ -1,37 +1,53 @@
-use Rattle.std.proofs.Common.{◌≡◌, ◌∙◌, [], ◌∷◌, ◌++◌, sym, ap, arith, ℕ, get_or, Some}
+use Rattle.std.proofs.Common.{◌≡◌, ◌∙◌, [], ◌∷◌, ◌++◌, sym, ap, arith, ℕ, get_or, length, Some}
 use Rattle.std.specs.Prelude.{slice_get}
 use Rattle.wb_automata.specs.Automata.{Path}
 use Rattle.wb_automata.specs.Inner.Found.{on}
 use Rattle.wb_automata.specs.Paths.{path_on}
-use Rattle.wb_automata.proofs.StateLemmas.{row_begin, row_step, row_end}
+use Rattle.wb_automata.proofs.StateLemmas.{row_begin, row_end}
+use Rattle.wb_automata.proofs.WayLemmas.{way_on}
 use Rattle.wb_automata.proofs.explore.row_of.Goals as goal
 
 pub ahead-requires-clause-places : goal.ahead-requires-clause-places
 ahead-requires-clause-places c = c.requires.before.found_ok.places
 
+pub read-requires-clause-places : goal.read-requires-clause-places
+read-requires-clause-places c = rw (c.as_slice-leaves.ensures, c.as_slice.ensures.value) c.in_ok-ahead.ensures.places
+
 pub set_of-set-requires : goal.set_of-set-requires
 set_of-set-requires c = omega (arith, c.requires.before.found_ok.len, c.requires.within)
 
-pub loop-byte-init : goal.loop-byte-init
-loop-byte-init c = rw (c.as_slice-leaves.ensures)
-    (row_begin c.args.tables.now c.args.bytes.now c.args.states.now c.args.moves.now c.args.i c.in_ok-ahead.ahead c.requires.before
-    c.requires.within c.in_ok-ahead.ensures.exact c.in_ok-ahead.ensures.places)
+pub loop-c-init : goal.loop-c-init
+loop-c-init c = record {
+  ahead = c.in_ok-ahead.ahead;
+  row = row_begin c.args.tables.now c.args.bytes.now c.args.states.now c.args.moves.now c.args.i c.in_ok-ahead.ahead
+      c.requires.before c.requires.within c.in_ok-ahead.ensures.exact c.in_ok-ahead.ensures.places;
+  ways = rw (c.as_slice-leaves.ensures, c.as_slice.ensures.value) at c.in_ok-read.ensures;
+}
 
-pub loop-byte-preserved : goal.loop-byte-preserved
-loop-byte-preserved c =
-    let h = c.loop-byte.invariant in
-    let b : ℕ = get_or c.args.bytes.now c.loop-byte.byte-index 0 in
+pub move_by-requires-clause-within : goal.move_by-requires-clause-within
+move_by-requires-clause-within c = omega (arith, c.loop-c.invariant.ways.listed.len)
+
+pub move_by-requires-clause-listed : goal.move_by-requires-clause-listed
+move_by-requires-clause-listed c = c.loop-c.invariant.ways.listed.below c.loop-c.c (omega arith)
+
+pub move_by-requires-clause-moves : goal.move_by-requires-clause-moves
+move_by-requires-clause-moves c = omega (arith, c.loop-c.invariant.row.are_moves.len)
+
+pub loop-c-preserved : goal.loop-c-preserved
+loop-c-preserved c =
+    let h = c.loop-c.invariant.row in
+    let b : ℕ = get_or c.args.bytes.now c.loop-c.c 0 in
     let first : slice_get c.args.states.now.paths c.args.i ≡ Some h.path = (let ready = c.requires.before.ready c.requires.within in
     ready.at_path ∙ sym (h.extends.paths c.args.i ready.path ready.at_path) ∙ h.at_path) in
     let set : c.set_of-set.result ≡ h.path.set = c.set_of-set.ensures h.path first in
-    let w : Path = path_on (slice_get c.loop-byte.states.paths c.args.i) c.set_of-set.result b in
+    let w : Path = path_on (slice_get c.loop-c.states.paths c.args.i) c.set_of-set.result b in
     let e : w ≡ on h.path b = ap (λ z. path_on z c.set_of-set.result b) h.at_path ∙ ap
     (λ z. record { set = z; text = h.path.text ++ b ∷ [] }) set in
-    rw (c.in_ok-push.ensures)
-    (row_step c.args.tables.now c.args.bytes.now c.args.states.now c.loop-byte.states c.move_by.new.self c.args.i
-    c.as_slice-leaves.result.now c.loop-byte.moves c.loop-byte.byte-index c.in_ok-next.next w c.requires.table c.requires.rising
-    (omega arith) h e (rw c.as_slice.ensures.value at c.in_ok-next.ensures))
+    rw (c.move_by.ensures.chains, c.move_by.ensures.ends)
+    (way_on c.args.tables.now c.args.bytes.now c.args.states.now c.loop-c.states c.move_by.new.states c.args.i c.loop-c.c
+    c.loop-c.room.ways.chains c.loop-c.room.ways.ends.items c.loop-c.moves c.move_by.new.moves w
+    c.requires.table c.requires.rising (omega arith) c.loop-c.invariant e c.in_ok-move_by.ensures.moved)
 
 pub returns : goal.returns
-returns c = row_end c.args.tables.now c.args.bytes.now c.args.states.now c.loop-byte.states c.args.i c.as_slice-leaves.result.now
-    c.loop-byte.moves c.loop-byte.byte-index (λ k less. omega (arith, c.type_inv.bytes k)) (omega arith) c.loop-byte.invariant
+returns c = row_end c.args.tables.now c.args.bytes.now c.args.states.now c.loop-c.states c.args.i c.loop-c.invariant.ahead
+    c.loop-c.moves c.loop-c.c (λ k less. omega (arith, c.type_inv.bytes k)) (omega arith) c.loop-c.invariant.row

@@ -1,9 +1,9 @@
 use Rattle.std.proofs.lemmas.Result.{IfErr-weaker, IfOk-weaker}
 use Rattle.std.specs.Prelude.{IfSome}
 use Rattle.wb_base.specs.Grammar.{GrammarView}
-use Rattle.wb_determinism.specs.Extensions.{IsDeterministicExtension}
-use Rattle.wb_determinism.specs.Refusals.{IsExtensionRefusal}
-use Rattle.wb_determinism_host.specs.declared.refusal.DeterminismRefusal.{DeterminismRefusal}
+use Rattle.wb_determinism_beside.specs.DeterministicExtensions.{IsDeterministicExtension}
+use Rattle.wb_determinism_beside.specs.ExtensionDeterminism.{IsExtensionRefusal}
+use Rattle.wb_certify_host.specs.determinism_refusal.DeterminismRefusal.{DeterminismRefusal}
 use Rattle.wb_lemmas.proofs.Refusals.{handed_on}
 use Rattle.wb_certify.specs.Tests.{IsMarkReason}
 use Rattle.wb_certify.specs.Inner.Tests.{AreClearBeside, IsReasonBeside}

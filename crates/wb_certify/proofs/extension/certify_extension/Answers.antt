@@ -1,6 +1,6 @@
 use Rattle.std.proofs.Common.{◌≡◌, subst, sym}
 use Rattle.std.proofs.lemmas.Result.{IfOk-weaker}
-use Rattle.wb_names.specs.Resolving.{ResolvesExtension}
+use Rattle.wb_certify_host.specs.Resolving.{ResolvesExtension}
 use Rattle.wb_syntax_resolved.specs.declared.resolved.ResolvedParts.{ResolvedParts}
 use Rattle.wb_certify.specs.Kept.{ExtensionView}
 use Rattle.wb_certify.proofs.ExtensionLemmas.{certified_extension, extension_refused, of_written}

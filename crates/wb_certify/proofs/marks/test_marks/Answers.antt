@@ -1,5 +1,5 @@
 use Rattle.std.proofs.lemmas.Result.{IfOk-weaker}
-use Rattle.wb_determinism_host.specs.Hosts.{AreAcyclic}
+use Rattle.wb_certify_host.specs.DeterministicHosts.{AreAcyclic}
 use Rattle.wb_certify.specs.Tests.{KeepMarkers}
 use Rattle.wb_certify.proofs.marks.test_marks.Goals as goal
 

@@ -1,10 +1,9 @@
-use Rattle.std.proofs.Common.{◌≡◌, ◌<◌, ◌≤◌, ℕ, length}
-use Rattle.std.specs.Prelude.{◌↔◌}
-use Rattle.wb_termset.specs.Sets.{IsMember}
+use Rattle.std.proofs.Common.{◌≡◌, length}
+use Rattle.wb_compose_language.proofs.SetLemmas.{HasLayoutBefore}
 use Rattle.wb_compose_language.proofs.form_sets.add_layout.Given as goal
 
-abbrev pub invariant-places : goal.invariant-places
-invariant-places l = record {
+abbrev pub invariant-layout : goal.invariant-layout
+invariant-layout l = record {
   len : length l.set ≡ length l.initial.set;
-  each : (p : ℕ) → IsMember l.set p ↔ ((l.first ≤ p) × (p < l.place));
+  each : HasLayoutBefore l.items (length l.considered.forms.now) l.considered.spans.now l.place l.set;
 }

@@ -1,11 +1,18 @@
-use Rattle.std.proofs.Common.{◌+◌, Bool, List, subst, sym}
-use Rattle.wb_compose_language.specs.Inner.Sets.{AreFormSets, IsFormSet}
+use Rattle.std.proofs.Common.{◌+◌, ℕ, Bool, List, subst, sym}
+use Rattle.std.specs.Prelude.{◌↔◌}
+use Rattle.wb_termset.specs.Sets.{IsMember}
+use Rattle.wb_compose_language.specs.Inner.Sets.{AreFormSets, IsFormBy}
 use Rattle.wb_compose_language.proofs.SetLemmas.{sets_more}
 use Rattle.wb_compose_language.proofs.form_sets.form_sets.Goals as goal
 
 pub states-preserved : goal.states-preserved
 states-preserved c =
-    subst (λ (sets : List (List Bool)). AreFormSets c.args.tables.now c.args.forms.now c.args.count (c.states.state + 1) sets)
-    (sym c.in_ok-push.ensures.ok) (sets_more c.args.tables.now c.args.forms.now c.args.count c.states.state c.states.sets.items
-    c.in_ok-set.set c.states.invariant
-    (subst (λ valid. IsFormSet valid c.args.forms.now c.args.count c.in_ok-set.set) c.valid.ensures c.in_ok-set.ensures))
+    let parts = c.args.parts.now in
+    let forms = c.args.considered.now.forms.now in
+    let spans = c.args.considered.now.spans.now in
+    let items = c.kernel-items.result.now in
+    let s = c.states.state in
+    subst (λ (sets : List (List Bool)). AreFormSets parts.kernels parts.tables forms spans (s + 1) sets) (sym c.in_ok-push.ensures.ok)
+    (sets_more parts.kernels parts.tables forms spans s c.states.sets.items c.in_ok-set.set items c.states.invariant
+    c.kernel-items.ensures.exact
+    (subst (λ valid. (p : ℕ) → IsMember c.in_ok-set.set p ↔ IsFormBy valid items forms spans p) c.valid.ensures c.in_ok-set.ensures))

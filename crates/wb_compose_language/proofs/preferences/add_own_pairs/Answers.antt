@@ -8,5 +8,5 @@ nothing = record { first = 0; second = 0 }
 
 pub preferences-preserved : goal.preferences-preserved
 preferences-preserved c =
-    own_more c.args.block c.args.preferences.now c.preferences.preference-index nothing c.args.pairs.now.items c.preferences.pairs.items
+    own_more c.args.blocks c.args.preferences.now c.preferences.preference-index nothing c.args.pairs.now.items c.preferences.pairs.items
     c.add_own_pair.new.pairs.items (omega arith) c.preferences.invariant c.in_ok-add_own_pair.ensures

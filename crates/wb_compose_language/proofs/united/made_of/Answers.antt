@@ -4,11 +4,11 @@ use Rattle.wb_compose_language.proofs.PartLemmas.{is_made}
 use Rattle.wb_compose_language.proofs.UnionLemmas.{deterministic}
 use Rattle.wb_compose_language.proofs.united.made_of.Goals as goal
 
-pub tables_of-requires : goal.tables_of-requires
-tables_of-requires c = subst IsDeterministic (sym c.requires.grammar) (deterministic c.args.lent.now c.requires.unitable)
+pub parts_in-requires : goal.parts_in-requires
+parts_in-requires c = subst IsDeterministic (sym c.requires.grammar) (deterministic c.args.lent.now c.requires.unitable)
 
 pub returns : goal.returns
 returns c =
-    is_made c.args.lent.now c.requires.unitable c.args.grammar.now
-    (record { tables = c.in_ok-tables.tables; rows = c.in_ok-written.written.rows; scanned = c.in_ok-written.written.scanned })
-    c.requires.grammar c.in_ok-tables.ensures c.in_ok-written.ensures
+    is_made c.args.lent.now c.requires.unitable c.args.grammar.now c.in_ok-parts.parts
+    (record { rows = c.in_ok-written.written.rows; scanned = c.in_ok-written.written.scanned }) c.requires.grammar c.in_ok-parts.ensures
+    c.in_ok-written.ensures

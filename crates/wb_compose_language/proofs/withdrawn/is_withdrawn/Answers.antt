@@ -4,6 +4,7 @@ use Rattle.std.proofs.lemmas.Option.{slice_get_within}
 use Rattle.std.proofs.lemmas.Result.{IfOk-weaker}
 use Rattle.wb_lemmas.proofs.Places.{at_default}
 use Rattle.wb_compose_language.specs.Inner.FormsMade.{IsWithdrawnIn}
+use Rattle.wb_compose_language.specs.Inner.Layouts.{hosts_in}
 use Rattle.wb_compose_language.specs.Inner.Sharing.{SharesWithOther}
 use Rattle.wb_compose_language.proofs.KnownLemmas.{at_base, place_at}
 use Rattle.wb_compose_language.proofs.OpenedLemmas.{kind_is, own_listed, row_within, within, withdrawn_terminal}
@@ -28,7 +29,7 @@ overflow_add-asked c =
     let base_at : slice_get owns.bases.items k ≡ Some base = at_base owns.bases.items k base
     (omega (arith, are.len, slice_get_within lent.extensions.now k own.x own.listed)) c.index-base.ensures in
     let there = place_at lent.grammar.now.terminals x.grammar.now.terminals t base x owns.patterns.items c.row_of.result.now
-    (are.each k x base at base_at) own.own (within lent ok c.args.terminal own x c.row_of.result.now at c.row_of.ensures) c.row_of.ensures in
+    (are.each k x base at base_at).terminals own.own (within lent ok c.args.terminal own x c.row_of.result.now at c.row_of.ensures) c.row_of.ensures in
     let small = owns.patterns.small in
     let fits : base + (t - c.terminals.result) < 2 ^ 64 = omega
     (arith, c.terminals.ensures, slice_get_within owns.patterns.items (base + (t - lent.grammar.now.terminals)) c.row_of.result.now.pattern there) in
@@ -49,7 +50,7 @@ shares_with_other-requires-clause-asked c =
     let base_at : slice_get owns.bases.items k ≡ Some base = at_base owns.bases.items k base
     (omega (arith, are.len, slice_get_within lent.extensions.now k own.x own.listed)) c.index-base.ensures in
     let there = place_at lent.grammar.now.terminals x.grammar.now.terminals t base x owns.patterns.items c.row_of.result.now
-    (are.each k x base at base_at) own.own (within lent ok c.args.terminal own x c.row_of.result.now at c.row_of.ensures) c.row_of.ensures in
+    (are.each k x base at base_at).terminals own.own (within lent ok c.args.terminal own x c.row_of.result.now at c.row_of.ensures) c.row_of.ensures in
     record {
       known = c.requires.opened.opened_are.known;
       at = subst (λ z. slice_get owns.patterns.items (base + (t - z)) ≡ Some c.row_of.result.now.pattern) (sym c.terminals.ensures) there;
@@ -67,7 +68,7 @@ returns c =
     let row_at = c.row_of.ensures in
     let same = withdrawn_terminal lent ok c.args.terminal own x row at row_at
     (kind_is lent ok c.args.terminal own x row at row_at c.requires.terminal.marking) in
-    let f : (w : Bool) → (IsTrue w ↔ SharesWithOther lent.grammar.now.terminals lent.extensions.now k row.pattern) →
+    let f : (w : Bool) → (IsTrue w ↔ SharesWithOther lent.grammar.now.terminals (hosts_in lent) lent.extensions.now k row.pattern) →
     (IsTrue w ↔ IsWithdrawnIn lent (c.args.terminal.number + c.args.terminal.before)) =
     λ w is. (λ e. same.0 (is.0 e), λ out. is.1 (same.1 out)) in
     IfOk-weaker c.shares_with_other.result _ _ f c.shares_with_other.ensures

@@ -9,11 +9,11 @@ use Rattle.wb_compose_texts.proofs.AddedLemmas.{block_next, blocks_begun}
 use Rattle.wb_compose_texts.proofs.expressions.add_extensions.Goals as goal
 
 pub extensions-init : goal.extensions-init
-extensions-init c = blocks_begun c.args.host.now c.args.extensions.now c.args.expressions.now.items
+extensions-init c = blocks_begun (added_rows c.args.host.now) c.args.extensions.now c.args.expressions.now.items
 
 pub extensions-preserved : goal.extensions-preserved
 extensions-preserved c =
-    block_next c.args.host.now c.args.extensions.now c.extensions.extension-index c.extension-item.result c.args.expressions.now.items
+    block_next (added_rows c.args.host.now) c.args.extensions.now c.extensions.extension-index c.extension-item.result c.args.expressions.now.items
     c.extensions.expressions.items c.add_extension.new.expressions.items c.extensions-test.true c.extension-item.is c.extensions.invariant
     c.in_ok-add_extension.ensures
 

@@ -1,5 +1,4 @@
 use Rattle.std.proofs.lemmas.Option.{MatchOption-at_some, MatchOption-at_none}
-use Rattle.wb_grammar_theory.specs.declared.item.Item.{Item}
 use Rattle.wb_items.specs.Kernels.{prefix_of}
 use Rattle.wb_determinism.specs.Inner.Contexts.{both_of, host_of}
 use Rattle.wb_determinism.specs.Inner.Moved.{AreMoved, HasForeign}

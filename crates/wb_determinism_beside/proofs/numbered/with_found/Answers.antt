@@ -1,13 +1,12 @@
 use Rattle.std.proofs.Common.{◌≡◌, ◌∙◌, Bool, ap, subst, sym}
 use Rattle.std.specs.Prelude.{IsTrue}
 use Rattle.std.proofs.lemmas.Result.{IfOk-weaker}
-use Rattle.wb_determinism.specs.Inner.Extended.{lexicon_for}
 use Rattle.wb_determinism_contexts.specs.Sets.{FitsGrammar}
 use Rattle.wb_determinism_host.specs.Lexicons.{lexicon_of}
 use Rattle.wb_syntax_resolved.specs.declared.resolved.ResolvedParts.{ResolvedParts}
 use Rattle.wb_determinism_beside.specs.Inner.Asking.{Answer, asked_in}
-use Rattle.wb_determinism_beside.specs.Inner.Found.{IsClearAtNew, both_in}
-use Rattle.wb_determinism_beside.proofs.AskedLemmas.{answer_is, lexicon_beside}
+use Rattle.wb_determinism_beside.specs.Inner.Found.{IsClearAtNew, both_in, lexicon_for}
+use Rattle.wb_determinism_beside.proofs.AskedLemmas.{answer_is, scanned_fits}
 use Rattle.wb_determinism_beside.proofs.numbered.with_found.Goals as goal
 
 pub is_clear-requires-clause-fits : goal.is_clear-requires-clause-fits
@@ -17,7 +16,7 @@ is_clear-requires-clause-fits c =
     ap (λ (p : ResolvedParts). lexicon_for p c.terminals.result) c.parts-parts.ensures.parts
     ∙ ap (lexicon_for (asked_in x).resolved.now) c.terminals.ensures in
     subst (FitsGrammar (both_in c.args.found.now).terminals) (sym same)
-    (lexicon_beside x c.requires.fit c.args.found.now.beside.now c.requires.found.beside)
+    (scanned_fits x c.requires.fit c.args.found.now.beside.now c.requires.found.beside)
 
 pub returns : goal.returns
 returns c =

@@ -16,6 +16,7 @@ kernels-preserved c =
     get_or_default valid c.kernels.state [] c.index-valid-state.result within ∙ sym c.index-valid-state.is in
     subst (λ (sets : List (List Bool)). AreConsideredSets kernels lexicon (c.kernels.state + 1) sets) (sym c.in_ok-push.ensures.ok)
     (sets_more kernels lexicon c.kernels.state c.kernels.sets.items c.in_ok-set.set c.kernels.invariant
-    (considered_is kernels lexicon c.kernels.state c.index-valid-state.result c.in_ok-set.set c.requires.lexicon
+    (considered_is kernels lexicon c.kernels.state c.index-valid-state.result c.in_ok-set.set c.kernel.result.now
+    c.requires.lexicon
     (subst (IsValidSet kernels c.kernels.state) is (c.requires.valid.each c.kernels.state (omega (arith, c.requires.valid.len, within))))
-    c.in_ok-set.ensures.len c.in_ok-set.ensures.each))
+    c.kernel.ensures.exact c.in_ok-set.ensures.len c.in_ok-set.ensures.each))

@@ -6,7 +6,7 @@ use Rattle.wb_determinism_host.proofs.judge.test_lexicon.Goals as goal
 pub clash_at-requires-clause-lexicon : goal.clash_at-requires-clause-lexicon
 clash_at-requires-clause-lexicon c =
     let x = c.args.host.now in
-    rw c.requires.lexicon (rw (of_with_holes x c.requires.host) (lexicon_fits x.resolved.now x.grammar.now c.requires.host.has))
+    rw c.requires.lexicon (rw (of_with_holes x c.requires.host) (lexicon_fits x.resolved.now x.grammar.now x.first c.requires.host.has))
 
 pub returns-in-Some-clause-refused : goal.returns-in-Some-clause-refused
 returns-in-Some-clause-refused c =

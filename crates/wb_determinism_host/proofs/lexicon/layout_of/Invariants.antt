@@ -1,8 +1,7 @@
 use Rattle.std.proofs.Common.{◌≡◌}
-use Rattle.wb_syntax_resolved.specs.declared.terminal.Terminal.{Terminal}
 use Rattle.wb_determinism_host.specs.Inner.Flags.{filled}
-use Rattle.wb_determinism_host.specs.Lexicons.{is_layout}
+use Rattle.wb_determinism_host.specs.Lexicons.{is_layout_of}
 use Rattle.wb_determinism_host.proofs.lexicon.layout_of.Given as goal
 
 abbrev pub invariant-terminals : goal.invariant-terminals
-invariant-terminals l = l.layout ≡ filled (λ (t : Terminal). is_layout t.kind) l.number l.terminals
+invariant-terminals l = l.layout ≡ filled (is_layout_of l.whose) l.number l.terminals

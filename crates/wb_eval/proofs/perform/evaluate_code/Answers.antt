@@ -1,9 +1,8 @@
-use Rattle.std.proofs.Common.{rules, ◌<◌, ◌+◌, ◌≤◌, ◌^◌, [], List, drop, length, refl, subst}
+use Rattle.std.proofs.Common.{rules, ◌<◌, ◌+◌, ◌≤◌, ◌^◌, List, drop, length, refl, subst}
 use Rattle.wb_operations.specs.Operations.{Operations}
-use Rattle.wb_values.specs.declared.value.Value.{Value}
 use Rattle.wb_eval_rules.specs.Code.{Instruction, instruction_of, instructions, way_of}
 use Rattle.wb_eval.specs.Inner.Works.{IsEvaluating, HasDone}
-use Rattle.wb_eval.proofs.FollowLemmas.{at_end, ends}
+use Rattle.wb_eval.proofs.FollowLemmas.{ends_on_top}
 use Rattle.wb_eval.proofs.PerformLemmas.{code_at, code_past, followed, less_left, stopped, truth_for}
 use Rattle.wb_eval.proofs.SteadyLemmas.{extended_twice, same_machine, same_store, same_twice}
 use Rattle.wb_eval.proofs.perform.evaluate_code.Goals as goal
@@ -121,19 +120,6 @@ ops-smaller g c =
     (length code)
     c.follow-at.ensures within short
 
-pub take_last-requires : goal.take_last-requires
-take_last-requires g c =
-    let a = c.args.context.now.definitions.attributes.now in
-    let operations : Operations = record { signatures = c.args.context.now.operations.now.signatures; meaning = g.M.Meaning.meaning } in
-    let x = c.args.expression.now in
-    let m = c.ops.evaluation in
-    let past : length x.code.now ≤ c.ops.at = search rules in
-    let some : 0 < length m.values.items =
-    at_end a operations c.ops.store m.machine x.site m.values.items
-    (subst (λ (l : List Instruction). IsEvaluating a operations c.ops.store m.machine x.site l m.values.items)
-    (code_past x.code.now c.ops.at past) c.ops.invariant.evaluating) in
-    search rules
-
 pub returns-clause-ran : goal.returns-clause-ran
 returns-clause-ran g c =
     let a = c.args.context.now.definitions.attributes.now in
@@ -144,8 +130,7 @@ returns-clause-ran g c =
     let ended = subst (λ (l : List Instruction). IsEvaluating a operations c.ops.store m.machine x.site l m.values.items)
     (code_past x.code.now c.ops.at past) c.ops.invariant.evaluating in (
       c.ops.invariant.same,
-      ends a operations c.ops.store m.machine x.site c.take_last.new.self.items c.take_last.result
-          (subst (λ (vs : List Value). IsEvaluating a operations c.ops.store m.machine x.site [] vs) c.take_last.ensures.items ended),
+      ends_on_top a operations c.ops.store m.machine x.site m.values.items ended,
     )
 
 pub returns-clause-store : goal.returns-clause-store

@@ -1,6 +1,6 @@
 use Rattle.std.proofs.Common.{subst, IfSome}
 use Rattle.wb_explain_attributes.specs.Values.{IsValueOf}
-use Rattle.std.proofs.Common.{inl, inr, refl}
+use Rattle.std.proofs.Common.{inr}
 use Rattle.std.proofs.lemmas.Result.{on_ok_weaker}
 use Rattle.wb_explain_attributes.proofs.flow.push_flow.Goals as goal
 

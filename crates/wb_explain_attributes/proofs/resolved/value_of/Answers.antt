@@ -1,4 +1,4 @@
-use Rattle.std.proofs.Common.{ap, sym, subst}
+use Rattle.std.proofs.Common.{sym, subst}
 use Rattle.std.specs.Option.{option_copied}
 use Rattle.wb_explain_attributes.specs.Values.{IsHostValue, IsValueBeside, IsValueOf, IsValueWith}
 use Rattle.wb_explain_attributes.proofs.ValueLemmas.{if_some}

@@ -2,7 +2,7 @@
 use Rattle.std.proofs.Common.{◌≡◌, [], IfOk, subst, ap, ◌∙◌}
 use Rattle.wb_syntax_resolved.specs.declared.attribution.AttributionParts.{AttributionParts}
 use Rattle.wb_syntax_resolved.specs.declared.resolved.ResolvedParts.{ResolvedParts}
-use Rattle.wb_certify_shown.specs.Names.{nonterminal_name, nonterminal_shown}
+use Rattle.wb_certify_files.specs.Names.{nonterminal_name, nonterminal_shown}
 use Rattle.wb_explain_beside.proofs.ListLemmas.{name_at, no_name_past}
 use Rattle.wb_explain_beside.proofs.names.nonterminal_name.Goals as goal
 

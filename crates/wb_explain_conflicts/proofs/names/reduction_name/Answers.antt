@@ -1,8 +1,8 @@
 -- The name at this number is one of the grammar, then one of a hole, and then none.
 use Rattle.std.proofs.Common.{◌≡◌, ◌<◌, ◌≤◌, ◌-◌, IfOk, Some, None, slice_get, subst, ap, ◌∙◌}
 use Rattle.wb_syntax_resolved.specs.declared.resolved.ResolvedParts.{ResolvedParts}
-use Rattle.wb_certify_shown.specs.Names.{productions_in}
-use Rattle.wb_certify_shown.proofs.HoleLemmas.{reduction_before, reduction_hole, reduction_none}
+use Rattle.wb_certify_files.specs.Names.{productions_in}
+use Rattle.wb_certify_files.proofs.HoleLemmas.{reduction_before, reduction_hole, reduction_none}
 use Rattle.wb_explain_conflicts.proofs.ListLemmas.{at_place, past_end}
 use Rattle.wb_explain_conflicts.proofs.names.reduction_name.Goals as goal
 

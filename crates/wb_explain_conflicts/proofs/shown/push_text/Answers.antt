@@ -1,5 +1,5 @@
 use Rattle.std.proofs.Common.{rules, get_or}
-use Rattle.wb_certify_shown.specs.Names.{lookahead_shown}
+use Rattle.wb_certify_files.specs.Names.{lookahead_shown}
 use Rattle.wb_explain_conflicts.proofs.WordLemmas.{all_words, no_words, one_word}
 use Rattle.wb_explain_conflicts.proofs.shown.push_text.Goals as goal
 

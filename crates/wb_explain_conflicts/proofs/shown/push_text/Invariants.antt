@@ -1,5 +1,5 @@
 use Rattle.std.proofs.Common.{map, take}
-use Rattle.wb_certify_shown.specs.Names.{lookahead_shown}
+use Rattle.wb_certify_files.specs.Names.{lookahead_shown}
 use Rattle.wb_explain_conflicts.specs.Words.{HasWords}
 use Rattle.wb_explain_conflicts.proofs.shown.push_text.Given as goal
 

@@ -1,5 +1,5 @@
 -- The next child is listed, and opened where it is a node.
-use Rattle.std.proofs.Common.{◌≡◌, ◌∷◌, ◌∙◌, ap}
+use Rattle.std.proofs.Common.{◌∷◌, ◌∙◌, ap}
 use Rattle.wb_explain_drawing.proofs.ListingLemmas.{child_of, leaf_leads, node_leads}
 use Rattle.wb_explain_drawing.proofs.walk.below.Goals as goal
 

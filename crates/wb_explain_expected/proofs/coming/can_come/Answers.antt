@@ -1,5 +1,5 @@
 -- What is read is the bytes with the token after them.
-use Rattle.std.proofs.Common.{◌≡◌, ◌+◌, length, rules}
+use Rattle.std.proofs.Common.{◌≡◌, rules}
 use Rattle.wb_explain_expected.specs.Expected.{with_token}
 use Rattle.wb_explain_expected.proofs.PassLemmas.{comes}
 use Rattle.wb_explain_expected.proofs.coming.can_come.Goals as goal

@@ -1,5 +1,5 @@
 use Rattle.wb_explain_flows.specs.Steps.{IsStepText}
-use Rattle.wb_explain_flows.proofs.TextLemmas.{lists_all}
+use Rattle.wb_explain_flows_lists.proofs.TextLemmas.{lists_all}
 use Rattle.wb_explain_flows.proofs.steps.push_list.Goals as goal
 
 pub returns : goal.returns

@@ -1,6 +1,5 @@
-use Rattle.std.proofs.Common.{rules, get_or, take}
 use Rattle.wb_explain_flows.specs.Steps.{IsStepText}
-use Rattle.wb_explain_flows.proofs.TextLemmas.{all_texts, no_texts, one_text}
+use Rattle.wb_explain_flows_lists.proofs.TextLemmas.{all_texts, no_texts, one_text}
 use Rattle.wb_explain_flows.proofs.steps.push_steps.Goals as goal
 
 pub steps-init : goal.steps-init

@@ -1,5 +1,5 @@
 use Rattle.std.proofs.Common.{take}
-use Rattle.wb_explain_flows.specs.Lists.{HasTexts}
+use Rattle.wb_explain_flows_lists.specs.Lists.{HasTexts}
 use Rattle.wb_explain_flows.specs.Steps.{IsStepText}
 use Rattle.wb_explain_flows.proofs.steps.push_steps.Given as goal
 

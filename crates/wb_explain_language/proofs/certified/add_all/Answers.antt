@@ -1,6 +1,6 @@
 -- One extension more is added.
 use Rattle.std.proofs.Common.{◌≡◌, ℕ, List, true, rules, subst, sym}
-use Rattle.wb_certify_files.specs.Hosts.{CertifiedView}
+use Rattle.wb_compose_files.specs.Hosts.{CertifiedView}
 use Rattle.wb_compose_files.specs.Certified.{Extends}
 use Rattle.wb_explain_language.proofs.AddedLemmas.{all_added, none_added, one_added}
 use Rattle.wb_explain_language.proofs.certified.add_all.Goals as goal

@@ -1,6 +1,6 @@
 -- The first contents are the host, and the others its extensions.
 use Rattle.std.proofs.Common.{◌≡◌, ◌-◌, ◌∷◌, ℕ, List, length, take, drop, arith, subst}
-use Rattle.wb_certify_files.specs.HostContents.{IsHostText}
+use Rattle.wb_compose_files.specs.HostContents.{IsHostText}
 use Rattle.wb_explain_language.specs.Inner.Added.{HasAdded}
 use Rattle.wb_explain_language.specs.Languages.{AreCertifiedIn}
 use Rattle.wb_explain_language.proofs.AddedLemmas.{certified_in, on_some, one_and_more}

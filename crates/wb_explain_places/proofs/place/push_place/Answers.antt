@@ -1,4 +1,4 @@
-use Rattle.std.proofs.Common.{◌≡◌, ◌+◌, ap, ℕ}
+use Rattle.std.proofs.Common.{◌+◌, ap, ℕ}
 use Rattle.wb_explain_places.proofs.PlaceLemmas.{shows}
 use Rattle.wb_explain_places.proofs.place.push_place.Goals as goal
 

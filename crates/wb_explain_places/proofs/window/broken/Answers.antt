@@ -1,5 +1,4 @@
 use Rattle.std.proofs.Common.{arith, min}
-use Rattle.std.proofs.lemmas.Grind.{common_steps}
 use Rattle.wb_explain_places.proofs.WindowLemmas.{run_within}
 use Rattle.wb_explain_places.proofs.window.broken.Goals as goal
 

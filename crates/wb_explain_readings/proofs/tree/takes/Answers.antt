@@ -1,6 +1,5 @@
-use Rattle.std.proofs.Common.{◌≡◌, ◌∷◌, true, Some, None, IfOk, sym, subst}
-use Rattle.wb_base.specs.declared.symbol.Symbol.TheVariants.{Terminal}
-use Rattle.wb_explain_readings.specs.declared.piece.Piece.TheVariants.{Leaf, Close, Open}
+use Rattle.std.proofs.Common.{◌≡◌, ◌∷◌, true, IfOk, sym, subst}
+use Rattle.wb_explain_readings.specs.declared.piece.Piece.TheVariants.{Leaf, Close}
 use Rattle.wb_explain_readings.specs.Inner.Frames.{Holds}
 use Rattle.wb_explain_readings.proofs.FrameLemmas.{holds_close, holds_leaf}
 use Rattle.wb_explain_readings.proofs.NodeLemmas.{node_taken}

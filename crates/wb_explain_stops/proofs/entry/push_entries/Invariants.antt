@@ -1,5 +1,5 @@
 use Rattle.std.proofs.Common.{take}
-use Rattle.wb_explain_stops.specs.Said.{HasEntries}
+use Rattle.wb_explain_stops.specs.Inner.Entries.{HasEntries}
 use Rattle.wb_explain_stops.proofs.entry.push_entries.Given as goal
 
 abbrev pub invariant-terminals : goal.invariant-terminals

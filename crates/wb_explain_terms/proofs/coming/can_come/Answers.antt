@@ -1,5 +1,5 @@
 -- What is read is the bytes with the token after them.
-use Rattle.std.proofs.Common.{◌≡◌, ◌+◌, length, rules}
+use Rattle.std.proofs.Common.{◌≡◌, rules}
 use Rattle.wb_explain_terms.specs.Expected.{with_token}
 use Rattle.wb_explain_terms.proofs.PassLemmas.{comes}
 use Rattle.wb_explain_terms.proofs.coming.can_come.Goals as goal

@@ -1,5 +1,5 @@
 -- The element of a label.
-use Rattle.wb_explain_trees.specs.Labels.{view_of}
+use Rattle.wb_explain_trees.specs.Inner.Sessions.{view_of}
 use Rattle.wb_explain_trees.proofs.PictureLemmas.{has_element}
 use Rattle.wb_explain_trees.proofs.element.push_element.Goals as goal
 

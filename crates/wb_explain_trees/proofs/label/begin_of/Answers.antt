@@ -1,5 +1,5 @@
 -- Where a leaf begins, or the text ends.
-use Rattle.std.proofs.Common.{◌≡◌, ◌∙◌, ap, length}
+use Rattle.std.proofs.Common.{◌∙◌, ap, length}
 use Rattle.wb_explain_trees.proofs.LabelLemmas.{begins_nowhere, begins_there}
 use Rattle.wb_explain_trees.proofs.label.begin_of.Goals as goal
 

@@ -1,7 +1,7 @@
 -- The name, and where it begins.
-use Rattle.std.proofs.Common.{◌≡◌, ◌≤◌, arith, length, subst, sym}
+use Rattle.std.proofs.Common.{◌≤◌, arith, length, subst, sym}
 use Rattle.wb_explain_drawing.specs.Reached.{IsReached}
-use Rattle.wb_explain_trees.specs.Labels.{view_of}
+use Rattle.wb_explain_trees.specs.Inner.Sessions.{view_of}
 use Rattle.wb_explain_trees.proofs.LabelLemmas.{is_label}
 use Rattle.wb_explain_trees.proofs.label.label_of.Goals as goal
 

@@ -1,6 +1,6 @@
 -- The tree that is there is that of the text.
 use Rattle.std.proofs.Common.{subst, sym}
-use Rattle.wb_parser.specs.Parses.{IsParsed}
+use Rattle.wb_session.specs.Parses.{IsParsed}
 use Rattle.wb_explain_trees.proofs.label.root_of.Goals as goal
 
 pub returns-in-Tree : goal.returns-in-Tree

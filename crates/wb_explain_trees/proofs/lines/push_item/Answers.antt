@@ -1,5 +1,5 @@
 -- The line of a label.
-use Rattle.wb_explain_trees.specs.Labels.{view_of}
+use Rattle.wb_explain_trees.specs.Inner.Sessions.{view_of}
 use Rattle.wb_explain_trees.proofs.LineLemmas.{has_line}
 use Rattle.wb_explain_trees.proofs.lines.push_item.Goals as goal
 

@@ -2,8 +2,8 @@
 use Rattle.std.proofs.Common.{◌≡◌, rules, subst, sym}
 use Rattle.wb_explain_drawing.proofs.PushedLemmas.{no_parts, none_told, one_part, some_told}
 use Rattle.wb_explain_drawing.specs.Reached.{IsReached}
-use Rattle.wb_explain_trees.specs.Labels.{view_of}
-use Rattle.wb_explain_trees.specs.Lines.{HasLine, HasLines, IsLine}
+use Rattle.wb_explain_trees.specs.Inner.Sessions.{HasLine, view_of}
+use Rattle.wb_explain_trees.specs.Lines.{HasLines, IsLine}
 use Rattle.wb_explain_trees.proofs.LineLemmas.{some_lines}
 use Rattle.wb_explain_trees.proofs.lines.push_lines.Goals as goal
 

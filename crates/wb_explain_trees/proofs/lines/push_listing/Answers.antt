@@ -1,5 +1,5 @@
 -- A heading, the lines, and what comes after them.
-use Rattle.wb_explain_trees.specs.Labels.{view_of}
+use Rattle.wb_explain_trees.specs.Inner.Sessions.{view_of}
 use Rattle.wb_explain_trees.proofs.LineLemmas.{lists_items}
 use Rattle.wb_explain_trees.proofs.lines.push_listing.Goals as goal
 

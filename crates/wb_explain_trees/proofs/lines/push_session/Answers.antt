@@ -3,7 +3,6 @@ use Rattle.std.proofs.Common.{◌<◌, length, subst, sym}
 use Rattle.wb_values.specs.ValuesIn.{tree_in}
 use Rattle.wb_explain_drawing.specs.Listings.{IsListing}
 use Rattle.wb_explain_drawing.proofs.PushedLemmas.{on_ok}
-use Rattle.wb_explain_trees.specs.Labels.{view_of}
 use Rattle.wb_explain_trees.proofs.LineLemmas.{says_tree}
 use Rattle.wb_explain_trees.proofs.lines.push_session.Goals as goal
 

@@ -2,8 +2,8 @@
 use Rattle.std.proofs.Common.{◌≡◌, rules, subst, sym}
 use Rattle.wb_explain_drawing.proofs.PushedLemmas.{no_parts, none_told, one_part, some_told}
 use Rattle.wb_explain_drawing.specs.Reached.{IsReached}
-use Rattle.wb_explain_trees.specs.Labels.{view_of}
-use Rattle.wb_explain_trees.specs.Pictures.{HasElement, HasElements, IsElement}
+use Rattle.wb_explain_trees.specs.Inner.Sessions.{HasElement, view_of}
+use Rattle.wb_explain_trees.specs.Pictures.{HasElements, IsElement}
 use Rattle.wb_explain_trees.proofs.PictureLemmas.{some_elements}
 use Rattle.wb_explain_trees.proofs.picture.push_elements.Goals as goal
 

@@ -2,7 +2,7 @@
 use Rattle.std.proofs.Common.{◌-◌, take, vec_len}
 use Rattle.wb_explain_drawing.specs.Pushed.{Pushes}
 use Rattle.wb_explain_drawing.specs.Reached.{IsReached}
-use Rattle.wb_explain_trees.specs.Labels.{view_of}
+use Rattle.wb_explain_trees.specs.Inner.Sessions.{view_of}
 use Rattle.wb_explain_trees.specs.Pictures.{IsElement}
 use Rattle.wb_explain_trees.proofs.picture.push_elements.Given as goal
 

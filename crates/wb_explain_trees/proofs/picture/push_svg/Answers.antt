@@ -1,5 +1,5 @@
 -- The first bytes, what is before the elements, these, and the last bytes.
-use Rattle.wb_explain_trees.specs.Labels.{view_of}
+use Rattle.wb_explain_trees.specs.Inner.Sessions.{view_of}
 use Rattle.wb_explain_trees.proofs.PictureLemmas.{has_drawn}
 use Rattle.wb_explain_trees.proofs.picture.push_svg.Goals as goal
 

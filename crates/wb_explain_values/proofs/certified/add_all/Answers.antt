@@ -1,5 +1,5 @@
 use Rattle.std.proofs.Common.{◌≡◌, subst, sym}
-use Rattle.wb_compose.specs.Hosts.{CertifiedView}
+use Rattle.wb_compose_files.specs.Hosts.{CertifiedView}
 use Rattle.wb_explain_values.proofs.certified.add_all.Goals as goal
 
 pub add-requires : goal.add-requires

@@ -1,7 +1,7 @@
 use Rattle.std.proofs.Common.{sym, subst}
 use Rattle.std.specs.Prelude.{OnOk}
 use Rattle.wb_session.specs.parsed.Parsed.{Parsed}
-use Rattle.wb_explain_values.specs.Said.{SaysOfParsed}
+use Rattle.wb_explain_values.specs.Inner.Found.{SaysOfParsed}
 use Rattle.std.proofs.lemmas.Result.{on_ok_weaker}
 use Rattle.wb_operations.specs.Operations.{Operations}
 use Rattle.wb_values.specs.ValuesIn.{tree_in}

@@ -1,12 +1,12 @@
 use Rattle.std.proofs.Common.{◌≡◌, ap, subst}
 use Rattle.std.proofs.lemmas.Result.{on_ok_weaker}
 use Rattle.wb_session.specs.Parses.{FitsSignatures, IsParsed}
-use Rattle.wb_compose.specs.LanguageViews.{LanguageParts}
+use Rattle.wb_scan.specs.Views.{LanguageParts}
 use Rattle.wb_operations.specs.Operations.{Operations}
 use Rattle.wb_types.specs.Rules.{KindsOk}
-use Rattle.wb_compose_texts.specs.Unions.{all_resolved}
-use Rattle.wb_compose_texts.proofs.ComposedValues.{asked_of_text}
-use Rattle.wb_compose_texts.proofs.ParsedLemmas.{kinds_here, productions_here}
+use Rattle.wb_compose_files.specs.Unions.{all_resolved}
+use Rattle.wb_compose_files.proofs.ComposedValues.{asked_of_text}
+use Rattle.wb_compose_files.proofs.ParsedLemmas.{kinds_here, productions_here}
 use Rattle.wb_explain_values.proofs.SaidLemmas.{text_said}
 use Rattle.wb_explain_values.proofs.text.push_question.Goals as goal
 

@@ -28,7 +28,8 @@ value-requires c =
     let w = c.add_rows.new.written in
     let right = c.requires.ready.right in
     let same = c.in_ok-written-2.ensures ∙ ap (map (signature_of file.extensions)) c.deref.ensures.value in
-    gives_resolved file (value_with file g (with_made w c.in_ok-written.field-0 c.in_ok-written-2.field-0)) right.is_file right.hold
+    gives_resolved file (value_with file g (with_made w c.in_ok-written.field-0 c.in_ok-written-2.field-0)) right.is_file right.format
+    right.hold
     (value_is file right g c.in_ok-counts.counts w c.in_ok-counts.ensures c.in_ok-add_rows.ensures c.in_ok-written.ensures same)
 
 pub returns : goal.returns

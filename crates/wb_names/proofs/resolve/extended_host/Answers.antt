@@ -22,12 +22,12 @@ resolve_in-made-requires-clause-file c =
 
 pub returns-clause-ok : goal.returns-clause-ok
 returns-clause-ok c =
-    extension_made c.args.spec.now
+    extension_made c.args.spec.now c.format.result c.format.ensures
     (record { base = c.parts.result.now; owner = 1; extensions = c.from_ref.result.now; items = c.items.result.now })
     c.resolve_in-made.result c.args.host.now c.requires.header (file_is c) c.resolve_in-made.ensures.ok
 
 pub returns-clause-refused : goal.returns-clause-refused
 returns-clause-refused c =
-    extension_refused c.args.spec.now
+    extension_refused c.args.spec.now c.format.result c.format.ensures
     (record { base = c.parts.result.now; owner = 1; extensions = c.from_ref.result.now; items = c.items.result.now })
     c.resolve_in-made.result c.args.host.now c.requires.header (file_is c) c.resolve_in-made.ensures.refused

@@ -19,10 +19,12 @@ resolve_in-made-requires-clause-file c =
 
 pub returns-clause-ok : goal.returns-clause-ok
 returns-clause-ok c =
-    host_made c.args.spec.now (record { base = c.parts.result.now; owner = 0; extensions = []; items = c.items-items.result.now })
+    host_made c.args.spec.now c.format.result c.format.ensures
+    (record { base = c.parts.result.now; owner = 0; extensions = []; items = c.items-items.result.now })
     c.resolve_in-made.result c.requires (file_is c) c.resolve_in-made.ensures.ok
 
 pub returns-clause-refused : goal.returns-clause-refused
 returns-clause-refused c =
-    host_refused c.args.spec.now (record { base = c.parts.result.now; owner = 0; extensions = []; items = c.items-items.result.now })
+    host_refused c.args.spec.now c.format.result c.format.ensures
+    (record { base = c.parts.result.now; owner = 0; extensions = []; items = c.items-items.result.now })
     c.resolve_in-made.result c.requires (file_is c) c.resolve_in-made.ensures.refused

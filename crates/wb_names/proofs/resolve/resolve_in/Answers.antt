@@ -2,7 +2,7 @@ use Rattle.wb_names.proofs.resolve.resolve_in.Goals as goal
 
 pub numbered-requires : goal.numbered-requires
 numbered-requires c = record {
-  right = record { is_file = c.requires.file; hold = c.in_ok-check_names.ensures.hold };
+  right = record { is_file = c.requires.file; format = c.args.format; hold = c.in_ok-check_names.ensures.hold };
   alone = c.requires.alone;
 }
 

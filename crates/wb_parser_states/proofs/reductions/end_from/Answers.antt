@@ -1,7 +1,7 @@
 use Rattle.std.proofs.Common.{◌∙◌, ap, arith, sym}
 use Rattle.std.specs.Prelude.{Some}
 use Rattle.std.proofs.lemmas.Option.{slice_get-get_or}
-use Rattle.wb_parser_states.proofs.ChainLemmas.{kept_found}
+use Rattle.wb_parser_states.proofs.CodeLemmas.{kept_found}
 use Rattle.wb_parser_states.proofs.reductions.end_from.Goals as goal
 
 pub returns-then-is_kept-clause-end : goal.returns-then-is_kept-clause-end

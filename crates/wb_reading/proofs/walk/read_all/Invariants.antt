@@ -1,5 +1,6 @@
-use Rattle.std.proofs.Common.{◌-◌, ◌≤◌, length}
+use Rattle.std.proofs.Common.{◌≡◌, ◌-◌, ◌≤◌, length}
 use Rattle.wb_parser_states.specs.Kept.{AreReductions}
+use Rattle.wb_parser_states.specs.Stacks.{last_or}
 use Rattle.wb_reading.specs.Inner.Walks.{AreSound, HasRead}
 use Rattle.wb_reading.proofs.walk.read_all.Given as goal
 
@@ -8,6 +9,7 @@ invariant-leaves l = record {
   within : l.at ≤ length l.text;
   sound : AreSound l.language l.states.items;
   reductions : AreReductions l.language.language.grammar l.language.tables l.reductions;
+  top : l.top ≡ last_or 0 l.states.items;
   read : HasRead l.language l.markers l.text l.states.items l.at;
 }
 

@@ -3,6 +3,8 @@ use Rattle.std.proofs.lemmas.Result.{IfOk-weaker}
 use Rattle.wb_determinism_contexts.specs.Considered.{LexiconView}
 use Rattle.wb_determinism_contexts.specs.Sets.{AreConsideredSets}
 use Rattle.wb_items.specs.Kernels.{count_of}
+use Rattle.wb_termset.proofs.CallerLemmas.{IsEmpty-replicate}
+use Rattle.wb_termset.specs.Sets.{IsEmpty}
 use Rattle.wb_lookahead.specs.Tables.{AreValidSets}
 use Rattle.wb_lookahead.proofs.TableLaws.{valid_of_tables}
 use Rattle.wb_scan.specs.Inner.Lexicons.{AreStateSets}
@@ -23,6 +25,8 @@ returns c =
       expressions = written.regexes.now;
       scanned = c.terminals-2.result;
       layout = c.in_ok-layout.layout;
+      own_layout = c.in_ok-own_layout.own_layout;
+      own_productions = (0, 0);
       preferences = written.preferences.now;
     } in
     IfOk-weaker c.considered_sets.result (λ sets. AreConsideredSets parts.kernels lexicon (count_of parts.kernels) sets.items)
@@ -33,5 +37,6 @@ returns c =
       scanned = c.terminals-2.ensures;
       layout_len = c.in_ok-layout.ensures.len;
       layout = rw c.terminals.ensures at c.in_ok-layout.ensures.each;
+      own_layout = subst IsEmpty (sym c.in_ok-own_layout.ensures) (IsEmpty-replicate _);
       preferences = refl;
     }) sets.items) c.considered_sets.ensures

@@ -18,8 +18,7 @@ returns-in-None-clause-ok c =
     let g = c.args.grammar.now in
     let written = c.args.written.now in
     no_clash_of_forms (language_of_written g written) c.args.parts.now.tables c.args.automaton.now.sets
-    (written_with g written.regexes.now written.layout.now written.preferences.now c.requires.written
-    (rw c.requires.terminals at c.terminals-expressions.ensures.not_empty)) (tables_of_parts g c.args.parts.now c.requires.parts) c.requires.sets
+    (tables_of_parts g c.args.parts.now c.requires.parts) c.requires.sets
     (rw c.requires.terminals at (c.in_ok-clash.ensures.none.0 (rw c.in-None.is refl)))
 
 pub returns-in_ok-prefix-in-Some-clause-refused : goal.returns-in_ok-prefix-in-Some-clause-refused
@@ -30,9 +29,7 @@ returns-in_ok-prefix-in-Some-clause-refused c =
     let l = language_of_written g written in
     let clash = c.in-Some.clash in
     let shown = clash_of_forms l parts.kernels parts.tables c.args.automaton.now.sets clash.set clash.left clash.right clash.text
-    (written_with g written.regexes.now written.layout.now written.preferences.now c.requires.written
-    (rw c.requires.terminals at c.terminals-expressions.ensures.not_empty)) c.requires.parts.kernels c.requires.parts.tables
-    c.requires.parts.grammar c.requires.sets (rw c.requires.terminals at (rw c.in-Some.is at c.in_ok-clash.ensures.clash)) in (
+    c.requires.parts.kernels c.requires.parts.tables c.requires.parts.grammar c.requires.sets (rw c.requires.terminals at (rw c.in-Some.is at c.in_ok-clash.ensures.clash)) in (
       c.requires.acyclic,
       subst HasNoConflict c.requires.parts.grammar c.requires.parts.tables.no_conflict,
       subst (λ (prefix : List Symbol). IsFormClash l prefix clash.left clash.right clash.text)

@@ -1,4 +1,5 @@
-use Rattle.std.proofs.Common.{◌∷◌, [], ap, length, length-append, subst, sym, arith}
+use Rattle.std.proofs.Common.{◌≡◌, ◌∷◌, [], Some, ap, length, length-append, subst, sym, arith}
+use Rattle.std.specs.Prelude.{slice_get}
 use Rattle.wb_scan.specs.Landings.{AreLandings, IsLanding}
 use Rattle.wb_scan.specs.Inner.Rankings.{ranked_by}
 use Rattle.wb_scan.proofs.LandingLemmas.{landings_more}
@@ -14,3 +15,7 @@ states-preserved c =
           (subst (λ z. IsLanding l c.args.automaton.now z c.landing_of.result) (sym c.states.invariant.count) c.landing_of.ensures)
           c.states.invariant.are);
     }
+
+pub returns-in-Err : goal.returns-in-Err
+returns-in-Err c state landing at =
+    c.states.invariant.are state landing (subst (λ z. slice_get z state ≡ Some landing) c.in-Err.ensures.err at)

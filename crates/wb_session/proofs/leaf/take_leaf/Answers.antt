@@ -8,7 +8,8 @@ use Rattle.wb_scan.specs.Scans.{next_in}
 use Rattle.wb_parser_states.proofs.TableLemmas.{zero_below}
 use Rattle.wb_session_theory.proofs.ReadLemmas.{reads_more}
 use Rattle.wb_session_theory.proofs.ScanLemmas.{scan_more}
-use Rattle.wb_session.specs.Stacks.{roots_of, state_in}
+use Rattle.wb_session.specs.Inner.Entries.{state_in}
+use Rattle.wb_session.specs.Stacks.{roots_of}
 use Rattle.wb_session.proofs.LeafLemmas.{nothing_leaf, scanned_at}
 use Rattle.wb_session.proofs.PlaceLemmas.{places_stop, scanned_more}
 use Rattle.wb_session.proofs.StackLemmas.{state_below}

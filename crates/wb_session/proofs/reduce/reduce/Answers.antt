@@ -6,7 +6,8 @@ use Rattle.wb_values.specs.ValuesIn.{values_in}
 use Rattle.wb_values.specs.declared.value.Value.TheVariants.{Tree as Stored}
 use Rattle.wb_parser_states.proofs.RuleLemmas.{no_rule, rule_at}
 use Rattle.wb_parser_states.proofs.TableLemmas.{zero_below}
-use Rattle.wb_session.specs.Stacks.{roots_of, state_in}
+use Rattle.wb_session.specs.Inner.Entries.{state_in}
+use Rattle.wb_session.specs.Stacks.{roots_of}
 use Rattle.wb_session.specs.Inner.Gathered.{AreGathered}
 use Rattle.wb_session.specs.Inner.Nodes.{IsNode}
 use Rattle.wb_session.proofs.GatherLemmas.{gathered_inside}

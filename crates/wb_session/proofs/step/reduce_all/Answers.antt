@@ -1,7 +1,8 @@
 use Rattle.std.proofs.Common.{◌<◌, ◌∙◌, ap, subst, sym}
 use Rattle.wb_lookahead.specs.Contents.{TablesView, action_of, size_of}
 use Rattle.wb_parser_states.proofs.TableLemmas.{action_below, IsActionBelow, zero_below}
-use Rattle.wb_session.specs.Stacks.{roots_of, state_in}
+use Rattle.wb_session.specs.Inner.Entries.{state_in}
+use Rattle.wb_session.specs.Stacks.{roots_of}
 use Rattle.wb_session.proofs.StackLemmas.{grows_none, grows_then, state_below}
 use Rattle.wb_session.proofs.StepLemmas.{accept_settled, made_none, made_then, shift_settled, step_made, stop_settled}
 use Rattle.wb_session.proofs.step.reduce_all.Goals as goal

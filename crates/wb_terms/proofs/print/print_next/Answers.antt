@@ -1,112 +1,112 @@
-use Rattle.std.proofs.Common.{◌≡◌, ◌+◌, ◌-◌, ◌<◌, ◌++◌, ◌∷◌, ◌≤◌, List, ℕ, Some, length, take, reverse, sym, subst, ap, ◌∙◌, arith, append_assoc, refl}
+use Rattle.std.proofs.Common.{◌≡◌, ◌+◌, ◌-◌, ◌≤◌, ◌++◌, Some, length, reverse, ◌∙◌, arith, get_or}
 use Rattle.std.specs.Prelude.{slice_get, false}
 use Rattle.std.proofs.lemmas.Option.{slice_get-get_or}
-use Rattle.std.proofs.lemmas.Result.{on_ok_weaker, IfErr-weaker}
-use Rattle.std.proofs.Common.{get_or}
-use Rattle.std.proofs.lemmas.List.Elements.{All-take}
+use Rattle.std.proofs.lemmas.Result.{IfOk-weaker, IfErr-weaker}
+use Rattle.wb_lemmas.proofs.Elements.{all_at}
+use Rattle.wb_lemmas.proofs.Refusals.{handed_on}
 use Rattle.wb_values.specs.ValuesIn.{value_in, IsIn}
 use Rattle.wb_values.specs.declared.value.Value.{Value}
 use Rattle.wb_values.specs.declared.value.Value.TheVariants.{Bool}
-use Rattle.wb_terms.specs.declared.print.Begun.{Begun}
+use Rattle.wb_terms.specs.declared.print.Current.{Current}
+use Rattle.wb_terms.specs.declared.print.Next.{Next}
 use Rattle.wb_terms.specs.declared.refusal.PrintRefusal.{PrintRefusal}
 use Rattle.wb_terms.specs.Lengths.{IsTooLong}
 use Rattle.wb_terms.specs.Printed.{printed_value}
-use Rattle.wb_terms.specs.Inner.Pending.{before, text_left, weight_left, value_weight, AreNested}
-use Rattle.wb_terms.proofs.LongLemmas.{part_too_long}
-use Rattle.wb_terms.proofs.PendingLemmas.{pushed, ended_text, ended_weight, ended_pending, next_text, next_weight, next_pending}
+use Rattle.wb_terms.specs.Inner.Pending.{current_text, next_text, Begins}
+use Rattle.wb_terms.proofs.NextLemmas.{child_too_long, plain_steps, tree_steps, tree_too_long}
+use Rattle.wb_terms.proofs.PendingLemmas.{appended, handed_back, is_within}
 use Rattle.wb_terms.proofs.print.print_next.Goals as goal
 
-pub returns-then-left-below-clause-text : goal.returns-then-left-below-clause-text
-returns-then-left-below-clause-text c =
-    ended_text c.args.store.now c.args.begun (reverse c.args.pending.now.begun.items) c.args.pending.now.values
-    (omega (arith, c.len-left.ensures, c.if-left-below.true)) c.args.signatures.now c.args.out.now.items c.push.new.list.items
-    c.in_ok-push.ensures.ok
-
-pub returns-then-left-below-clause-weight : goal.returns-then-left-below-clause-weight
-returns-then-left-below-clause-weight c =
-    ended_weight c.args.store.now c.args.begun (reverse c.args.pending.now.begun.items) c.args.pending.now.values
-    (omega (arith, c.len-left.ensures, c.if-left-below.true))
-
-pub returns-then-left-below-clause-pending : goal.returns-then-left-below-clause-pending
-returns-then-left-below-clause-pending c =
-    ended_pending c.args.store.now c.args.begun (reverse c.args.pending.now.begun.items) c.args.pending.now.values
-    (omega (arith, c.len-left.ensures, c.if-left-below.true)) (length c.args.store.now) c.requires.pending
-
-pub begin_last-requires-clause-pending : goal.begin_last-requires-clause-pending
-begin_last-requires-clause-pending c =
-    let vs = c.args.pending.now.values in
-    let os = c.args.pending.now.begun.items in
-    let place = c.len-left.result - 1 in
-    let some : c.args.begun.below ≤ place = omega (arith, c.if-left-below.false) in
-    let last : place + 1 ≡ length vs = omega (arith, c.len-left.ensures, c.if-left-below.false) in
-    let q : Begun = record { below = c.args.begun.below; first = false } in
-    let v = get_or vs place (Bool false) in
-    let there = slice_get-get_or vs place (Bool false) (omega (arith, last)) in (
-      All-take (IsIn (length c.args.store.now)) place vs c.requires.pending.0,
-      subst (AreNested (length (take place vs))) (sym (pushed os c.push-2.new.list.items q c.in_ok-push-2.ensures.ok))
-          (next_pending c.args.store.now c.args.begun q (reverse os) vs place v last some there refl refl (length c.args.store.now) c.requires.pending.1),
-    )
-
-pub returns-clause-text : goal.returns-clause-text
-returns-clause-text c =
+pub returns-in_err-answer-clause-refused : goal.returns-in_err-answer-clause-refused
+returns-in_err-answer-clause-refused c =
     let ss = c.args.signatures.now in
     let ts = c.args.store.now in
     let vs = c.args.pending.now.values in
-    let os = c.args.pending.now.begun.items in
-    let qs = c.push-2.new.list.items in
+    let os = reverse c.args.pending.now.begun.items in
     let old = c.args.out.now.items in
-    let place = c.len-left.result - 1 in
-    let some : c.args.begun.below ≤ place = omega (arith, c.if-left-below.false) in
-    let last : place + 1 ≡ length vs = omega (arith, c.len-left.ensures, c.if-left-below.false) in
-    let q : Begun = record { below = c.args.begun.below; first = false } in
+    let place = c.len-place.result - 1 in
+    let last : place + 1 ≡ length vs = omega (arith, c.len-place.ensures, c.requires.some) in
+    let some : c.args.current.begun.below ≤ place = omega (arith, c.len-place.ensures, c.requires.some) in
     let v = get_or vs place (Bool false) in
     let there = slice_get-get_or vs place (Bool false) (omega (arith, last)) in
-    let b = before c.args.begun.first in
-    let x = printed_value ss (value_in ts v) in
-    let now = c.begin_last.new.out.items ++ text_left ss ts c.begin_last.new.pending.values (reverse c.begin_last.new.pending.begun.items) in
-    let f = λ (e : (u : Value) → slice_get vs place ≡ Some u → now ≡ c.print_separator.new.out.items ++ (printed_value ss (value_in ts u)
-    ++ text_left ss ts (take place vs) (reverse qs))). e v there
-    ∙ ap (λ (l : List ℕ). l ++ (x ++ text_left ss ts (take place vs) (reverse qs))) c.in_ok-print_separator.ensures
-    ∙ append_assoc old b (x ++ text_left ss ts (take place vs) (reverse qs))
-    ∙ ap (λ (l : List Begun). old ++ (b ++ (x ++ text_left ss ts (take place vs) l))) (pushed os qs q c.in_ok-push-2.ensures.ok)
-    ∙ ap (λ (l : List ℕ). old ++ l) (sym (next_text ts c.args.begun q (reverse os) vs place v last some there refl refl ss)) in
-    on_ok_weaker c.begin_last.result f c.begin_last.ensures.text
+    handed_on (λ (e : PrintRefusal). (child : Value) → slice_get vs place ≡ Some child → IsTooLong (printed_value ss (value_in ts child)) e)
+    (IsTooLong (old ++ current_text ss ts vs c.args.current os)) c.from_residual-in_err-answer.result c.in_err-answer.field-0.0
+    c.from_residual-in_err-answer.ensures.1
+    (λ e long. child_too_long ss ts old c.print_separator.new.out.items c.args.current os vs place v last some there c.requires.pending
+    c.in_ok-print_separator.ensures e (long v there))
+    (c.in_err-answer.ensures.refused ss ts)
 
-pub returns-clause-weight : goal.returns-clause-weight
-returns-clause-weight c =
-    let ts = c.args.store.now in
+pub begin_tree-requires-clause-within : goal.begin_tree-requires-clause-within
+begin_tree-requires-clause-within c =
     let vs = c.args.pending.now.values in
-    let os = c.args.pending.now.begun.items in
-    let qs = c.push-2.new.list.items in
-    let place = c.len-left.result - 1 in
-    let some : c.args.begun.below ≤ place = omega (arith, c.if-left-below.false) in
-    let last : place + 1 ≡ length vs = omega (arith, c.len-left.ensures, c.if-left-below.false) in
-    let q : Begun = record { below = c.args.begun.below; first = false } in
+    let place = c.len-place.result - 1 in
+    let last : place + 1 ≡ length vs = omega (arith, c.len-place.ensures, c.requires.some) in
     let v = get_or vs place (Bool false) in
     let there = slice_get-get_or vs place (Bool false) (omega (arith, last)) in
-    let now = weight_left ts c.begin_last.new.pending.values (reverse c.begin_last.new.pending.begun.items) in
-    let f = λ (e : (u : Value) → slice_get vs place ≡ Some u → now ≡ value_weight (value_in ts u) + weight_left ts (take place vs) (reverse qs)).
-    (let g = e v there ∙ ap (λ (l : List Begun). value_weight (value_in ts v) + weight_left ts (take place vs) l)
-    (pushed os qs q c.in_ok-push-2.ensures.ok) in
-    let less : now < weight_left ts vs (c.args.begun ∷ reverse os) =
-    omega (arith, g, next_weight ts c.args.begun q (reverse os) vs place v last some there refl refl) in
-    less) in
-    on_ok_weaker c.begin_last.result f c.begin_last.ensures.weight
+    let count = length c.args.store.now in
+    is_within count v c.in-Some.tree
+    (handed_back c.print_separator.new.out.items c.print_at.new.out.items v c.in_ok-answer.answer c.in-Some.tree c.in-Some.is
+    (c.in_ok-answer.ensures.ok v there)).0
+    (all_at (IsIn count) vs place v c.requires.pending.0 there)
 
-pub returns-clause-refused : goal.returns-clause-refused
-returns-clause-refused c =
+pub returns-in-None-clause-ok : goal.returns-in-None-clause-ok
+returns-in-None-clause-ok c =
     let ss = c.args.signatures.now in
     let ts = c.args.store.now in
     let vs = c.args.pending.now.values in
-    let os = c.args.pending.now.begun.items in
-    let place = c.len-left.result - 1 in
-    let some : c.args.begun.below ≤ place = omega (arith, c.if-left-below.false) in
-    let last : place + 1 ≡ length vs = omega (arith, c.len-left.ensures, c.if-left-below.false) in
-    let q : Begun = record { below = c.args.begun.below; first = false } in
+    let place = c.len-place.result - 1 in
+    let last : place + 1 ≡ length vs = omega (arith, c.len-place.ensures, c.requires.some) in
+    let some : c.args.current.begun.below ≤ place = omega (arith, c.len-place.ensures, c.requires.some) in
     let v = get_or vs place (Bool false) in
     let there = slice_get-get_or vs place (Bool false) (omega (arith, last)) in
-    let f = λ (e : PrintRefusal) (long : (u : Value) → slice_get vs place ≡ Some u → IsTooLong (printed_value ss (value_in ts u)) e).
-    part_too_long (before c.args.begun.first) (printed_value ss (value_in ts v)) (text_left ss ts (take place vs) (q ∷ reverse os))
-    (text_left ss ts vs (c.args.begun ∷ reverse os)) e
-    (next_text ts c.args.begun q (reverse os) vs place v last some there refl refl ss) (long v there) in
-    IfErr-weaker c.begin_last.result _ _ f c.begin_last.ensures.refused
+    plain_steps ss ts c.args.out.now.items c.print_separator.new.out.items c.args.current (reverse c.args.pending.now.begun.items) vs place v
+    last some there c.requires.pending c.in_ok-print_separator.ensures c.print_at.new.out.items c.truncate.new.self
+    (appended c.print_separator.new.out.items c.print_at.new.out.items v c.in_ok-answer.answer ss ts c.in-None.is
+    (c.in_ok-answer.ensures.ok v there))
+    c.truncate.ensures
+
+pub returns-in_ok-closes-in-Some-clause-ok : goal.returns-in_ok-closes-in-Some-clause-ok
+returns-in_ok-closes-in-Some-clause-ok c =
+    let ss = c.args.signatures.now in
+    let ts = c.args.store.now in
+    let vs = c.args.pending.now.values in
+    let us = c.truncate.new.self in
+    let ws = c.begin_tree.new.values in
+    let old = c.args.out.now.items in
+    let mid = c.print_at.new.out.items in
+    let new = c.begin_tree.new.out.items in
+    let os = reverse c.args.pending.now.begun.items in
+    let qs = reverse c.keep.new.begun.items in
+    let place = c.len-place.result - 1 in
+    let last : place + 1 ≡ length vs = omega (arith, c.len-place.ensures, c.requires.some) in
+    let some : c.args.current.begun.below ≤ place = omega (arith, c.len-place.ensures, c.requires.some) in
+    let v = get_or vs place (Bool false) in
+    let there = slice_get-get_or vs place (Bool false) (omega (arith, last)) in
+    let next : Next = record { tree = c.in-Some.tree; closes = c.in_ok-closes-in-Some.closes } in
+    let back = handed_back c.print_separator.new.out.items mid v c.in_ok-answer.answer c.in-Some.tree c.in-Some.is (c.in_ok-answer.ensures.ok v there) in
+    let f = λ (d : Current) (begins : Begins ss ts mid new next us ws d).
+    tree_steps ss ts old mid c.args.current os vs place v last some there c.requires.pending (back.1 ∙ c.in_ok-print_separator.ensures)
+    new us ws next qs d back.0 c.truncate.ensures c.in_ok-closes-in-Some.ensures begins in
+    IfOk-weaker c.begin_tree.result _ _ f c.begin_tree.ensures.ok
+
+pub returns-in_ok-closes-in-Some-clause-refused : goal.returns-in_ok-closes-in-Some-clause-refused
+returns-in_ok-closes-in-Some-clause-refused c =
+    let ss = c.args.signatures.now in
+    let ts = c.args.store.now in
+    let vs = c.args.pending.now.values in
+    let us = c.truncate.new.self in
+    let old = c.args.out.now.items in
+    let mid = c.print_at.new.out.items in
+    let os = reverse c.args.pending.now.begun.items in
+    let qs = reverse c.keep.new.begun.items in
+    let place = c.len-place.result - 1 in
+    let last : place + 1 ≡ length vs = omega (arith, c.len-place.ensures, c.requires.some) in
+    let some : c.args.current.begun.below ≤ place = omega (arith, c.len-place.ensures, c.requires.some) in
+    let v = get_or vs place (Bool false) in
+    let there = slice_get-get_or vs place (Bool false) (omega (arith, last)) in
+    let next : Next = record { tree = c.in-Some.tree; closes = c.in_ok-closes-in-Some.closes } in
+    let back = handed_back c.print_separator.new.out.items mid v c.in_ok-answer.answer c.in-Some.tree c.in-Some.is (c.in_ok-answer.ensures.ok v there) in
+    let f = λ (e : PrintRefusal) (long : IsTooLong (mid ++ next_text ss ts next.tree.0 next.closes) e).
+    tree_too_long ss ts old mid c.args.current os vs place v last some there c.requires.pending (back.1 ∙ c.in_ok-print_separator.ensures)
+    us next qs e back.0 c.truncate.ensures c.in_ok-closes-in-Some.ensures long in
+    IfErr-weaker c.begin_tree.result _ _ f c.begin_tree.ensures.refused

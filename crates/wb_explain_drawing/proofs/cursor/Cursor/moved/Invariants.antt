@@ -1,6 +1,5 @@
 -- The cursor is in its line and column, and not past the place.
-use Rattle.std.proofs.Common.{◌≤◌, ◌-◌}
-use Rattle.wb_explain_drawing.specs.Reached.{IsReached}
+use Rattle.std.proofs.Common.{◌-◌}
 use Rattle.wb_explain_drawing.proofs.CursorLemmas.{IsOnWay}
 use Rattle.wb_explain_drawing.proofs.cursor.Cursor.moved.Given as goal
 

@@ -1,0 +1,2 @@
+-- Words of private functions, and what loops keep.
+pub mod Own

@@ -1,0 +1,2 @@
+-- what is said of two grammars
+pub mod Grammars

@@ -1,5 +1,0 @@
-use Rattle.wb_explain_flows.specs.Inner.Spots.{KeepsLacking}
-use Rattle.wb_explain_flows.proofs.handed.add_all.Given as goal
-
-abbrev pub invariant-productions : goal.invariant-productions
-invariant-productions l = KeepsLacking l.scope.attributes.now l.fn.found.items l.found.items

@@ -1,9 +1,0 @@
-use Rattle.std.proofs.Common.{◌++◌, refl}
-use Rattle.std.proofs.lemmas.Result.{on_ok_weaker}
-use Rattle.wb_explain_flows.specs.Missing.{aspect_text}
-use Rattle.wb_explain_flows.proofs.missing.push_aspect.Goals as goal
-
-pub returns : goal.returns
-returns c = on_ok_weaker c.push_parts-answer.result
-    (λ is. (aspect_text c.args.told.now.scope.now.attributes.now c.args.one ++ c.deref.result.now, (c.deref.result.now, refl), is))
-    c.push_parts-answer.ensures

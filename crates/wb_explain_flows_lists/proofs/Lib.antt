@@ -1,0 +1,5 @@
+pub mod TextLemmas
+mod MissingLemmas
+mod LackLemmas
+mod HeldLemmas
+mod AllLemmas

@@ -1,0 +1,3 @@
+-- what each search adds
+pub mod Found
+pub mod Spots

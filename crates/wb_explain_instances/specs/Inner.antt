@@ -1,0 +1,2 @@
+-- one line more
+pub mod Lines

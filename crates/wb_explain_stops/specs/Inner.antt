@@ -1,0 +1,2 @@
+-- lines that name terminals
+pub mod Entries

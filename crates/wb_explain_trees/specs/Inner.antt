@@ -1,0 +1,2 @@
+-- what is shown of a text that is read
+pub mod Sessions

@@ -1,0 +1,2 @@
+-- what is said of what was found
+pub mod Found
