@@ -1,6 +1,6 @@
 //! With which starts does each set begin?
 
-ghost use Rattle.std.specs.Prelude.{◌≡◌, ℕ, ◌<◌, ◌+◌, ◌^◌, ◌↔◌, length, IfOk, IsTrue};
+ghost use Rattle.std.specs.Prelude.{◌≡◌, ℕ, ◌<◌, ◌≤◌, ◌+◌, ◌^◌, length, IfOk};
 ghost use Rattle.wb_termset.specs.Sets.{IsMember};
 ghost use Rattle.wb_automata_positions.specs.Transitions.{IsPlaceList};
 ghost use Rattle.wb_automata_positions.specs.Inner.Starts.{AreStarts};
@@ -35,16 +35,24 @@ fn set_starts(alloc: Global, n: usize, count: usize, set: &TermSet) -> Result<Le
     ensures places { IfOk result (λ starts. IsPlaceList (n + count) starts) }
 {
     let mut places = Leaves::new(alloc);
-    for k in 0..count {
-        if is_member(set, k) {
-            places.push(n + k)?;
-        }
+    let mut k = next_start(set, count, 0);
+    'starts: while k < count {
+        places.push(n + k)?;
+        k = next_start(set, count, k + 1);
     }
     Ok(places)
 }
 
-fn is_member(set: &TermSet, number: usize) -> bool
-    ensures { IsTrue result ↔ IsMember set.now number }
+// The least member of the set from a number on that is below the count, or the count.
+fn next_start(set: &TermSet, count: usize, from: usize) -> usize
+    requires { from ≤ count }
+    ensures from { from ≤ result }
+    ensures within { result ≤ count }
+    ensures member { result < count → IsMember set.now result }
+    ensures none { (m : ℕ) → from ≤ m → m < result → ¬ IsMember set.now m }
 {
-    number < set.count() && set.contains(number)
+    let Some(number) = set.next_member(from) else {
+        return count;
+    };
+    if number < count { number } else { count }
 }

@@ -1,21 +1,32 @@
-use Rattle.std.proofs.Common.{◌≡◌, ◌∙◌, sym, subst, arith}
-use Rattle.std.proofs.lemmas.Bool.{true≢false}
-use Rattle.wb_automata_positions.proofs.StartLemmas.{StartPass, start_more, start_skip, start_places}
+use Rattle.std.proofs.Common.{◌≡◌, ◌+◌, [], arith, subst}
+use Rattle.wb_automata_positions.proofs.StartLemmas.{StartPass, start_more, start_none, start_places, start_skip}
 use Rattle.wb_automata_positions.proofs.terminals.set_starts.Goals as goal
-use Rattle.wb_automata_positions.proofs.terminals.set_starts.Goals.{then-is_member+in_ok-push, else-is_member}
 
-pub loop-k-preserved : goal.loop-k-preserved
-loop-k-preserved c = elim c.if-is_member.branch [
-  | then-is_member+in_ok-push w ↦ rw (w.places-is, w.in_ok-push.ensures)
-      (start_more c.args.n c.args.set.now c.loop-k.places c.loop-k.k (c.is_member.ensures.0 w.if-is_member.true) c.loop-k.invariant)
-  | else-is_member w ↦ rw (w.places-is) (start_skip c.args.n c.args.set.now c.loop-k.places c.loop-k.k
-      (λ h. true≢false (sym (c.is_member.ensures.1 h) ∙ w.if-is_member.false)) c.loop-k.invariant)
-]
+pub starts-init : goal.starts-init
+starts-init c = record {
+  within = c.next_start-k.ensures.within;
+  member = c.next_start-k.ensures.member;
+  pass = rw (c.new-places.ensures) (start_skip c.args.n c.args.set.now [] 0 c.next_start-k.result c.next_start-k.ensures.from
+      c.next_start-k.ensures.none (start_none c.args.n c.args.set.now));
+}
+
+pub starts-preserved : goal.starts-preserved
+starts-preserved c = record {
+  within = c.next_start-k-in-starts.ensures.within;
+  member = c.next_start-k-in-starts.ensures.member;
+  pass = rw (c.in_ok-push.ensures) (start_skip c.args.n c.args.set.now _ (c.starts.k + 1) c.next_start-k-in-starts.result c.next_start-k-in-starts.ensures.from
+      c.next_start-k-in-starts.ensures.none
+      (start_more c.args.n c.args.set.now c.starts.places c.starts.k (c.starts.invariant.member c.starts-test.true) c.starts.invariant.pass));
+}
+
+pub starts-smaller : goal.starts-smaller
+starts-smaller c = (let further = c.next_start-k-in-starts.ensures.from in omega (arith, c.starts-test.true))
 
 pub returns-clause-exact : goal.returns-clause-exact
-returns-clause-exact c = (let e : c.loop-k.k ≡ c.args.count = omega arith in subst
-    (StartPass c.args.n c.args.set.now c.loop-k.places) e c.loop-k.invariant).exact
+returns-clause-exact c = (let e : c.starts.k ≡ c.args.count = (let le = c.starts.invariant.within in omega (arith, c.starts-test.false)) in subst
+    (StartPass c.args.n c.args.set.now c.starts.places) e c.starts.invariant.pass).exact
 
 pub returns-clause-places : goal.returns-clause-places
-returns-clause-places c = (let e : c.loop-k.k ≡ c.args.count = omega arith in start_places c.args.n c.args.set.now c.loop-k.places
-    c.args.count (subst (StartPass c.args.n c.args.set.now c.loop-k.places) e c.loop-k.invariant))
+returns-clause-places c = (let e : c.starts.k ≡ c.args.count = (let le = c.starts.invariant.within in omega (arith, c.starts-test.false)) in
+    start_places c.args.n c.args.set.now c.starts.places c.args.count
+    (subst (StartPass c.args.n c.args.set.now c.starts.places) e c.starts.invariant.pass))
