@@ -2,10 +2,10 @@ use Rattle.std.proofs.Common.{arith, rules, ◌-◌, ◌<◌, length}
 use Rattle.std.proofs.lemmas.Option.{slice_get-get_or}
 use Rattle.wb_automata.specs.Inner.Chains.{lists_of}
 use Rattle.wb_automata.proofs.ChainLemmas.{lists_len, off_begin, off_end, off_more}
-use Rattle.wb_automata.proofs.chains.leaves_of.Goals as goal
+use Rattle.wb_automata.proofs.chains.read_back.Goals as goal
 
 pub back-init : goal.back-init
-back-init c = rw (c.new-all.ensures.items) (off_begin (lists_of c.args.links.now) c.args.number c.requires.number)
+back-init c = rw (c.clear.ensures.items) (off_begin (lists_of c.args.links.now) c.args.number c.requires.number)
 
 pub back-preserved : goal.back-preserved
 back-preserved c = (off_more c.args.links.now c.args.number c.back.at c.back.all.items c.push.new.list.items _ c.requires.links
