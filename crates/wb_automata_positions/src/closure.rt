@@ -16,11 +16,14 @@ use crate::tables::Tables;
 use std::alloc::{AllocError, Global};
 use wb_regex::RegexNode;
 
+// From this number on nothing is noted.
+const LIMIT: usize = 4294967295;
+
 /// What comes after some leaves and starts: the leaves that may be read next, and the expressions that may end, both in order.
 ///
 /// Its lists are used again from set to set.
 pub struct Following {
-    hints: Vec<usize>,
+    hints: Vec<u32>,
     met: Leaves,
     pub ahead: Leaves,
     pub ends: Leaves,
@@ -70,7 +73,7 @@ impl Drop for Following {
 }
 
 // Hints for the places of the tables.
-fn hints_of(alloc: Global, tables: &Tables) -> Result<Vec<usize>, AllocError> {
+fn hints_of(alloc: Global, tables: &Tables) -> Result<Vec<u32>, AllocError> {
     let nodes = tables.nodes.len();
     match nodes.checked_add(nodes) {
         None => Err(AllocError),
@@ -82,7 +85,7 @@ fn hints_of(alloc: Global, tables: &Tables) -> Result<Vec<usize>, AllocError> {
 fn closure(
     tables: &Tables,
     set: &[usize],
-    hints: &mut Vec<usize>,
+    hints: &mut Vec<u32>,
     met: &mut Leaves,
 ) -> Result<(), AllocError>
     requires table { IsTable tables.now }
@@ -99,7 +102,7 @@ fn closure(
 fn meet_entries(
     tables: &Tables,
     set: &[usize],
-    hints: &mut Vec<usize>,
+    hints: &mut Vec<u32>,
     met: &mut Leaves,
 ) -> Result<(), AllocError>
     requires table { IsTable tables.now }
@@ -127,7 +130,7 @@ fn entry_of(tables: &Tables, p: usize) -> usize
 fn close(
     nodes: &[RegexNode],
     next: &[usize],
-    hints: &mut Vec<usize>,
+    hints: &mut Vec<u32>,
     met: &mut Leaves,
 ) -> Result<(), AllocError>
     requires len { length next.now ≡ length nodes.now }
@@ -144,7 +147,7 @@ fn close(
 }
 
 // Meets where a place goes on without reading.
-fn meet_next(place: Place, hints: &mut Vec<usize>, met: &mut Leaves) -> Result<(), AllocError>
+fn meet_next(place: Place, hints: &mut Vec<u32>, met: &mut Leaves) -> Result<(), AllocError>
     ensures { IfOk result (λ _. Adds (GoesOn place) met.old met.new) }
 {
     match place {
@@ -160,26 +163,31 @@ fn meet_next(place: Place, hints: &mut Vec<usize>, met: &mut Leaves) -> Result<(
 }
 
 // Puts a place after the others, unless it is known that it is there.
-fn meet(place: usize, hints: &mut Vec<usize>, met: &mut Leaves) -> Result<(), AllocError>
+fn meet(place: usize, hints: &mut Vec<u32>, met: &mut Leaves) -> Result<(), AllocError>
     ensures { IfOk result (λ _. Adds (λ d. d ≡ place) met.old met.new) }
 {
     if is_met(place, hints, met.as_slice()) {
         return Ok(());
     }
-    if place < hints.len() {
-        hints[place] = met.as_slice().len();
-    }
+    note(hints, place, met.as_slice().len());
     met.push(place)
 }
 
+// Notes where a place is met, if there is room for it.
+fn note(hints: &mut Vec<u32>, place: usize, at: usize) {
+    if place < hints.len() && at < LIMIT {
+        hints[place] = at as u32;
+    }
+}
+
 // Whether the hint of a place leads to it.
-fn is_met(place: usize, hints: &[usize], met: &[usize]) -> bool
+fn is_met(place: usize, hints: &[u32], met: &[usize]) -> bool
     ensures { IsTrue result → Contains met.now place }
 {
     if place >= hints.len() {
         return false;
     }
-    let at = hints[place];
+    let at = hints[place] as usize;
     at < met.len() && met[at] == place
 }
 

@@ -1,7 +1,7 @@
 use Rattle.std.proofs.Common.{◌-◌, ◌≤◌, ◌<◌}
 use Rattle.wb_termset.specs.Sets.{IsMember}
 use Rattle.wb_automata_positions.proofs.StartLemmas.{StartPass}
-use Rattle.wb_automata_positions.proofs.terminals.set_starts.Given as goal
+use Rattle.wb_automata_positions.proofs.terminals.find_starts.Given as goal
 
 abbrev pub invariant-starts : goal.invariant-starts
 invariant-starts l = record {

@@ -1,12 +1,12 @@
 use Rattle.std.proofs.Common.{◌≡◌, ◌+◌, [], arith, subst}
 use Rattle.wb_automata_positions.proofs.StartLemmas.{StartPass, start_more, start_none, start_places, start_skip}
-use Rattle.wb_automata_positions.proofs.terminals.set_starts.Goals as goal
+use Rattle.wb_automata_positions.proofs.terminals.find_starts.Goals as goal
 
 pub starts-init : goal.starts-init
 starts-init c = record {
   within = c.next_start-k.ensures.within;
   member = c.next_start-k.ensures.member;
-  pass = rw (c.new-places.ensures) (start_skip c.args.n c.args.set.now [] 0 c.next_start-k.result c.next_start-k.ensures.from
+  pass = rw (c.clear.ensures) (start_skip c.args.n c.args.set.now [] 0 c.next_start-k.result c.next_start-k.ensures.from
       c.next_start-k.ensures.none (start_none c.args.n c.args.set.now));
 }
 
