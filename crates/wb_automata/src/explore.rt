@@ -2,7 +2,7 @@
 //!
 //! The states of one set after the other are found breadth first, so that their order is that of their paths.
 
-ghost use Rattle.std.specs.Prelude.{◌≡◌, ◌+◌, ◌^◌, ◌<◌, ◌≤◌, IfOk, [], length, slice_get, slice_index};
+ghost use Rattle.std.specs.Prelude.{◌≡◌, ◌+◌, ◌^◌, ◌<◌, ◌≤◌, ℕ, IfOk, IsTrue, [], length, slice_get, slice_index};
 ghost use Rattle.wb_automata.specs.Inner.Accepted.{AreAccepted, IsAccepted};
 ghost use Rattle.wb_automata.specs.Inner.Exploring.{RowsPass, RowsFrom, AreExplored};
 ghost use Rattle.wb_automata.specs.Inner.Found.{IsPlaced};
@@ -216,8 +216,12 @@ fn move_on(
 {
     let set = states.set_of(i);
     let origin = Origin { state: i, set };
-    for c in 0..bytes.len() {
+    let mut c = 0;
+    'bytes: while c < bytes.len() {
         move_by(c, bytes[c], origin, ways, states, moves)?;
+        let next = run_end(&ways.ends, c);
+        moves.repeat(next - c - 1)?;
+        c = next;
     }
     Ok(())
 }
@@ -251,4 +255,26 @@ fn move_by(
     let next = states.move_to(&ways.list, predecessor)?;
     moves.push(next)?;
     Ok(())
+}
+
+// The first place after one whose number differs from that there, or the end.
+fn run_end(numbers: &[usize], place: usize) -> usize
+    requires { place < length numbers.now }
+    ensures after { place < result }
+    ensures within { result ≤ length numbers.now }
+    ensures alike { (k : ℕ) → place ≤ k → k < result → slice_index numbers.now k ≡ slice_index numbers.now place }
+{
+    let number = numbers[place];
+    let mut end = place + 1;
+    'numbers: while has_at(numbers, end, number) {
+        end += 1;
+    }
+    end
+}
+
+fn has_at(numbers: &[usize], place: usize, number: usize) -> bool
+    ensures within { IsTrue result → place < length numbers.now }
+    ensures is { IsTrue result → slice_index numbers.now place ≡ number }
+{
+    place < numbers.len() && numbers[place] == number
 }

@@ -135,9 +135,6 @@ impl Ways {
         ensures alike { IfSome result (λ d. (d < c) × (slice_index self.old.ends.items d ≡ slice_index self.old.ends.items c)) }
     {
         let end = self.ends[c];
-        if is_as_before(&self.ends, c) {
-            return Some(c - 1);
-        }
         if end >= self.firsts.len() {
             return None;
         }
@@ -148,14 +145,6 @@ impl Ways {
         self.firsts[end] = c;
         None
     }
-}
-
-// Whether the number before this one is the same.
-fn is_as_before(numbers: &[usize], c: usize) -> bool
-    requires { c < length numbers.now }
-    ensures { IsTrue result → (0 < c) × (slice_index numbers.now (c - 1) ≡ slice_index numbers.now c) }
-{
-    c > 0 && numbers[c - 1] == numbers[c]
 }
 
 // So many zeros and nothing else.
