@@ -1,9 +1,9 @@
 //! What do the states become on the terminal that is ahead? Reductions are made until it can be shifted, accepted, or nothing is left to do.
 //!
-//! Codes of actions tell it, for the state on top first, since a third of all leaves are shifted at once, and after each reduction for the
-//! end of its chain. Where a code isn't known, the tables are asked.
+//! Codes of actions tell it, and where one isn't known, the tables. Reductions that take a state away are made in place, and how many states
+//! are left is counted beside the list, where no call out of line can reach the count.
 
-ghost use Rattle.std.specs.Prelude.{◌≡◌, ◌<◌, ◌≤◌, ◌++◌, ◌∷◌, [], All, IfOk, OnOk, length, take};
+ghost use Rattle.std.specs.Prelude.{◌≡◌, ◌<◌, ◌≤◌, ◌+◌, ◌++◌, ◌∷◌, [], All, IfOk, OnOk, length, take};
 ghost use Rattle.wb_lookahead.specs.Contents.{action_of, size_of};
 ghost use Rattle.wb_scan_theory.specs.Facts.{IsLanguage};
 ghost use Rattle.wb_scan_theory.specs.Parts.{AreTablesOf};
@@ -44,20 +44,111 @@ pub fn reduce_states(
     ensures reductions { AreReductions language.now.language.grammar language.now.tables reductions.new }
 {
     let _tables = language.tables();
-    let mut code = reductions.codes.at(top(states), terminal);
-    'reductions: for _ in 0..usize::MAX {
-        if code % 2 == 0 {
-            if code == 0 {
-                return reduce_asked(language, reductions, states, terminal);
-            }
-            return Ok(Outcome::Shifts(state_in(code)));
-        }
-        code = reduce_top(language, reductions, states, terminal, rule_in(code))?;
+    let code = reductions.codes.at(top(states), terminal);
+    let reached = reduce_within(language, reductions, states, terminal, code);
+    states.truncate(reached.kept);
+    if reached.code % 2 == 0 && reached.code != 0 {
+        return Ok(Outcome::Shifts(state_in(reached.code)));
     }
-    Err(AllocError)
+    reduce_asked(language, reductions, states, terminal)
 }
 
-// The same where the action at the state on top may have no code that is known: then the tables are asked, and the code is kept.
+// How far reductions came: so many of the first states are left, and the action at the last of them has this code.
+#[derive(Clone, Copy)]
+struct Reached {
+    kept: usize,
+    code: u32,
+}
+
+// Reduces while that is the action by its code, and while each reduction takes a state away, so that no room is asked for.
+#[inline(always)]
+fn reduce_within(
+    language: &Language,
+    reductions: &mut Reductions,
+    states: &mut Vec<usize>,
+    terminal: usize,
+    code: u32,
+) -> Reached
+    requires language { IsLanguage language.now.language }
+    requires of_grammar { AreTablesOf language.now.language.grammar language.now.tables }
+    requires reductions { AreReductions language.now.language.grammar language.now.tables reductions.old }
+    requires terminal { terminal ≤ language.now.language.grammar.terminals }
+    requires states { All (λ s. s < size_of language.now.tables) states.old.items }
+    requires code { IsCodeOf language.now.language.grammar (action_of language.now.tables (last_or 0 states.old.items) terminal) code }
+    ensures within { result.kept ≤ length states.new.items }
+    ensures code { IsCodeOf language.now.language.grammar (action_of language.now.tables (last_or 0 (take result.kept states.new.items)) terminal) result.code }
+    ensures carries { CarryOver language.now terminal states.old.items (take result.kept states.new.items) }
+    ensures states { All (λ s. s < size_of language.now.tables) (take result.kept states.new.items) }
+    ensures reductions { AreReductions language.now.language.grammar language.now.tables reductions.new }
+{
+    let mut reached = Reached {
+        kept: states.len(),
+        code,
+    };
+    'reductions: for _ in 0..usize::MAX {
+        if reached.code % 2 == 0 {
+            return reached;
+        }
+        let rule = rule_in(reached.code);
+        if rule.width == 0 || reached.kept == 0 {
+            return reached;
+        }
+        reached = reduce_some(language, reductions, states, reached.kept, terminal, rule);
+    }
+    reached
+}
+
+// Makes a reduction of that rule on the first states, so many, where it takes one away, and then those of one symbol each that follow.
+#[inline(always)]
+fn reduce_some(
+    language: &Language,
+    reductions: &mut Reductions,
+    states: &mut Vec<usize>,
+    count: usize,
+    terminal: usize,
+    rule: Rule,
+) -> Reached
+    requires language { IsLanguage language.now.language }
+    requires of_grammar { AreTablesOf language.now.language.grammar language.now.tables }
+    requires reductions { AreReductions language.now.language.grammar language.now.tables reductions.old }
+    requires terminal { terminal ≤ language.now.language.grammar.terminals }
+    requires some { 1 ≤ count }
+    requires count { count ≤ length states.old.items }
+    requires width { 1 ≤ rule.width }
+    requires states { All (λ s. s < size_of language.now.tables) (take count states.old.items) }
+    requires rule { IsRuleAction language.now.language.grammar (action_of language.now.tables (last_or 0 (take count states.old.items)) terminal) (RuleAction.Reduce rule) }
+    ensures within { result.kept ≤ length states.new.items }
+    ensures code { IsCodeOf language.now.language.grammar (action_of language.now.tables (last_or 0 (take result.kept states.new.items)) terminal) result.code }
+    ensures carries { CarryOver language.now terminal (take count states.old.items) (take result.kept states.new.items) }
+    ensures states { All (λ s. s < size_of language.now.tables) (take result.kept states.new.items) }
+    ensures reductions { AreReductions language.now.language.grammar language.now.tables reductions.new }
+{
+    let kept = count.saturating_sub(rule.width);
+    let key = Key {
+        below: top(&states[..kept]),
+        from: rule.left,
+        terminal,
+    };
+    let end = end_from(language, reductions, key);
+    put_at(states, kept, end.target);
+    Reached {
+        kept: kept + 1,
+        code: end.code,
+    }
+}
+
+// Puts a state after the first ones, so many, in the place of the one there.
+#[inline(always)]
+fn put_at(states: &mut Vec<usize>, kept: usize, state: usize)
+    requires { kept < length states.old.items }
+    ensures states { take (kept + 1) states.new.items ≡ take kept states.old.items ++ state ∷ [] }
+    ensures count { length states.new.items ≡ length states.old.items }
+{
+    states[kept] = state;
+}
+
+// What `reduce_states` says, where the action at the state on top may have no code that is known, or a reduction may take no state away:
+// then the tables are asked and the code is kept, or room is asked for.
 #[inline(never)]
 fn reduce_asked(
     language: &Language,
