@@ -1,4 +1,4 @@
-use Rattle.std.proofs.Common.{rules, ◌≡◌, ◌≤◌, ◌-◌, ◌+◌, ◌++◌, ◌∷◌, [], ◌∙◌, ap, arith, length, refl, subst, sym, take}
+use Rattle.std.proofs.Common.{rules, ◌≡◌, ◌-◌, ◌+◌, ◌++◌, ◌∷◌, [], ◌∙◌, ap, arith, length, refl, subst, sym, take}
 use Rattle.std.proofs.lemmas.List.{length-take-le, take-take}
 use Rattle.wb_lookahead.specs.Contents.{action_of, size_of}
 use Rattle.wb_parser_states.specs.Codes.{IsCodeOf}

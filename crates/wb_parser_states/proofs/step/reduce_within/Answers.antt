@@ -1,4 +1,4 @@
-use Rattle.std.proofs.Common.{◌≡◌, ◌<◌, ◌≤◌, arith, subst, sym, take}
+use Rattle.std.proofs.Common.{◌≡◌, ◌<◌, arith, subst, sym, take}
 use Rattle.std.specs.Prelude.{All}
 use Rattle.std.proofs.lemmas.List.{take_all}
 use Rattle.wb_lookahead.specs.Contents.{action_of, size_of}
