@@ -12,6 +12,7 @@ pub mod RestLemmas
 pub mod RestRows
 pub mod RoomLemmas
 pub mod RowLemmas
+pub mod SharedLemmas
 pub mod SpreadLemmas
 pub mod StandLemmas
 pub mod StepLemmas

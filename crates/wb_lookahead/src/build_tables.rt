@@ -13,6 +13,7 @@ use crate::action::TableRefusal;
 use crate::matrix::Matrix;
 use crate::parser_tables::Tables;
 use crate::rows::{Row, gotos_at, row_at};
+use crate::shared_rows::SharedRows;
 use std::alloc::{AllocError, Global};
 use wb_base::{Grammar, push};
 use wb_items::{Kernels, Lookaheads};
@@ -22,7 +23,7 @@ use wb_termset::TermSet;
 #[derive(Drop)]
 struct Parts {
     actions: Matrix,
-    gotos: Matrix,
+    gotos: SharedRows,
     valid: Vec<TermSet>,
 }
 
@@ -65,7 +66,7 @@ fn parts_of(
     };
     let mut parts = Parts {
         actions: Matrix::new(alloc, width),
-        gotos: Matrix::new(alloc, grammar.nonterminals()),
+        gotos: SharedRows::new(alloc, grammar.nonterminals()),
         valid: Vec::new(alloc),
     };
     'kernels: for state in 0..count {
@@ -103,7 +104,7 @@ fn add_gotos(
     grammar: &Grammar,
     kernels: &Kernels,
     state: usize,
-    gotos: &mut Matrix,
+    gotos: &mut SharedRows,
 ) -> Result<(), AllocError>
     requires kernels { AreKernels kernels.now }
     requires grammar { kernels.now.grammar ≡ grammar.now }

@@ -16,6 +16,7 @@ mod plain;
 mod propagate;
 mod repeats;
 mod rows;
+mod shared_rows;
 mod spread;
 mod valid;
 mod worklist;

@@ -10,17 +10,19 @@ ghost use Rattle.wb_lookahead.specs.Matrices.{AreMatrices};
 use crate::action::Action;
 use crate::codes::{action_from, goto_from};
 use crate::matrix::Matrix;
+use crate::shared_rows::SharedRows;
 use std::marker::Model;
 use wb_termset::TermSet;
 
 /// For each kernel of a grammar its actions, the kernels to which nonterminals lead, and its valid terminals.
 ///
 /// Kernels, terminals and nonterminals have their numbers, and the number of terminals stands for the end of a text. An action and
-/// a kernel after a nonterminal take four bytes each, whether there is one or not.
+/// a kernel after a nonterminal take four bytes each, whether there is one or not. Where nonterminals lead from a kernel to the same
+/// kernels as from the one before, these are kept once.
 pub struct Tables {
     terminals: usize,
     actions: Matrix,
-    gotos: Matrix,
+    gotos: SharedRows,
     valid: Vec<TermSet>,
 }
 
@@ -42,7 +44,7 @@ impl Tables {
     pub(crate) fn of(
         terminals: usize,
         actions: Matrix,
-        gotos: Matrix,
+        gotos: SharedRows,
         valid: Vec<TermSet>,
     ) -> Tables
         requires { AreMatrices terminals actions gotos (length valid.items) }
