@@ -1,6 +1,6 @@
 -- The lists of accepted terminals.
-use Rattle.std.proofs.Common.{◌≡◌, ℕ, ◌+◌, List, [], ◌∷◌, ◌++◌, refl, sym, ◌∙◌, ap, subst, arith, inl, inr, Some, length, length-append}
-use Rattle.std.specs.Prelude.{slice_get, Contains, ◌↔◌, IfOk, Result, Ok, Err}
+use Rattle.std.proofs.Common.{◌≡◌, ℕ, ◌+◌, ◌≤◌, List, [], ◌∷◌, ◌++◌, refl, sym, ◌∙◌, ap, subst, arith, inl, inr, Some, length, length-append}
+use Rattle.std.specs.Prelude.{slice_get, Contains, ◌↔◌}
 use Rattle.std.proofs.lemmas.Bool.{cases_lt, cases_eq}
 use Rattle.std.proofs.lemmas.List.{get_or_append_left, get_or_push, get_or_past}
 use Rattle.std.proofs.lemmas.Option.{same_Some}
@@ -8,8 +8,10 @@ use Rattle.wb_automata_positions.specs.Rows.{row}
 use Rattle.wb_automata_positions.specs.Rising.{AreRising}
 use Rattle.wb_automata_positions.specs.declared.tables.Tables.{Tables}
 use Rattle.wb_automata_positions.specs.Transitions.{EndsAfter}
-use Rattle.wb_automata.specs.Inner.Accepted.{AreAccepted, IsAccepted}
+use Rattle.wb_automata.specs.Inner.Accepted.{AreAccepted}
+use Rattle.wb_automata.specs.Inner.Found.{Extends, Found}
 use Rattle.wb_automata_positions.proofs.StartLemmas.{rising_none}
+use Rattle.wb_automata.proofs.StateLemmas.{back_set}
 
 -- rows rise where each that is added does
 pub rising_more : (rows : List (List ℕ)) (all : List ℕ) → AreRising all → ((j : ℕ) → AreRising (row rows j)) → (j : ℕ) → AreRising
@@ -41,8 +43,11 @@ accepted_step t sets accepted set all i at exact rise h = record {
   ];
 }
 
--- the list of one set more
-pub accepted_push : {E : Type 0} (t : Tables) (set all : List ℕ) (old new : List (List ℕ)) (r : Result (Unit {0}) E) → IfOk r
-    (λ _. new ≡ old ++ all ∷ []) → AreRising all → ((k : ℕ) → Contains all k ↔ EndsAfter t set k) → IfOk r (λ _. IsAccepted t set old new)
-accepted_push t set all old new (Ok _) last rise exact = record { all = all; last = last; rising = rise; exact = exact }
-accepted_push t set all old new (Err e) last rise exact = tt
+-- lists stay where states are added
+pub accepted_extends : (t : Tables) (old new : Found) (accepted : List (List ℕ)) (i : ℕ) → i ≤ length old.sets → Extends old new
+    → AreAccepted t old.sets accepted i → AreAccepted t new.sets accepted i
+accepted_extends t old new accepted i le g h = record {
+  len = h.len;
+  rising = h.rising;
+  each = λ j k set lt at. h.each j k set lt (back_set old new j set g (omega arith) at);
+}

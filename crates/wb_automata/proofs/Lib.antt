@@ -10,6 +10,7 @@ pub mod GroupLemmas
 pub mod KeyLemmas
 pub mod LeastLemmas
 pub mod MetLemmas
+pub mod MoveLemmas
 pub mod OrderLemmas
 pub mod PlaceLemmas
 pub mod PairLemmas

@@ -19,7 +19,7 @@ use Rattle.wb_automata.proofs.PlaceLemmas.{extends_same, extends_more, place_ext
 use Rattle.wb_automata.proofs.PlaceLemmas.{NewState}
 
 -- a state that was there is as it was
-back_set : (old new : Found) (j : ℕ) (set : List ℕ) → Extends old new → j < length old.sets → slice_get new.sets j ≡ Some set
+pub back_set : (old new : Found) (j : ℕ) (set : List ℕ) → Extends old new → j < length old.sets → slice_get new.sets j ≡ Some set
     → slice_get old.sets j ≡ Some set
 back_set old new j set g lt at =
     let s : slice_get old.sets j ≡ Some (get_or old.sets j []) = slice_get-get_or old.sets j [] lt in

@@ -1,8 +1,8 @@
 -- The leaves that hold each byte, as they are gone through.
-use Rattle.std.proofs.Common.{◌≡◌, ℕ, ◌+◌, ◌-◌, ◌*◌, ◌≤◌, ◌<◌, Bool, true, false, List, [], ◌∷◌, ◌++◌, refl, sym, ◌∙◌, ap, subst, arith, ◌⊎◌, inl, inr}
-use Rattle.std.proofs.Common.{Option, Some, None, length, get_or, take, replicate}
+use Rattle.std.proofs.Common.{◌≡◌, ℕ, zero, suc, ◌+◌, ◌-◌, ◌*◌, ◌≤◌, ◌<◌, Bool, true, false, List, [], ◌∷◌, ◌++◌, refl, sym, ◌∙◌, ap, subst, arith, ◌⊎◌, inl, inr}
+use Rattle.std.proofs.Common.{Option, Some, None, add-one, append_assoc, append-nil, length, length-append, get_or, take, replicate}
 use Rattle.std.specs.Prelude.{slice_get, ◌↔◌, Contains}
-use Rattle.std.proofs.lemmas.List.{get_or-replicate, length-replicate}
+use Rattle.std.proofs.lemmas.List.{get_or_append_left, get_or-replicate, length-replicate, replicate-append-replicate}
 use Rattle.std.proofs.lemmas.Option.{slice_get-get_or, slice_get_within, same_Some}
 use Rattle.std.proofs.lemmas.Bool.{cases_lt, true≢false}
 use Rattle.wb_lemmas.proofs.Places.{at_one, at_once}
@@ -271,3 +271,48 @@ way_on t bytes old mid new i c chains ends moves news w table rising lt h e move
   row = row_moved t bytes old mid new i c h.ahead chains ends moves news w table rising lt h.ways h.row e moved;
   ways = h.ways;
 }
+
+-- there is a move then
+pub moved_some : (c : ℕ) (chains : List (List ℕ)) (ends : List ℕ) (w : Path) (old new : Found) (olds news : List (Option ℕ))
+    → get_or ends c 0 < length chains → HasMoved c chains ends w old olds new news → 0 < length news
+moved_some c chains ends w old new olds news lt moved = elim moved [
+  | inl g ↦ omega (arith, ap length g.moves, length-append olds (get_or olds (length olds - (c - g.first)) None ∷ []))
+  | inr f ↦
+      let m = f (get_or chains (get_or ends c 0) []) (slice_get-get_or chains (get_or ends c 0) [] lt) in
+      omega (arith, ap length m.moves, length-append olds (m.to ∷ []))
+]
+
+-- further bytes with the list of one lead where that one leads
+pub way_repeat : (t : Tables) (bytes : List ℕ) (old found : Found) (i first n : ℕ) (chains : List (List ℕ)) (ends : List ℕ)
+    (moves : List (Option ℕ)) → IsTable t → AreRising bytes → first + 1 + n ≤ length bytes
+    → ((k : ℕ) → first ≤ k → k < first + 1 + n → get_or ends k 0 ≡ get_or ends first 0)
+    → IsOnWay t bytes old found i moves chains ends (first + 1)
+    → IsOnWay t bytes old found i (moves ++ replicate n (get_or moves (length moves - 1) None)) chains ends (first + 1 + n)
+way_repeat t bytes old found i first zero chains ends moves table rising fits same h =
+    let e : first + 1 ≡ first + 1 + 0 = omega arith in
+    subst (λ z. IsOnWay t bytes old found i z chains ends (first + 1 + 0)) (sym (append-nil moves))
+    (subst (IsOnWay t bytes old found i moves chains ends) e h)
+way_repeat t bytes old found i first (suc n) chains ends moves table rising fits same h =
+    let o : Option ℕ = get_or moves (length moves - 1) None in
+    let all : List (Option ℕ) = moves ++ replicate n o in
+    let before : IsOnWay t bytes old found i all chains ends (first + 1 + n) = way_repeat t bytes old found i first n chains ends moves
+    table rising (omega arith) (λ k le lt. same k le (omega arith)) h in
+    let len : length moves ≡ i * length bytes + (first + 1) = h.row.are_moves.len in
+    let place : length all - (first + 1 + n - first) ≡ length moves - 1 = omega
+    (arith, length-append moves (replicate n o), length-replicate n o) in
+    let last : get_or all (length all - (first + 1 + n - first)) None ≡ o = ap (λ z. get_or all z None) place
+    ∙ get_or_append_left moves (replicate n o) None (length moves - 1) (omega arith) in
+    let more : moves ++ replicate (suc n) o ≡ all ++ o ∷ [] = ap (λ z. moves ++ z)
+    (sym (replicate-append-replicate n 1 o ∙ ap (λ z. replicate z o) (add-one n)))
+    ∙ sym (append_assoc moves (replicate n o) (o ∷ [])) in
+    let again : IsAgain (first + 1 + n) ends found all found (moves ++ replicate (suc n) o) = record {
+      first = first;
+      earlier = omega arith;
+      alike = sym (same (first + 1 + n) (omega arith) (omega arith));
+      same = refl;
+      moves = more ∙ ap (λ z. all ++ z ∷ []) (sym last);
+    } in
+    let e : first + 1 + n + 1 ≡ first + 1 + suc n = omega arith in
+    subst (IsOnWay t bytes old found i (moves ++ replicate (suc n) o) chains ends) e
+    (way_on t bytes old found found i (first + 1 + n) chains ends all (moves ++ replicate (suc n) o)
+    (on before.row.path (get_or bytes (first + 1 + n) 0)) table rising (omega arith) before refl (inl again))

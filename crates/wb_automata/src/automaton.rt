@@ -5,12 +5,8 @@
 ghost use Rattle.std.specs.Prelude.{◌≡◌, ◌<◌, ◌≤◌, ◌↔◌, ◌++◌, ◌∷◌, ℕ, [], Contains, IfOk, IfSome, IsNone, IsTrue, List, Some, length, slice_get};
 ghost use Rattle.wb_automata.specs.Automata.{IsMatch, MatchesIn, GoesOn, LeadsTo, IsOrdered, Path, most_states};
 ghost use Rattle.wb_automata_positions.specs.Rising.{AreRising};
-ghost use Rattle.wb_automata.specs.Inner.Accepted.{AreAccepted};
-ghost use Rattle.wb_automata.specs.Inner.Exploring.{AreExplored};
 ghost use Rattle.wb_automata_positions.specs.Tables.{AreTables};
-ghost use Rattle.wb_automata_positions.specs.Transitions.{IsTable};
 
-use crate::accepted::accepted_of;
 use crate::explore::{Explored, explore};
 use crate::flat_rows::FlatRows;
 use crate::moves::state_from;
@@ -188,38 +184,24 @@ fn from_tables(
     ensures sets { IfOk result (λ automaton. automaton.sets ≡ sets.now) }
 {
     let classes = classes_of(alloc, tables.nodes.as_slice())?;
-    let found = found_of(alloc, &tables, classes.firsts.as_slice())?;
+    let explored = explore(alloc, &tables, classes.firsts.as_slice())?;
     drop(tables);
     let kept = kept_of(alloc, terminals, sets)?;
-    let FoundStates { explored, accepted } = found;
+    let Explored {
+        states,
+        rows,
+        starts,
+    } = explored;
     Ok(Automaton {
         terminals: kept.terminals,
         sets: kept.sets,
-        starts: explored.starts,
+        starts,
         classes: classes.of,
         width: classes.firsts.len(),
-        moves: explored.moves.into_codes(),
-        accepted,
-        predecessors: explored.states.into_predecessors(),
+        moves: rows.moves.into_codes(),
+        accepted: rows.accepted,
+        predecessors: states.into_predecessors(),
     })
-}
-
-// The states, and what each accepts.
-#[derive(Drop)]
-struct FoundStates {
-    explored: Explored,
-    accepted: FlatRows,
-}
-
-fn found_of(alloc: Global, tables: &Tables, bytes: &[u8]) -> Result<FoundStates, AllocError>
-    requires table { IsTable tables.now }
-    requires rising { AreRising bytes.now }
-    ensures explored { IfOk result (λ f. AreExplored tables.now bytes.now f.explored.states f.explored.moves f.explored.starts.items (length tables.now.starts)) }
-    ensures accepted { IfOk result (λ f. AreAccepted tables.now f.explored.states.sets f.accepted (length f.explored.states.sets)) }
-{
-    let explored = explore(alloc, tables, bytes)?;
-    let accepted = accepted_of(alloc, tables, &explored.states)?;
-    Ok(FoundStates { explored, accepted })
 }
 
 // Copies of terminals and sets.

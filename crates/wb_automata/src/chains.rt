@@ -94,11 +94,11 @@ impl Chains {
     }
 
     // The leaves of a list.
-    pub(crate) fn list(&self, alloc: Global, number: usize) -> Result<Vec<usize>, AllocError>
+    pub(crate) fn list(&self, number: usize, all: &mut Vec<usize>) -> Result<(), AllocError>
         requires { number < length self.now }
-        ensures { IfOk result (λ all. slice_get self.now number ≡ Some all.items) }
+        ensures { IfOk result (λ _. slice_get self.now number ≡ Some all.new.items) }
     {
-        leaves_of(alloc, &self.links, number)
+        read_back(&self.links, number, all)
     }
 }
 
@@ -127,17 +127,17 @@ fn is_link(links: &[Link], at: usize, before: usize, leaf: usize) -> bool
 }
 
 // The leaves of a list, read back from its last one.
-fn leaves_of(alloc: Global, links: &[Link], number: usize) -> Result<Vec<usize>, AllocError>
+fn read_back(links: &[Link], number: usize, all: &mut Vec<usize>) -> Result<(), AllocError>
     requires links { AreLinks links.now }
     requires number { number < length (lists_of links.now) }
-    ensures { IfOk result (λ all. slice_get (lists_of links.now) number ≡ Some all.items) }
+    ensures { IfOk result (λ _. slice_get (lists_of links.now) number ≡ Some all.new.items) }
 {
-    let mut all = Vec::new(alloc);
+    all.clear();
     let mut at = number;
     'back: while at > 0 {
-        push(&mut all, links[at - 1].leaf)?;
+        push(all, links[at - 1].leaf)?;
         at = links[at - 1].before;
     }
     all.reverse();
-    Ok(all)
+    Ok(())
 }

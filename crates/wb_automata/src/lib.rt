@@ -5,7 +5,6 @@
 //! places instead: there are no more of them than the product of the sizes, where states may double with each position.
 #![tactic(auto)]
 
-mod accepted;
 mod automaton;
 mod bytes;
 mod chains;

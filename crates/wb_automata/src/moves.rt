@@ -1,6 +1,6 @@
 //! Moves from state to state, in 32 bits each.
 
-ghost use Rattle.std.specs.Prelude.{◌≡◌, ◌<◌, ◌≤◌, ◌-◌, ◌++◌, ◌∷◌, [], IfOk, None, length, map, slice_index_or};
+ghost use Rattle.std.specs.Prelude.{◌≡◌, ◌<◌, ◌≤◌, ◌-◌, ◌++◌, ◌∷◌, [], IfOk, OnOk, None, length, map, replicate, slice_index, slice_index_or};
 ghost use Rattle.wb_automata.specs.Moves.{move_at};
 
 use std::alloc::{AllocError, Global};
@@ -53,11 +53,38 @@ impl Moves {
         Ok(())
     }
 
+    // Puts the last move after the others so many times more.
+    pub(crate) fn repeat(&mut self, times: usize) -> Result<(), AllocError>
+        requires { 0 < length self.old }
+        ensures { IfOk result (λ _. self.new ≡ self.old ++ replicate times (slice_index_or self.old (length self.old - 1) None)) }
+    {
+        let code = last_of(&self.codes);
+        add_copies(&mut self.codes, code, times)?;
+        Ok(())
+    }
+
     // The codes of the moves.
     pub(crate) fn into_codes(self) -> Vec<u32>
         ensures { map move_at result.items ≡ self }
     {
         self.codes
+    }
+}
+
+fn last_of(codes: &[u32]) -> u32
+    requires { 0 < length codes.now }
+    ensures { result ≡ slice_index codes.now (length codes.now - 1) }
+{
+    codes[codes.len() - 1]
+}
+
+// Puts a code after the others, so many times.
+fn add_copies(codes: &mut Vec<u32>, code: u32, times: usize) -> Result<(), AllocError>
+    ensures { OnOk result (codes.new.items ≡ codes.old.items ++ replicate times code) }
+{
+    match codes.len().checked_add(times) {
+        Some(len) => codes.resize(len, code),
+        None => Err(AllocError),
     }
 }
 

@@ -2,18 +2,16 @@
 //!
 //! A map from sets to numbers makes it fast. Where bytes lead is in `transition`.
 
-ghost use Rattle.std.specs.Prelude.{◌≡◌, ◌<◌, ◌↔◌, [], ℕ, Contains, IfOk, IfSome, IsNone, Some, List, length, slice_get};
+ghost use Rattle.std.specs.Prelude.{◌≡◌, ◌<◌, [], Contains, IfOk, IfSome, IsNone, Some, length, slice_get};
 ghost use Rattle.wb_base.specs.Different.{Differ};
 ghost use Rattle.wb_automata.specs.Automata.{Path};
 ghost use Rattle.wb_automata.specs.Inner.Found.{IsPlaced, IsTo};
 ghost use Rattle.wb_automata.specs.Paths.{path_by, paths_of};
-ghost use Rattle.wb_automata_positions.specs.Transitions.{Ahead, IsPlaceList, IsTable, count_of};
 
 use crate::predecessor::Predecessor;
 use indexmap::IndexSet;
 use std::alloc::{AllocError, Global};
 use std::marker::Model;
-use wb_automata_positions::{Leaves, Tables, ahead_of};
 use wb_base::push;
 
 // The states that were found, and from where.
@@ -96,22 +94,6 @@ impl States {
         push(&mut self.predecessors, predecessor)?;
         self.sets.insert_full(set)?;
         Ok(state)
-    }
-
-    // What may come after the places of a state.
-    pub(crate) fn ahead(
-        &self,
-        tables: &Tables,
-        i: usize,
-        hints: &mut Vec<usize>,
-    ) -> Result<Leaves, AllocError>
-        requires table { IsTable tables.now }
-        requires state { i < length self.now.sets }
-        requires places { (j : ℕ) (set : List ℕ) → slice_get self.now.sets j ≡ Some set → IsPlaceList (count_of tables.now) set }
-        ensures exact { IfOk result (λ all. (set : List ℕ) → slice_get self.now.sets i ≡ Some set → (q : ℕ) → Contains all q ↔ Ahead tables.now set q) }
-        ensures places { IfOk result (IsPlaceList (length tables.now.nodes.items)) }
-    {
-        ahead_of(self.alloc, tables, self.at(i), hints)
     }
 
     // The state with these places, which is added if it is new, and None where there are none.

@@ -2,7 +2,7 @@
 //!
 //! The leaves are gone through once, for all bytes. Bytes that the same leaves hold share a list.
 
-ghost use Rattle.std.specs.Prelude.{◌≡◌, ◌<◌, ◌≤◌, ℕ, false, [], ◌∷◌, IfOk, IfSome, Some, length, replicate, slice_get, slice_index};
+ghost use Rattle.std.specs.Prelude.{◌≡◌, ◌<◌, ◌≤◌, ◌-◌, ℕ, false, [], ◌∷◌, IfOk, IfSome, IsTrue, OnOk, Some, length, replicate, slice_get, slice_index};
 ghost use Rattle.wb_automata_positions.specs.Leaves.{has_byte, node_holds};
 ghost use Rattle.wb_automata_positions.specs.Rising.{AreRising};
 ghost use Rattle.wb_automata_positions.specs.Transitions.{IsPlaceList};
@@ -17,9 +17,10 @@ use wb_regex::RegexNode;
 // The list of leaves of each byte, by its number.
 #[derive(Drop)]
 pub(crate) struct Ways {
-    alloc: Global,
     pub(crate) chains: Chains,
     pub(crate) ends: Vec<usize>,
+    // The leaves that hold the byte that was asked for last.
+    pub(crate) list: Vec<usize>,
     // The first byte with each list, and how many bytes are below each: they make it fast and prove nothing.
     firsts: Vec<usize>,
     ranks: Vec<usize>,
@@ -29,10 +30,10 @@ impl Ways {
     // Room for the lists of these bytes.
     pub(crate) fn new(alloc: Global, bytes: &[u8]) -> Result<Ways, AllocError> {
         Ok(Ways {
-            alloc,
             ranks: ranks_of(alloc, bytes)?,
             chains: Chains::new(alloc),
             ends: Vec::new(alloc),
+            list: Vec::new(alloc),
             firsts: Vec::new(alloc),
         })
     }
@@ -52,7 +53,8 @@ impl Ways {
         for q in ahead {
             self.pass(nodes[*q], *q, bytes)?;
         }
-        self.firsts = zeros(self.alloc, self.chains.count())?;
+        let count = self.chains.count();
+        lengthen(&mut self.firsts, count)?;
         Ok(())
     }
 
@@ -61,8 +63,8 @@ impl Ways {
         ensures chains { IfOk result (λ _. self.new.chains ≡ [] ∷ []) }
         ensures ends { IfOk result (λ _. self.new.ends.items ≡ replicate count 0) }
     {
-        self.ends = zeros(self.alloc, count)?;
         self.chains.clear();
+        set_zeros(&mut self.ends, count)?;
         Ok(())
     }
 
@@ -112,13 +114,17 @@ impl Ways {
         Ok(())
     }
 
-    // The leaves that hold a byte.
-    pub(crate) fn list(&self, c: usize) -> Result<Vec<usize>, AllocError>
-        requires within { c < length self.now.ends.items }
-        requires listed { slice_index self.now.ends.items c < length self.now.chains }
-        ensures { IfOk result (λ all. slice_get self.now.chains (slice_index self.now.ends.items c) ≡ Some all.items) }
+    // Lists the leaves that hold a byte.
+    pub(crate) fn find(&mut self, c: usize) -> Result<(), AllocError>
+        requires within { c < length self.old.ends.items }
+        requires listed { slice_index self.old.ends.items c < length self.old.chains }
+        ensures chains { self.new.chains ≡ self.old.chains }
+        ensures ends { self.new.ends ≡ self.old.ends }
+        ensures list { IfOk result (λ _. slice_get self.old.chains (slice_index self.old.ends.items c) ≡ Some self.new.list.items) }
     {
-        self.chains.list(self.alloc, self.ends[c])
+        let end = self.ends[c];
+        self.chains.list(end, &mut self.list)?;
+        Ok(())
     }
 
     // An earlier byte with the same list, where it is found.
@@ -141,10 +147,20 @@ impl Ways {
     }
 }
 
-fn zeros(alloc: Global, count: usize) -> Result<Vec<usize>, AllocError>
-    ensures { IfOk result (λ v. v.items ≡ replicate count 0) }
+// So many zeros and nothing else.
+fn set_zeros(numbers: &mut Vec<usize>, count: usize) -> Result<(), AllocError>
+    ensures { OnOk result (numbers.new.items ≡ replicate count 0) }
 {
-    vec![in alloc; 0; count]
+    numbers.clear();
+    numbers.resize(count, 0)
+}
+
+// At least so many numbers.
+fn lengthen(numbers: &mut Vec<usize>, count: usize) -> Result<(), AllocError> {
+    if numbers.len() < count {
+        numbers.resize(count, 0)?;
+    }
+    Ok(())
 }
 
 // A number from a byte's on before which the node holds none from the byte on.

@@ -1,29 +1,25 @@
 -- Classes of bytes are told apart node by node.
 use Rattle.std.proofs.Common.{◌≡◌, ℕ, zero, suc, ◌+◌, ◌≤◌, ◌<◌, List, [], ◌∷◌, ◌++◌, refl, sym, ◌∙◌, ap, subst, arith, ◌⊎◌, inl, inr, Some}
-use Rattle.std.proofs.Common.{length, get_or, length-append, replicate}
+use Rattle.std.proofs.Common.{Bool, true, false, length, get_or, length-append}
 use Rattle.std.specs.Prelude.{slice_get}
-use Rattle.std.proofs.lemmas.List.{get_or_append_left, get_or_push, get_or-replicate, length-replicate}
+use Rattle.std.proofs.lemmas.List.{get_or_append_left, get_or_push}
 use Rattle.std.proofs.lemmas.Option.{same_Some}
 use Rattle.std.proofs.lemmas.Bool.{cases_lt}
 use Rattle.wb_regex.specs.declared.node.RegexNode.{RegexNode}
 use Rattle.wb_automata_positions.specs.Leaves.{node_holds}
 use Rattle.wb_automata_positions.specs.Rising.{AreRising}
 use Rattle.wb_automata_positions.specs.Classes.{AreClasses}
-use Rattle.wb_automata_positions.specs.Inner.ClassPasses.{IsClassOf, ClassPass, KeepsClasses}
+use Rattle.wb_automata_positions.specs.Inner.ClassPasses.{AreKeys, ClassPass, IsClassOf, IsRefined, IsRepeated, KeepsClasses, key_of}
 
--- before the first node all bytes are in one class
-pub classes_begin : (nodes : List RegexNode) (classes firsts : List ℕ) → classes ≡ replicate 256 0 → firsts ≡ 0 ∷ []
-    → AreClasses nodes classes firsts 0
-classes_begin nodes classes firsts e f = record {
-  len = ap length e ∙ length-replicate {A = ℕ} 256 0;
-  below = λ b lt. omega (arith, zero_at b lt, ap length f);
-  first = λ b lt. rw (zero_at b lt, f) (omega arith);
-  alike = λ b lt p node less. absurd (omega arith);
-  rising = λ i j lt below. absurd (omega (arith, ap length f));
+-- before the first node any bytes may be in one class
+pub classes_begin : (nodes : List RegexNode) (keys new firsts : List ℕ) → ClassPass keys new firsts 256 → AreClasses nodes new firsts 0
+classes_begin nodes keys new firsts p = record {
+  len = p.len;
+  below = p.below;
+  first = p.first;
+  alike = λ b lt q node less. absurd (omega arith);
+  rising = p.rising;
 }
-  where
-    zero_at : (b : ℕ) → b < 256 → get_or classes b 0 ≡ 0
-    zero_at b lt = ap (λ xs. get_or xs b 0) e ∙ get_or-replicate 256 b 0 0 lt
 
 -- the first bytes stay, and a new one is the byte
 pub record FirstsKept (old new : List ℕ) (b : ℕ) : Type 0 where
@@ -32,11 +28,11 @@ pub record FirstsKept (old new : List ℕ) (b : ℕ) : Type 0 where
   pub small : (k : ℕ) → k < length new → get_or new k 0 < b + 1
   pub rising : AreRising new
 
-firsts_kept : (node : RegexNode) (old new : List ℕ) (b : ℕ) → ((k : ℕ) → k < length old → get_or old k 0 < b) → AreRising old →
+firsts_kept : (old new : List ℕ) (b : ℕ) → ((k : ℕ) → k < length old → get_or old k 0 < b) → AreRising old →
     (new ≡ old) ⊎ (new ≡ old ++ b ∷ []) → FirstsKept old new b
-firsts_kept node old new b small rising (inl e) = subst (λ z. FirstsKept old z b) (sym e)
+firsts_kept old new b small rising (inl e) = subst (λ z. FirstsKept old z b) (sym e)
     (record { kept = λ k lt. refl; len = omega arith; small = λ k lt. omega (arith, small k lt); rising = rising })
-firsts_kept node old new b small rising (inr e) = subst (λ z. FirstsKept old z b) (sym e) (record {
+firsts_kept old new b small rising (inr e) = subst (λ z. FirstsKept old z b) (sym e) (record {
   kept = λ k lt. get_or_append_left old (b ∷ []) 0 k lt;
   len = omega (arith, length-append old (b ∷ []));
   small = λ k lt. elim (cases_lt k (length old)) [
@@ -56,9 +52,9 @@ firsts_kept node old new b small rising (inr e) = subst (λ z. FirstsKept old z 
         (sym e) (get_or_push old b 0 (length old) refl)
 
 -- one byte more has its class
-pub class_step : (node : RegexNode) (old of firsts new : List ℕ) (b class : ℕ) → ClassPass node old of firsts b
-    → IsClassOf node old firsts new b class → ClassPass node old (of ++ class ∷ []) new (b + 1)
-class_step node old of firsts new b class h c = record {
+pub class_step : (keys of firsts new : List ℕ) (b class : ℕ) → ClassPass keys of firsts b
+    → IsClassOf keys firsts new b class → ClassPass keys (of ++ class ∷ []) new (b + 1)
+class_step keys of firsts new b class h c = record {
   len = omega (arith, h.len, length-append of (class ∷ []));
   below = λ d lt. elim (cases_lt d b) [
     | inl less ↦ omega (arith, before d less, h.below d less, k.len)
@@ -70,18 +66,14 @@ class_step node old of firsts new b class h c = record {
   ];
   same = λ d lt. elim (cases_lt d b) [
     | inl less ↦ rw (before d less, k.kept (get_or of d 0) (h.below d less)) (h.same d less)
-    | inr past ↦ rw (last d lt past) (c.same ∙ ap (λ z. get_or old z 0) (let e : b ≡ d = omega arith in e))
-  ];
-  holds = λ d lt. elim (cases_lt d b) [
-    | inl less ↦ rw (before d less, k.kept (get_or of d 0) (h.below d less)) (h.holds d less)
-    | inr past ↦ rw (last d lt past) (c.holds ∙ ap (node_holds node) (let e : b ≡ d = omega arith in e))
+    | inr past ↦ rw (last d lt past) (c.same ∙ ap (λ z. get_or keys z 0) (let e : b ≡ d = omega arith in e))
   ];
   small = k.small;
   rising = k.rising;
 }
   where
     k : FirstsKept firsts new b
-    k = firsts_kept node firsts new b h.small h.rising c.change
+    k = firsts_kept firsts new b h.small h.rising c.change
 
     before : (d : ℕ) → d < b → get_or (of ++ class ∷ []) d 0 ≡ get_or of d 0
     before d less = get_or_append_left of (class ∷ []) 0 d (omega (arith, h.len))
@@ -90,25 +82,48 @@ class_step node old of firsts new b class h c = record {
     last d lt past =
         let e : d ≡ b = omega arith in subst (λ z. get_or (of ++ class ∷ []) z 0 ≡ class) (sym e) (get_or_push of class 0 b h.len)
 
+-- a key tells the class, and whether it is held
+key_parts : (c d : ℕ) (x y : Bool) → key_of c x ≡ key_of d y → (c ≡ d) × (x ≡ y)
+key_parts c d true true e = (omega arith, refl)
+key_parts c d true false e = absurd (omega arith)
+key_parts c d false true e = absurd (omega arith)
+key_parts c d false false e = (omega arith, refl)
+
 -- one node more
 pub classes_step : (nodes : List RegexNode) (node : RegexNode) (old firsts new news : List ℕ) (i : ℕ) → slice_get nodes i ≡ Some node
-    → AreClasses nodes old firsts i → ClassPass node old new news 256 → AreClasses nodes new news (i + 1)
-classes_step nodes node old firsts new news i at h p = record {
+    → AreClasses nodes old firsts i → IsRefined node old new news → AreClasses nodes new news (i + 1)
+classes_step nodes node old firsts new news i at h r = record {
   len = p.len;
   below = p.below;
   first = p.first;
   alike = λ b lt q other less here.
       let f : ℕ = get_or news (get_or new b 0) 0 in
       let small : f < 256 = p.small (get_or new b 0) (p.below b lt) in
+      let (same, holds) = parts b lt in
       elim (cases_lt q i) [
-        | inl early ↦ h.alike b lt q other early here ∙ ap (λ z. node_holds other (get_or firsts z 0)) (sym (p.same b lt)) ∙ sym
+        | inl early ↦ h.alike b lt q other early here ∙ ap (λ z. node_holds other (get_or firsts z 0)) (sym same) ∙ sym
             (h.alike f small q other early here)
         | inr past ↦
             let e : node ≡ other = same_Some node other (sym at ∙ ap (slice_get nodes) (let g : i ≡ q = omega arith in g) ∙ here) in
-            subst (λ z. node_holds z b ≡ node_holds z f) e (sym (p.holds b lt))
+            subst (λ z. node_holds z b ≡ node_holds z f) e (sym holds)
       ];
   rising = p.rising;
 }
+  where
+    p : ClassPass r.keys new news 256
+    p = r.pass
+
+    parts : (b : ℕ) → b < 256 → (get_or old (get_or news (get_or new b 0) 0) 0 ≡ get_or old b 0)
+        × (node_holds node (get_or news (get_or new b 0) 0) ≡ node_holds node b)
+    parts b lt =
+        let f : ℕ = get_or news (get_or new b 0) 0 in
+        key_parts (get_or old f 0) (get_or old b 0) (node_holds node f) (node_holds node b)
+        (sym (r.are_keys.each f (p.small (get_or new b 0) (p.below b lt))) ∙ p.same b lt ∙ r.are_keys.each b lt)
+
+-- a node that came before tells no bytes of a class apart
+pub repeated_keeps : (nodes : List RegexNode) (node : RegexNode) (classes firsts : List ℕ) (i : ℕ) → slice_get nodes i ≡ Some node
+    → AreClasses nodes classes firsts i → IsRepeated nodes i → KeepsClasses node classes firsts 256
+repeated_keeps nodes node classes firsts i at h r b lt = h.alike b lt r.first node r.earlier (r.same ∙ at)
 
 -- one node more, which tells no bytes of a class apart
 pub classes_stay : (nodes : List RegexNode) (node : RegexNode) (classes firsts : List ℕ) (i : ℕ) → slice_get nodes i ≡ Some node
@@ -133,8 +148,22 @@ rising_place xs (suc k) rise lt = (let h = rising_place xs k rise (omega arith) 
     (suc k) (omega arith) lt in omega arith)
 
 -- so classes fit a byte
-pub class_fits : (node : RegexNode) (old new firsts later : List ℕ) (b class : ℕ) → b < 256 → ClassPass node old new firsts b
-    → IsClassOf node old firsts later b class → class < 256
-class_fits node old new firsts later b class lt h is =
-    let p = class_step node old new firsts later b class h is in
+pub class_fits : (keys new firsts later : List ℕ) (b class : ℕ) → b < 256 → ClassPass keys new firsts b
+    → IsClassOf keys firsts later b class → class < 256
+class_fits keys new firsts later b class lt h is =
+    let p = class_step keys new firsts later b class h is in
     (let le = rising_place later class p.rising is.within in let small = p.small class is.within in omega arith)
+
+-- one key more
+pub keys_more : (node : RegexNode) (classes keys : List ℕ) (b key : ℕ) → AreKeys node classes keys b
+    → key ≡ key_of (get_or classes b 0) (node_holds node b) → AreKeys node classes (keys ++ key ∷ []) (b + 1)
+keys_more node classes keys b key h e = record {
+  len = omega (arith, h.len, length-append keys (key ∷ []));
+  each = λ c lt. elim (cases_lt c b) [
+    | inl less ↦ get_or_append_left keys (key ∷ []) 0 c (omega (arith, h.len)) ∙ h.each c less
+    | inr past ↦
+        let same : c ≡ b = omega arith in
+        subst (λ z. get_or (keys ++ key ∷ []) z 0 ≡ key_of (get_or classes z 0) (node_holds node z)) (sym same)
+        (get_or_push keys key 0 b h.len ∙ e)
+  ];
+}

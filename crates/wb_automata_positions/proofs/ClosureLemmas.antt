@@ -229,14 +229,13 @@ closure_exact t set mid met a h d = (
 )
 
 -- leaves are places of nodes
-pub leaf_places : {E : Type 0} (nodes : List RegexNode) (met : List ℕ) (r : Result (List ℕ) E) → IfOk r
-    (λ all. (q : ℕ) → Contains all q ↔ (IsLeaf nodes q × Contains met q)) → IfOk r AreRising → IfOk r (IsPlaceList (length nodes))
-leaf_places nodes met (Ok all) is rise = record {
+pub leaf_places : (nodes : List RegexNode) (met all : List ℕ) → ((q : ℕ) → Contains all q ↔ (IsLeaf nodes q × Contains met q))
+    → AreRising all → IsPlaceList (length nodes) all
+leaf_places nodes met all is rise = record {
   below = all_from_contained (λ p. p < length nodes) all
       (λ q has. let (leaf, there) = (is q).0 has in slice_get_within nodes q (n.Set leaf.words) leaf.at);
   rising = rise;
 }
-leaf_places nodes met (Err e) is rise = tt
 
 pub adds_pushed : {E : Type 0} (old new : List ℕ) (x : ℕ) (r : Result (Unit {0}) E) → IfOk r (λ _. new ≡ old ++ x ∷ []) → IfOk r
     (λ _. Adds (λ d. d ≡ x) old new)

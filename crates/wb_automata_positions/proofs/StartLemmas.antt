@@ -1,5 +1,5 @@
 -- The lists of starts of the sets.
-use Rattle.std.proofs.Common.{◌≡◌, ℕ, ◌+◌, ◌<◌, Bool, List, [], ◌∷◌, ◌++◌, refl, sym, ◌∙◌, ap, subst, arith, inl, inr, Some, length, get_or}
+use Rattle.std.proofs.Common.{◌≡◌, ℕ, ◌+◌, ◌≤◌, ◌<◌, Bool, List, [], ◌∷◌, ◌++◌, refl, sym, ◌∙◌, ap, subst, arith, inl, inr, Some, length, get_or}
 use Rattle.std.proofs.Common.{length-append}
 use Rattle.std.specs.Prelude.{slice_get, Contains, ◌↔◌}
 use Rattle.std.proofs.lemmas.Bool.{cases_lt, cases_eq}
@@ -55,17 +55,25 @@ start_more n flags places k has h = record {
   rising = rising_push places (n + k) h.rising (λ y is. let s = (h.exact y).0 is in let lt = s.below in let place = s.place in omega arith);
 }
 
-pub start_skip : (n : ℕ) (flags : List Bool) (places : List ℕ) (k : ℕ) → (IsMember flags k → ⊥) → StartPass n flags places k
-    → StartPass n flags places (k + 1)
-start_skip n flags places k none h = record {
+-- none of the numbers from one to another is in the set
+pub start_skip : (n : ℕ) (flags : List Bool) (places : List ℕ) (k l : ℕ) → k ≤ l → ((m : ℕ) → k ≤ m → m < l → ¬ IsMember flags m)
+    → StartPass n flags places k → StartPass n flags places l
+start_skip n flags places k l le none h = record {
   exact = λ p. (
     λ is. let s = (h.exact p).0 is in let lt = s.below in record { number = s.number; below = omega arith; is = s.is; place = s.place },
     λ s. elim (cases_lt s.number k) [
       | inl less ↦ (h.exact p).1 (record { number = s.number; below = less; is = s.is; place = s.place })
-      | inr past ↦ (let lt = s.below in let e : s.number ≡ k = omega arith in absurd (none (subst (IsMember flags) e s.is)))
+      | inr past ↦ absurd (none s.number past s.below s.is)
     ],
   );
   rising = h.rising;
+}
+
+-- no number is gone through yet
+pub start_none : (n : ℕ) (flags : List Bool) → StartPass n flags [] 0
+start_none n flags = record {
+  exact = λ p. (λ (k, lt, at). absurd (omega arith), λ s. let lt = s.below in absurd (omega arith));
+  rising = rising_none;
 }
 
 pub start_places : (n : ℕ) (flags : List Bool) (places : List ℕ) (k : ℕ) → StartPass n flags places k → IsPlaceList (n + k) places

@@ -16,42 +16,64 @@ use crate::tables::Tables;
 use std::alloc::{AllocError, Global};
 use wb_regex::RegexNode;
 
-/// The leaves that may be read next after these leaves and starts, in order.
+// From this number on nothing is noted.
+const LIMIT: usize = 4294967295;
+
+/// What comes after some leaves and starts: the leaves that may be read next, and the expressions that may end, both in order.
 ///
-/// The hints are those of `hints_of`, or any: what they are changes only the time.
-pub fn ahead_of(
-    alloc: Global,
-    tables: &Tables,
-    set: &[usize],
-    hints: &mut Vec<usize>,
-) -> Result<Leaves, AllocError>
-    requires table { IsTable tables.now }
-    requires set { All (λ p. p < count_of tables.now) set.now }
-    ensures exact { IfOk result (λ all. (q : ℕ) → Contains all q ↔ Ahead tables.now set.now q) }
-    ensures places { IfOk result (IsPlaceList (length tables.now.nodes.items)) }
-{
-    let met = closure(alloc, tables, set, hints)?;
-    leaves_among(alloc, tables.nodes.as_slice(), met.as_slice())
+/// Its lists are used again from set to set.
+pub struct Following {
+    hints: Vec<u32>,
+    met: Leaves,
+    pub ahead: Leaves,
+    pub ends: Leaves,
 }
 
-/// The expressions that may end after these leaves and starts, in order.
-pub fn ends_after(
-    alloc: Global,
-    tables: &Tables,
-    set: &[usize],
-    hints: &mut Vec<usize>,
-) -> Result<Leaves, AllocError>
-    requires table { IsTable tables.now }
-    requires set { All (λ p. p < count_of tables.now) set.now }
-    ensures exact { IfOk result (λ all. (k : ℕ) → Contains all k ↔ EndsAfter tables.now set.now k) }
-    ensures rising { IfOk result AreRising }
-{
-    let met = closure(alloc, tables, set, hints)?;
-    ends_among(alloc, tables.nodes.len(), met.as_slice())
+impl Following {
+    /// Room for what comes after sets of these tables.
+    pub fn new(alloc: Global, tables: &Tables) -> Result<Following, AllocError> {
+        Ok(Following {
+            hints: hints_of(alloc, tables)?,
+            met: Leaves::new(alloc),
+            ahead: Leaves::new(alloc),
+            ends: Leaves::new(alloc),
+        })
+    }
+
+    /// Finds what comes after these leaves and starts.
+    pub fn find(&mut self, tables: &Tables, set: &[usize]) -> Result<(), AllocError>
+        requires table { IsTable tables.now }
+        requires set { All (λ p. p < count_of tables.now) set.now }
+        ensures ahead { IfOk result (λ _. (q : ℕ) → Contains self.new.ahead q ↔ Ahead tables.now set.now q) }
+        ensures places { IfOk result (λ _. IsPlaceList (length tables.now.nodes.items) self.new.ahead) }
+        ensures ends { IfOk result (λ _. (k : ℕ) → Contains self.new.ends k ↔ EndsAfter tables.now set.now k) }
+        ensures rising { IfOk result (λ _. AreRising self.new.ends) }
+    {
+        closure(tables, set, &mut self.hints, &mut self.met)?;
+        leaves_among(
+            tables.nodes.as_slice(),
+            self.met.as_slice(),
+            &mut self.ahead,
+        )?;
+        ends_among(tables.nodes.len(), self.met.as_slice(), &mut self.ends)?;
+        Ok(())
+    }
 }
 
-/// Hints for the places of the tables.
-pub fn hints_of(alloc: Global, tables: &Tables) -> Result<Vec<usize>, AllocError> {
+impl Drop for Following {
+    fn drop(self) {
+        let Following {
+            hints,
+            met: _,
+            ahead: _,
+            ends: _,
+        } = self;
+        drop(hints);
+    }
+}
+
+// Hints for the places of the tables.
+fn hints_of(alloc: Global, tables: &Tables) -> Result<Vec<u32>, AllocError> {
     let nodes = tables.nodes.len();
     match nodes.checked_add(nodes) {
         None => Err(AllocError),
@@ -61,31 +83,26 @@ pub fn hints_of(alloc: Global, tables: &Tables) -> Result<Vec<usize>, AllocError
 
 // The places to which one comes from a set without reading.
 fn closure(
-    alloc: Global,
     tables: &Tables,
     set: &[usize],
-    hints: &mut Vec<usize>,
-) -> Result<Leaves, AllocError>
+    hints: &mut Vec<u32>,
+    met: &mut Leaves,
+) -> Result<(), AllocError>
     requires table { IsTable tables.now }
     requires set { All (λ p. p < count_of tables.now) set.now }
-    ensures { IfOk result (λ met. (d : ℕ) → Contains met d ↔ IsReached tables.now set.now d) }
+    ensures { IfOk result (λ _. (d : ℕ) → Contains met.new d ↔ IsReached tables.now set.now d) }
 {
-    let mut met = Leaves::new(alloc);
-    meet_entries(tables, set, hints, &mut met)?;
-    close(
-        tables.nodes.as_slice(),
-        tables.next.as_slice(),
-        hints,
-        &mut met,
-    )?;
-    Ok(met)
+    met.clear();
+    meet_entries(tables, set, hints, met)?;
+    close(tables.nodes.as_slice(), tables.next.as_slice(), hints, met)?;
+    Ok(())
 }
 
 // Meets the places where one goes on after these leaves and starts.
 fn meet_entries(
     tables: &Tables,
     set: &[usize],
-    hints: &mut Vec<usize>,
+    hints: &mut Vec<u32>,
     met: &mut Leaves,
 ) -> Result<(), AllocError>
     requires table { IsTable tables.now }
@@ -113,7 +130,7 @@ fn entry_of(tables: &Tables, p: usize) -> usize
 fn close(
     nodes: &[RegexNode],
     next: &[usize],
-    hints: &mut Vec<usize>,
+    hints: &mut Vec<u32>,
     met: &mut Leaves,
 ) -> Result<(), AllocError>
     requires len { length next.now ≡ length nodes.now }
@@ -130,7 +147,7 @@ fn close(
 }
 
 // Meets where a place goes on without reading.
-fn meet_next(place: Place, hints: &mut Vec<usize>, met: &mut Leaves) -> Result<(), AllocError>
+fn meet_next(place: Place, hints: &mut Vec<u32>, met: &mut Leaves) -> Result<(), AllocError>
     ensures { IfOk result (λ _. Adds (GoesOn place) met.old met.new) }
 {
     match place {
@@ -146,38 +163,43 @@ fn meet_next(place: Place, hints: &mut Vec<usize>, met: &mut Leaves) -> Result<(
 }
 
 // Puts a place after the others, unless it is known that it is there.
-fn meet(place: usize, hints: &mut Vec<usize>, met: &mut Leaves) -> Result<(), AllocError>
+fn meet(place: usize, hints: &mut Vec<u32>, met: &mut Leaves) -> Result<(), AllocError>
     ensures { IfOk result (λ _. Adds (λ d. d ≡ place) met.old met.new) }
 {
     if is_met(place, hints, met.as_slice()) {
         return Ok(());
     }
-    if place < hints.len() {
-        hints[place] = met.as_slice().len();
-    }
+    note(hints, place, met.as_slice().len());
     met.push(place)
 }
 
+// Notes where a place is met, if there is room for it.
+fn note(hints: &mut Vec<u32>, place: usize, at: usize) {
+    if place < hints.len() && at < LIMIT {
+        hints[place] = at as u32;
+    }
+}
+
 // Whether the hint of a place leads to it.
-fn is_met(place: usize, hints: &[usize], met: &[usize]) -> bool
+fn is_met(place: usize, hints: &[u32], met: &[usize]) -> bool
     ensures { IsTrue result → Contains met.now place }
 {
     if place >= hints.len() {
         return false;
     }
-    let at = hints[place];
+    let at = hints[place] as usize;
     at < met.len() && met[at] == place
 }
 
 // The leaves among some places, in order.
-fn leaves_among(alloc: Global, nodes: &[RegexNode], met: &[usize]) -> Result<Leaves, AllocError>
-    ensures exact { IfOk result (λ all. (q : ℕ) → Contains all q ↔ (IsLeaf nodes.now q × Contains met.now q)) }
-    ensures rising { IfOk result AreRising }
+fn leaves_among(nodes: &[RegexNode], met: &[usize], all: &mut Leaves) -> Result<(), AllocError>
+    ensures exact { IfOk result (λ _. (q : ℕ) → Contains all.new q ↔ (IsLeaf nodes.now q × Contains met.now q)) }
+    ensures rising { IfOk result (λ _. AreRising all.new) }
 {
-    let mut all = Leaves::new(alloc);
-    add_leaves(nodes, met, &mut all)?;
+    all.clear();
+    add_leaves(nodes, met, all)?;
     all.sort();
-    Ok(all)
+    Ok(())
 }
 
 fn add_leaves(nodes: &[RegexNode], met: &[usize], all: &mut Leaves) -> Result<(), AllocError>
@@ -211,15 +233,15 @@ fn is_set(node: RegexNode) -> bool
 }
 
 // The expressions whose ends are among some places, in order.
-fn ends_among(alloc: Global, count: usize, met: &[usize]) -> Result<Leaves, AllocError>
+fn ends_among(count: usize, met: &[usize], all: &mut Leaves) -> Result<(), AllocError>
     requires { count + count < 2 ^ 64 }
-    ensures exact { IfOk result (λ all. (k : ℕ) → Contains all k ↔ Contains met.now (count + count + k)) }
-    ensures rising { IfOk result AreRising }
+    ensures exact { IfOk result (λ _. (k : ℕ) → Contains all.new k ↔ Contains met.now (count + count + k)) }
+    ensures rising { IfOk result (λ _. AreRising all.new) }
 {
-    let mut all = Leaves::new(alloc);
-    add_ends(count + count, met, &mut all)?;
+    all.clear();
+    add_ends(count + count, met, all)?;
     all.sort();
-    Ok(all)
+    Ok(())
 }
 
 // Adds the numbers that some places have from one on.

@@ -15,7 +15,7 @@ mod terminals;
 mod transition;
 
 pub use classes::{Classes, classes_of};
-pub use closure::{ahead_of, ends_after, hints_of};
+pub use closure::Following;
 pub use places::{Place, Places, places_of};
 pub use rows::{Leaves, Rows};
 pub use tables::{Tables, tables_of};

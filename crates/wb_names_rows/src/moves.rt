@@ -65,7 +65,7 @@ pub(crate) fn moved_nodes(
     requires { All (NodeIsWithin moves.now) nodes.now }
     ensures { IfOk result (λ made. AllZip (IsNodeNow moves.now) nodes.now made) }
 {
-    let mut made = Vec::new(alloc);
+    let mut made = Vec::with_capacity(alloc, nodes.len())?;
     for node in nodes {
         let found = moved_node(alloc, moves, node)?;
         push(&mut made, found)?;
@@ -108,7 +108,7 @@ pub fn moved_equations(
     requires { All (EquationIsWithin moves.now) equations.now }
     ensures { IfOk result (λ made. AllZip (IsEquationNow moves.now) equations.now made.items) }
 {
-    let mut made = Vec::new(alloc);
+    let mut made = Vec::with_capacity(alloc, equations.len())?;
     for equation in equations {
         let found = moved_equation(alloc, moves, equation)?;
         push(&mut made, found)?;
@@ -138,7 +138,7 @@ pub fn moved_locals(
     requires { All (LocalIsWithin moves.now) locals.now }
     ensures { IfOk result (λ made. AllZip (IsLocalNow moves.now) locals.now made.items) }
 {
-    let mut made = Vec::new(alloc);
+    let mut made = Vec::with_capacity(alloc, locals.len())?;
     for local in locals {
         let found = moved_local(alloc, moves, local)?;
         push(&mut made, found)?;
@@ -182,7 +182,7 @@ pub fn moved_children(
     requires { All (λ c. ChildKindIsWithin moves.now c.kind) children.now }
     ensures { IfOk result (λ made. AllZip (IsChildNow moves.now) children.now made) }
 {
-    let mut made = Vec::new(alloc);
+    let mut made = Vec::with_capacity(alloc, children.len())?;
     for child in children {
         let found = moved_child(moves, child)?;
         push(&mut made, found)?;

@@ -3,6 +3,7 @@ use Rattle.std.specs.Prelude.{◌≡◌, ◌<◌, ◌≤◌, ◌↔◌, ◌+◌,
 use Rattle.wb_regex.specs.declared.node.RegexNode.{RegexNode}
 use Rattle.wb_automata_positions.specs.Leaves.{holds_of, node_holds}
 use Rattle.wb_automata_positions.specs.Rising.{AreRising}
+use Rattle.wb_automata_positions.specs.Transitions.{Ahead, IsPlaceList}
 use Rattle.wb_automata.specs.Automata.{Path}
 use Rattle.wb_automata_positions.specs.declared.tables.Tables.{Tables}
 use Rattle.wb_automata.specs.Inner.Found.{Found, IsTo}
@@ -23,6 +24,13 @@ pub record AreWays (nodes : List RegexNode) (bytes leaves : List ℕ) (chains : 
   pub listed : AreListed chains ends (length bytes)
   pub each : (c : ℕ) (list : List ℕ) → c < length bytes → slice_get chains (slice_index ends c) ≡ Some list
       → IsWay nodes (slice_index bytes c) (take k leaves) list
+
+-- the leaves of a list may come next after the set, and each byte has a list of those of them that hold it
+pub record AreReady (t : Tables) (bytes set : List ℕ) (chains : List (List ℕ)) (ends : List ℕ) : Type 0 where
+  pub ahead : List ℕ
+  pub is : (q : ℕ) → Contains ahead q ↔ Ahead t set q
+  pub places : IsPlaceList (length t.nodes.items) ahead
+  pub ways : AreWays t.nodes.items bytes ahead chains ends (length ahead)
 
 -- the list of one byte has a leaf more, and those of others are as they were
 pub record IsPut (c q : ℕ) (old : List (List ℕ)) (olds : List ℕ) (new : List (List ℕ)) (news : List ℕ) : Type 0 where

@@ -1,53 +1,36 @@
-use Rattle.std.proofs.Common.{◌≡◌, ◌∙◌, [], ◌∷◌, ◌++◌, sym, ap, arith, ℕ, get_or, length, Some}
-use Rattle.std.specs.Prelude.{slice_get}
-use Rattle.wb_automata.specs.Automata.{Path}
-use Rattle.wb_automata.specs.Inner.Found.{on}
-use Rattle.wb_automata.specs.Paths.{path_on}
-use Rattle.wb_automata.proofs.StateLemmas.{row_begin, row_end}
-use Rattle.wb_automata.proofs.WayLemmas.{way_on}
+use Rattle.std.proofs.Common.{◌∙◌, ◌+◌, ℕ, arith, subst, sym}
+use Rattle.std.specs.Prelude.{Contains, ◌↔◌}
+use Rattle.std.proofs.lemmas.Option.{same_Some}
+use Rattle.wb_automata_positions.specs.Transitions.{Ahead}
+use Rattle.wb_automata.specs.Inner.Accepted.{AreAccepted}
+use Rattle.wb_automata.proofs.AcceptedLemmas.{accepted_extends, accepted_step}
+use Rattle.wb_automata.proofs.StateLemmas.{row_begin}
 use Rattle.wb_automata.proofs.explore.row_of.Goals as goal
 
-pub ahead-requires-clause-places : goal.ahead-requires-clause-places
-ahead-requires-clause-places c = c.requires.before.found_ok.places
+pub follow-requires-clause-set : goal.follow-requires-clause-set
+follow-requires-clause-set c = c.requires.before.found_ok.places c.args.i c.at.result.now c.at.ensures
 
-pub read-requires-clause-places : goal.read-requires-clause-places
-read-requires-clause-places c = rw (c.as_slice-leaves.ensures, c.as_slice.ensures.value) c.in_ok-ahead.ensures.places
+pub move_on-requires-clause-before : goal.move_on-requires-clause-before
+move_on-requires-clause-before c =
+    let r = c.in_ok-follow.ensures.ready in
+    record {
+      ahead = r.ahead;
+      row = row_begin c.args.tables.now c.args.bytes.now c.args.states.now c.args.rows.now.moves c.args.i r.ahead c.requires.before
+          c.requires.within
+          (λ set at. subst (λ z. (q : ℕ) → Contains r.ahead q ↔ Ahead c.args.tables.now z q)
+          (same_Some c.at.result.now set (sym c.at.ensures ∙ at)) r.is) r.places;
+      ways = r.ways;
+    }
 
-pub set_of-set-requires : goal.set_of-set-requires
-set_of-set-requires c = omega (arith, c.requires.before.found_ok.len, c.requires.within)
+pub returns-clause-rows : goal.returns-clause-rows
+returns-clause-rows c = c.in_ok-move_on.ensures
 
-pub loop-c-init : goal.loop-c-init
-loop-c-init c = record {
-  ahead = c.in_ok-ahead.ahead;
-  row = row_begin c.args.tables.now c.args.bytes.now c.args.states.now c.args.moves.now c.args.i c.in_ok-ahead.ahead
-      c.requires.before c.requires.within c.in_ok-ahead.ensures.exact c.in_ok-ahead.ensures.places;
-  ways = rw (c.as_slice-leaves.ensures, c.as_slice.ensures.value) at c.in_ok-read.ensures;
-}
-
-pub move_by-requires-clause-within : goal.move_by-requires-clause-within
-move_by-requires-clause-within c = omega (arith, c.loop-c.invariant.ways.listed.len)
-
-pub move_by-requires-clause-listed : goal.move_by-requires-clause-listed
-move_by-requires-clause-listed c = c.loop-c.invariant.ways.listed.below c.loop-c.c (omega arith)
-
-pub move_by-requires-clause-moves : goal.move_by-requires-clause-moves
-move_by-requires-clause-moves c = omega (arith, c.loop-c.invariant.row.are_moves.len)
-
-pub loop-c-preserved : goal.loop-c-preserved
-loop-c-preserved c =
-    let h = c.loop-c.invariant.row in
-    let b : ℕ = get_or c.args.bytes.now c.loop-c.c 0 in
-    let first : slice_get c.args.states.now.paths c.args.i ≡ Some h.path = (let ready = c.requires.before.ready c.requires.within in
-    ready.at_path ∙ sym (h.extends.paths c.args.i ready.path ready.at_path) ∙ h.at_path) in
-    let set : c.set_of-set.result ≡ h.path.set = c.set_of-set.ensures h.path first in
-    let w : Path = path_on (slice_get c.loop-c.states.paths c.args.i) c.set_of-set.result b in
-    let e : w ≡ on h.path b = ap (λ z. path_on z c.set_of-set.result b) h.at_path ∙ ap
-    (λ z. record { set = z; text = h.path.text ++ b ∷ [] }) set in
-    rw (c.move_by.ensures.chains, c.move_by.ensures.ends)
-    (way_on c.args.tables.now c.args.bytes.now c.args.states.now c.loop-c.states c.move_by.new.states c.args.i c.loop-c.c
-    c.loop-c.room.ways.chains c.loop-c.room.ways.ends.items c.loop-c.moves c.move_by.new.moves w
-    c.requires.table c.requires.rising (omega arith) c.loop-c.invariant e c.in_ok-move_by.ensures.moved)
-
-pub returns : goal.returns
-returns c = row_end c.args.tables.now c.args.bytes.now c.args.states.now c.loop-c.states c.args.i c.loop-c.invariant.ahead
-    c.loop-c.moves c.loop-c.c (λ k less. omega (arith, c.type_inv.bytes k)) (omega arith) c.loop-c.invariant.row
+pub returns-clause-accepted : goal.returns-clause-accepted
+returns-clause-accepted c =
+    let t = c.args.tables.now in
+    let old = c.args.states.now in
+    let a = c.in_ok-follow.ensures.accepted in
+    let within = c.requires.within in
+    accepted_extends t old c.move_on.new.states c.follow.new.accepted (c.args.i + 1) (omega arith) c.in_ok-move_on.ensures.extends
+    (subst (λ z. AreAccepted t old.sets z (c.args.i + 1)) (sym a.last)
+    (accepted_step t old.sets c.args.rows.now.accepted c.at.result.now a.all c.args.i c.at.ensures a.exact a.rising c.requires.accepted))

@@ -1,5 +1,0 @@
-use Rattle.wb_automata_positions.specs.Inner.ClassPasses.{ClassPass}
-use Rattle.wb_automata_positions.proofs.classes.refined.Given as goal
-
-abbrev pub invariant-loop-b : goal.invariant-loop-b
-invariant-loop-b l = ClassPass l.node l.classes l.of.items l.firsts.items l.b

@@ -1,5 +1,0 @@
-use Rattle.wb_automata_positions.specs.Inner.Starts.{AreStarts}
-use Rattle.wb_automata_positions.proofs.terminals.starts_of.Given as goal
-
-abbrev pub invariant-loop-set : goal.invariant-loop-set
-invariant-loop-set l = AreStarts l.n l.count l.sets l.starts l.set-index
