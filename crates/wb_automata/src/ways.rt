@@ -2,7 +2,7 @@
 //!
 //! The leaves are gone through once, for all bytes. Bytes that the same leaves hold share a list.
 
-ghost use Rattle.std.specs.Prelude.{◌≡◌, ◌<◌, ◌≤◌, ◌-◌, ℕ, false, [], ◌∷◌, IfOk, IfSome, IsTrue, OnOk, Some, length, replicate, slice_get, slice_index};
+ghost use Rattle.std.specs.Prelude.{◌≡◌, ◌<◌, ◌≤◌, ℕ, false, [], ◌∷◌, IfOk, IfSome, OnOk, Some, length, replicate, slice_get, slice_index};
 ghost use Rattle.wb_automata_positions.specs.Leaves.{has_byte, node_holds};
 ghost use Rattle.wb_automata_positions.specs.Rising.{AreRising};
 ghost use Rattle.wb_automata_positions.specs.Transitions.{IsPlaceList};

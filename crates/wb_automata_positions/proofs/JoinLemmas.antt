@@ -12,7 +12,8 @@ use Rattle.wb_regex.specs.declared.node.RegexNode.{RegexNode}
 use Rattle.wb_regex.specs.declared.node.RegexNode.TheVariants as n
 use Rattle.wb_automata_positions.specs.Inner.Parts.{AreParts, PartsBelow}
 use Rattle.wb_automata_positions.specs.Inner.Concatenated.{raised, AreConcatenated, AreAdded}
-use Rattle.wb_automata_positions.specs.Sizes.{size_of, bound_of}
+use Rattle.wb_automata_positions.specs.Sizes.{size_of}
+use Rattle.wb_automata_positions.specs.Inner.Bounds.{bound_of}
 use Rattle.wb_regex.specs.Filled.{Filled}
 use Rattle.wb_regex.specs.Matches.{Matches}
 use Rattle.wb_automata_positions.proofs.PartLemmas.{parts_more}

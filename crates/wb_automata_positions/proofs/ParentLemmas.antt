@@ -7,7 +7,8 @@ use Rattle.wb_regex.specs.Tree.{Tree, Set}
 use Rattle.wb_regex.specs.Covers as w
 use Rattle.wb_regex.specs.declared.node.RegexNode.{RegexNode}
 use Rattle.wb_regex.specs.declared.node.RegexNode.TheVariants as n
-use Rattle.wb_automata_positions.specs.Sizes.{bound_of, size_of}
+use Rattle.wb_automata_positions.specs.Sizes.{size_of}
+use Rattle.wb_automata_positions.specs.Inner.Bounds.{bound_of}
 use Rattle.wb_automata_positions.specs.Inner.Concatenated.{AreConcatenated, raised}
 use Rattle.wb_automata_positions.specs.Inner.Machines.{AreDifferent, HaveOneParent, IsPart}
 use Rattle.wb_automata_positions.proofs.PartLemmas.{Located, locate}

@@ -12,3 +12,4 @@ pub mod Parts
 pub mod Shortcuts
 -- the starts of sets as they are listed
 pub mod Starts
+pub mod Bounds

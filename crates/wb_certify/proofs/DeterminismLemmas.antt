@@ -11,7 +11,8 @@ use Rattle.wb_certify_host.specs.determinism_refusal.DeterminismRefusal.TheVaria
 use Rattle.wb_certify_host.specs.DeterministicHosts.{AreAcyclic}
 use Rattle.wb_syntax_resolved.specs.declared.resolved.ResolvedParts.{ResolvedParts}
 use Rattle.wb_certify.specs.Tests.{KeepMarkers}
-use Rattle.wb_certify.specs.Inner.Tests.{AreClearBeside, IsOfHost, IsReasonBeside}
+use Rattle.wb_certify.specs.Inner.Tests.{IsOfHost, IsReasonBeside}
+use Rattle.wb_certify.specs.Beside.{AreClearBeside}
 use Rattle.wb_certify.specs.Refusals.{IsReason}
 use Rattle.wb_certify.proofs.BesideLemmas.{for_some, with_some}
 

@@ -21,7 +21,8 @@ use Rattle.wb_certify.specs.Extensions.{IsCertifiedBeside}
 use Rattle.wb_certify.specs.Kept.{Extends, IsKept}
 use Rattle.wb_certify.specs.Refusals.{IsAttributeRefusal, IsBesideRefusal, IsReason}
 use Rattle.wb_certify.specs.Tests.{AttributesOk, IsAttributesReason}
-use Rattle.wb_certify.specs.Inner.Tests.{AreClearBeside, IsFound, IsLaterRefusal, IsMade, IsMadeCertified, IsOfHost, IsPlainMemory}
+use Rattle.wb_certify.specs.Inner.Tests.{IsLaterRefusal, IsMade, IsMadeCertified, IsOfHost, IsPlainMemory}
+use Rattle.wb_certify.specs.Beside.{AreClearBeside, IsFound}
 use Rattle.wb_certify.specs.Inner.Tests.{IsReasonBeside}
 use Rattle.wb_certify.proofs.BesideLemmas.{for_some, has_start, host_beside}
 

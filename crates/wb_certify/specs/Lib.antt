@@ -8,6 +8,8 @@ pub mod Tests
 pub mod Kept
 -- that there is one answer
 pub mod OneAnswer
+-- what makes an extension deterministic beside the grammar of a host
+pub mod Beside
 -- words of `wb_determinism_host` that callers speak of
 pub use Rattle.wb_certify_host.specs.DeterminismRefusals
 pub use Rattle.wb_certify_host.specs.DeterministicHosts

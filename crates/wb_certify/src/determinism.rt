@@ -6,7 +6,8 @@
 ghost use Rattle.std.specs.Prelude.{IfErr, IfOk, IfSome, IsSome};
 ghost use Rattle.wb_determinism_beside.specs.DeterministicExtensions.{IsDeterministicExtension, IsHostBeside};
 ghost use Rattle.wb_determinism_beside.specs.ExtensionDeterminism.{IsExtensionRefusal};
-ghost use Rattle.wb_certify.specs.Inner.Tests.{AreClearBeside, IsOfHost, IsReasonBeside};
+ghost use Rattle.wb_certify.specs.Inner.Tests.{IsOfHost, IsReasonBeside};
+ghost use Rattle.wb_certify.specs.Beside.{AreClearBeside};
 
 use crate::marks::test_marks;
 use std::alloc::Global;

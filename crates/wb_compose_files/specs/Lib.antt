@@ -4,6 +4,8 @@ pub mod Certified
 pub mod Extensions
 -- a composed language, with what shows its trees
 pub mod Languages
+-- what a composed language shows of its fields
+pub mod Fields
 -- words of `wb_certify_files` that callers speak of
 pub use Rattle.wb_certify_files.specs.HostContents
 pub use Rattle.wb_certify_files.specs.Hosts

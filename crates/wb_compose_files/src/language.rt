@@ -3,7 +3,7 @@
 ghost use Rattle.std.specs.Prelude.{◌≡◌, IfOk};
 ghost use Rattle.wb_compose_texts.specs.Composed.{IsComposed};
 ghost use Rattle.wb_compose_files.specs.Languages.{AreSignatures, AreTerminals, IsTextLanguage};
-ghost use Rattle.wb_compose_files.specs.Inner.Fields.{parts_of};
+ghost use Rattle.wb_compose_files.specs.Fields.{parts_of};
 
 use crate::Certified;
 use std::alloc::{AllocError, Global};
@@ -62,7 +62,7 @@ impl Model for TextLanguage {
     ghost use Rattle.std.specs.Rc.{rc_value};
     ghost use Rattle.wb_regex.specs.contracts.regex.Regex as regex;
     ghost use Rattle.wb_compose_files.specs.Languages.{TextLanguageParts, IsTextLanguage};
-    ghost use Rattle.wb_compose_files.specs.Inner.Fields.{parts_of};
+    ghost use Rattle.wb_compose_files.specs.Fields.{parts_of};
 
     ghost Value = { TextLanguageParts };
 

@@ -12,7 +12,8 @@ use Rattle.wb_compose_kernels.specs.declared.blocks.Blocks.{Blocks}
 use Rattle.wb_compose_kernels.specs.declared.part_blocks.Before.{Before}
 use Rattle.wb_compose_kernels.specs.declared.splice.Part.{Part}
 use Rattle.wb_compose_kernels.specs.declared.splice.Splice.{Splice}
-use Rattle.wb_compose_kernels.specs.Lent.{AreSpliceable, new_count_at}
+use Rattle.wb_compose_kernels.specs.Lent.{AreSpliceable}
+use Rattle.wb_compose_kernels.specs.Inner.Counts.{new_count_at}
 use Rattle.wb_compose_kernels.specs.Inner.Blocks.{AreBeforeIn, AreBlocksUpTo, IsSizeOf, IsSum, IsWith}
 use Rattle.wb_compose_kernels.specs.Inner.Given.{IsGiven}
 use Rattle.wb_compose_kernels.specs.Inner.Lists.{IsDone, IsTakenAt, NewUpTo, PartsUpTo}

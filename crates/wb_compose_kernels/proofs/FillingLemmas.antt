@@ -27,7 +27,8 @@ use Rattle.wb_compose_kernels.proofs.PartLemmas.{has_part, kernel_numbers, new_k
 use Rattle.wb_compose_kernels.specs.declared.blocks.Blocks.{Blocks}
 use Rattle.wb_compose_kernels.specs.declared.filling.Filling.{Filling}
 use Rattle.wb_compose_kernels.specs.declared.splice.Part.{Part}
-use Rattle.wb_compose_kernels.specs.Lent.{AreSpliceable, new_count_at, numbers_in, prefix_at}
+use Rattle.wb_compose_kernels.specs.Lent.{AreSpliceable}
+use Rattle.wb_compose_kernels.specs.Inner.Counts.{new_count_at, numbers_in, prefix_at}
 use Rattle.wb_compose_kernels.specs.Inner.Blocks.{HasHoleItem, IsHoleBy, blocks_at, names_by}
 use Rattle.wb_compose_kernels.specs.Inner.Filling.{Gains, IsFilling, IsHostGain, IsMaking, IsNumberBy}
 use Rattle.wb_compose_kernels.specs.Inner.Filling.{IsNumberOf, IsOfList, IsOfNoList, IsPartGain}

@@ -21,7 +21,8 @@ use Rattle.wb_determinism_lookaheads.specs.NewLookaheads.{Lists, NewLookaheadsVi
 use Rattle.wb_compose_kernels.proofs.PartLemmas.{HasPart, at_part}
 use Rattle.wb_compose_kernels.specs.declared.sets.Sets.{Sets}
 use Rattle.wb_compose_kernels.specs.declared.splice.Splice.{Splice}
-use Rattle.wb_compose_kernels.specs.Lent.{AreSetsOf, AreSpliceable, new_count_at, new_count_in, prefix_at, prefix_in}
+use Rattle.wb_compose_kernels.specs.Lent.{AreSetsOf, AreSpliceable}
+use Rattle.wb_compose_kernels.specs.Inner.Counts.{new_count_at, new_count_in, prefix_at, prefix_in}
 use Rattle.wb_compose_kernels.specs.Inner.Filling.{found_in}
 
 module _ (kernels : KernelsView) (are : AreKernels kernels) (known : LookaheadsView) (exact : AreLookaheads kernels known) where

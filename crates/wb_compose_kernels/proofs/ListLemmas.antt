@@ -30,7 +30,8 @@ use Rattle.wb_compose_kernels.proofs.PartLemmas.{HasPart, IsLedFrom, kernel_numb
 use Rattle.wb_compose_kernels.proofs.PartLemmas.{zero_taken}
 use Rattle.wb_compose_kernels.specs.declared.blocks.Blocks.{Blocks}
 use Rattle.wb_compose_kernels.specs.declared.splice.Splice.{Splice}
-use Rattle.wb_compose_kernels.specs.Lent.{AreSpliceable, new_count_at, numbers_in, prefix_at}
+use Rattle.wb_compose_kernels.specs.Lent.{AreSpliceable}
+use Rattle.wb_compose_kernels.specs.Inner.Counts.{new_count_at, numbers_in, prefix_at}
 use Rattle.wb_compose_kernels.specs.Inner.Blocks.{HasOwnBy, IsHoleBy, blocks_at, names_by}
 use Rattle.wb_compose_kernels.specs.Inner.Given.{IsGiven}
 use Rattle.wb_compose_kernels.specs.Inner.Lists.{AreSoFar, HasNoHoleAt, HasNoneLike, HostNext}

@@ -37,7 +37,8 @@ use Rattle.wb_compose_kernels.specs.declared.blocks.Blocks.{Blocks}
 use Rattle.wb_compose_kernels.specs.declared.filling.Filling.{Filling}
 use Rattle.wb_compose_kernels.specs.declared.splice.Part.{Part}
 use Rattle.wb_compose_kernels.specs.declared.splice.Splice.{Splice}
-use Rattle.wb_compose_kernels.specs.Lent.{AreSpliceable, new_count_at, numbers_in, prefix_at}
+use Rattle.wb_compose_kernels.specs.Lent.{AreSpliceable}
+use Rattle.wb_compose_kernels.specs.Inner.Counts.{new_count_at, numbers_in, prefix_at}
 use Rattle.wb_compose_kernels.specs.Inner.Blocks.{IsHoleBy, blocks_at, names_by}
 use Rattle.wb_compose_kernels.specs.Inner.Filling.{HasTarget, IsFilling, IsFirstOpened, IsHostGain, IsHostItemGain, IsNumberOf, IsPartGain}
 use Rattle.wb_compose_kernels.specs.Inner.Filling.{IsSlotGain, IsTarget, as_opened, sets_in, slots_in}

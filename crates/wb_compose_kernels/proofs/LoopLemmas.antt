@@ -20,7 +20,8 @@ use Rattle.wb_compose_kernels.proofs.ListLemmas.{from_keeps, keeps_none, keeps_t
 use Rattle.wb_compose_kernels.specs.declared.blocks.Blocks.{Blocks}
 use Rattle.wb_compose_kernels.specs.declared.part_blocks.Before.{Before}
 use Rattle.wb_compose_kernels.specs.declared.splice.Splice.{Splice}
-use Rattle.wb_compose_kernels.specs.Lent.{AreSpliceable, new_count_at}
+use Rattle.wb_compose_kernels.specs.Lent.{AreSpliceable}
+use Rattle.wb_compose_kernels.specs.Inner.Counts.{new_count_at}
 use Rattle.wb_compose_kernels.specs.Inner.Blocks.{AreBefore, BlocksUpTo, IsSizeOf, IsSum, IsWith, block_of, blocks_at, with_counts}
 use Rattle.wb_compose_kernels.specs.Inner.Lists.{AreListed, AreSoFar, HasNoHoleAt, HostListed, HostNext}
 use Rattle.wb_compose_kernels.specs.Inner.Lists.{HostUpTo, IsDone, IsFromAt, IsHostDone, IsTakenAt}

@@ -41,7 +41,8 @@ use Rattle.wb_compose_kernels.specs.declared.blocks.Blocks.{Blocks}
 use Rattle.wb_compose_kernels.specs.declared.marks.Mark.{Mark}
 use Rattle.wb_compose_kernels.specs.declared.splice.Part.{Part}
 use Rattle.wb_compose_kernels.specs.declared.splice.Splice.{Splice}
-use Rattle.wb_compose_kernels.specs.Lent.{AreSpliceable, count_at, count_in, new_count_at, new_count_in, numbers_in}
+use Rattle.wb_compose_kernels.specs.Lent.{AreSpliceable}
+use Rattle.wb_compose_kernels.specs.Inner.Counts.{count_at, count_in, new_count_at, new_count_in, numbers_in}
 use Rattle.wb_compose_kernels.specs.Inner.Blocks.{BlocksUpTo, IsHoleSymbol, blocks_at, number_by}
 use Rattle.wb_compose_kernels.specs.Inner.Given.{IsGiven}
 use Rattle.wb_compose_kernels.specs.Inner.Lists.{AreListed, HasNoHoleAt, IsDone, IsFromAt, IsTakenAt}

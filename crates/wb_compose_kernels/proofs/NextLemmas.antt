@@ -12,7 +12,8 @@ use Rattle.wb_compose_kernels.proofs.PartLemmas.{HasPart, has_part}
 use Rattle.wb_compose_kernels.specs.declared.splice.Part.{Part}
 use Rattle.wb_compose_kernels.specs.declared.blocks.Blocks.{Blocks}
 use Rattle.wb_compose_kernels.specs.declared.splice.Splice.{Splice}
-use Rattle.wb_compose_kernels.specs.Lent.{AreSpliceable, new_count_at}
+use Rattle.wb_compose_kernels.specs.Lent.{AreSpliceable}
+use Rattle.wb_compose_kernels.specs.Inner.Counts.{new_count_at}
 use Rattle.wb_compose_kernels.specs.Inner.Blocks.{HasHoleItem, HasOwnBy, IsHoleBy, blocks_at, names_by}
 use Rattle.wb_compose_kernels.specs.Inner.Given.{IsGiven}
 use Rattle.wb_compose_kernels.specs.Inner.Lists.{AreSoFar, HasNoHoleAt, HasNoneLike, HostNext, IsDone}

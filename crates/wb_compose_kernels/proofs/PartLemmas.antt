@@ -26,8 +26,8 @@ use Rattle.wb_determinism_kernels.specs.Numbers.{phi_by, up_by}
 use Rattle.wb_determinism_theory.specs.Beside.{AreHostFirst}
 use Rattle.wb_compose_kernels.specs.declared.splice.Part.{Part}
 use Rattle.wb_compose_kernels.specs.declared.splice.Splice.{Splice}
-use Rattle.wb_compose_kernels.specs.Lent.{AreSpliceable, IsPartOf, count_at, count_in, new_count_at, new_count_in, numbers_in, prefix_at}
-use Rattle.wb_compose_kernels.specs.Lent.{prefix_in}
+use Rattle.wb_compose_kernels.specs.Lent.{AreSpliceable, IsPartOf}
+use Rattle.wb_compose_kernels.specs.Inner.Counts.{count_at, count_in, new_count_at, new_count_in, numbers_in, prefix_at, prefix_in}
 
 module _ (s : Splice) (ok : AreSpliceable s) where
   abbrev host : GrammarView

@@ -19,7 +19,8 @@ use Rattle.wb_compose_kernels.specs.declared.blocks.Blocks.{Blocks}
 use Rattle.wb_compose_kernels.specs.declared.marks.Mark.{Mark}
 use Rattle.wb_compose_kernels.specs.declared.splice.Part.{Part}
 use Rattle.wb_compose_kernels.specs.declared.splice.Splice.{Splice}
-use Rattle.wb_compose_kernels.specs.Lent.{AreSpliceable, IsPartOf, count_in, new_count_at, new_count_in}
+use Rattle.wb_compose_kernels.specs.Lent.{AreSpliceable, IsPartOf}
+use Rattle.wb_compose_kernels.specs.Inner.Counts.{count_in, new_count_at, new_count_in}
 use Rattle.wb_compose_kernels.specs.Inner.Blocks.{IsHoleSymbol, names_by}
 use Rattle.wb_compose_kernels.specs.Inner.Given.{IsGiven}
 use Rattle.wb_compose_kernels.specs.Inner.Lists.{AreListed}

@@ -21,7 +21,7 @@ use Rattle.wb_compose_kernels.proofs.PartLemmas.{has_part, part_less}
 use Rattle.wb_compose_kernels.specs.declared.blocks.Blocks.{Blocks}
 use Rattle.wb_compose_kernels.specs.declared.filling.Filling.{Filling}
 use Rattle.wb_compose_kernels.specs.declared.splice.Part.{Part}
-use Rattle.wb_compose_kernels.specs.Lent.{new_count_at, new_count_in}
+use Rattle.wb_compose_kernels.specs.Inner.Counts.{new_count_at, new_count_in}
 use Rattle.wb_compose_kernels.specs.Inner.Blocks.{IsHoleBy, names_by}
 use Rattle.wb_compose_kernels.specs.Inner.Filling.{Gains, HasNoTarget, HasTarget, IsFilling, IsFirstOpened}
 use Rattle.wb_compose_kernels.specs.Inner.Filling.{IsHostItemGain, IsImageAt, IsMaking}

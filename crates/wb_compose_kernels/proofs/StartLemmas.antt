@@ -32,7 +32,8 @@ use Rattle.wb_determinism_kernels.specs.NewKernels.{IsStart, prefix_beside, pref
 use Rattle.wb_determinism_kernels.specs.Numbers.{phi_by, up_by}
 use Rattle.wb_compose_kernels.proofs.PartLemmas.{HasPart, at_part, in_part, kernel_numbers}
 use Rattle.wb_compose_kernels.specs.declared.splice.Splice.{Splice}
-use Rattle.wb_compose_kernels.specs.Lent.{AreSpliceable, count_in, numbers_in, prefix_in}
+use Rattle.wb_compose_kernels.specs.Lent.{AreSpliceable}
+use Rattle.wb_compose_kernels.specs.Inner.Counts.{count_in, numbers_in, prefix_in}
 
 -- where a symbol leads, by the prefixes of numbers
 next_of : (h : KernelsView) (k : GrammarView) (up : Renaming) (steps : List Step) (n : ℕ) (x : Symbol) (next : ℕ) →

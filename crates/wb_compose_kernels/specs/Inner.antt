@@ -6,3 +6,4 @@ pub mod Moves
 pub mod Taken
 pub mod Images
 pub mod Filling
+pub mod Counts

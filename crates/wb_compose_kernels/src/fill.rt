@@ -5,7 +5,7 @@ ghost use Rattle.std.specs.Prelude.{◌<◌, ℕ, IfOk, OnOk, length};
 ghost use Rattle.wb_items.specs.Kernels.{count_of};
 ghost use Rattle.wb_items.specs.Lookaheads.{AreEmpty, row_of};
 ghost use Rattle.wb_items.specs.LookaheadSets.{AreLookaheads};
-ghost use Rattle.wb_compose_kernels.specs.Lent.{new_count_at};
+ghost use Rattle.wb_compose_kernels.specs.Inner.Counts.{new_count_at};
 ghost use Rattle.wb_compose_kernels.specs.Inner.Filling.{Gains, GainsBy, IsFilling, IsHostGain, IsHostItemGain, IsHostRowGain, IsImageAt, IsMaking, IsNewGain, IsPartGain, IsSlotGain, IsSlotsGain, slots_in};
 
 use crate::blocks::{Block, is_hole, item_in_union};

@@ -3,7 +3,7 @@
 ghost use Rattle.std.specs.Prelude.{◌≡◌, ◌<◌, ◌+◌, ◌∷◌, ◌++◌, [], IfOk, Some, length, slice_get};
 ghost use Rattle.wb_items.specs.Kernels.{count_of};
 ghost use Rattle.wb_compose_theory.specs.Homes.{of, of_host};
-ghost use Rattle.wb_compose_kernels.specs.Lent.{new_count_at};
+ghost use Rattle.wb_compose_kernels.specs.Inner.Counts.{new_count_at};
 ghost use Rattle.wb_compose_kernels.specs.Inner.Given.{IsGiven};
 ghost use Rattle.wb_compose_kernels.specs.Inner.Blocks.{AreBlocksUpTo, IsBlocksOf};
 ghost use Rattle.wb_compose_kernels.specs.Inner.Lists.{AreHostSoFar, AreNewSoFar, ArePartsUpTo, IsHostNext, IsHostUpTo, IsListing, IsNewNext, IsNewUpTo, IsPut};

@@ -3,7 +3,7 @@
 ghost use Rattle.std.specs.Prelude.{◌≡◌, ◌<◌, ◌+◌, ◌++◌, [], IfOk, OnOk, Some, Contains, length, slice_get};
 ghost use Rattle.wb_items.specs.Kernels.{count_of};
 ghost use Rattle.wb_determinism_kernels.specs.declared.starts.Start.{Start};
-ghost use Rattle.wb_compose_kernels.specs.Lent.{new_count_at};
+ghost use Rattle.wb_compose_kernels.specs.Inner.Counts.{new_count_at};
 ghost use Rattle.wb_compose_kernels.specs.Inner.Given.{IsGiven};
 ghost use Rattle.wb_compose_kernels.specs.Inner.Blocks.{AreBlocksUpTo};
 ghost use Rattle.wb_compose_kernels.specs.Inner.Moves.{Adds, AreMarksUpTo, IsMarkOf};

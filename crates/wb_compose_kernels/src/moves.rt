@@ -6,7 +6,7 @@ ghost use Rattle.wb_base.specs.declared.symbol.Symbol.TheVariants.{Terminal};
 ghost use Rattle.wb_items.specs.declared.transitions.Move.{Move};
 ghost use Rattle.wb_items.specs.Kernels.{count_of};
 ghost use Rattle.wb_compose_kernels.specs.declared.marks.Mark.{Mark};
-ghost use Rattle.wb_compose_kernels.specs.Lent.{new_count_at};
+ghost use Rattle.wb_compose_kernels.specs.Inner.Counts.{new_count_at};
 ghost use Rattle.wb_compose_kernels.specs.Inner.Given.{IsGiven};
 ghost use Rattle.wb_compose_kernels.specs.Inner.Moves.{Adds, AreMovesOf, IsAnyMove, IsHostMove, IsMoveOf, IsNewMove, IsPartMove, IsRowMove};
 ghost use Rattle.wb_compose_kernels.specs.Inner.Taken.{AreNumbersOf, IsMarkedBy};

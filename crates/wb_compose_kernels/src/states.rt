@@ -4,7 +4,7 @@ ghost use Rattle.std.specs.Prelude.{◌<◌, ◌+◌, IfOk, MatchOption, length,
 ghost use Rattle.wb_items.specs.Kernels.{count_of};
 ghost use Rattle.wb_compose_theory.specs.Homes.{of, of_host};
 ghost use Rattle.wb_compose_theory.specs.Renamings.{renamed_item};
-ghost use Rattle.wb_compose_kernels.specs.Lent.{new_count_at};
+ghost use Rattle.wb_compose_kernels.specs.Inner.Counts.{new_count_at};
 ghost use Rattle.wb_compose_kernels.specs.Inner.Blocks.{names_by};
 ghost use Rattle.wb_compose_kernels.specs.Inner.Filling.{HasNoNumber, IsFilling, IsNumberBy, IsOfList, IsOfNoList};
 

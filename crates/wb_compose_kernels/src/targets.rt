@@ -2,7 +2,7 @@
 
 ghost use Rattle.std.specs.Prelude.{◌≡◌, ◌<◌, [], IfOk, IfSome, MatchOption, Some, length, slice_get, slice_index_or};
 ghost use Rattle.wb_determinism_lookaheads.specs.NewLookaheads.{set_at};
-ghost use Rattle.wb_compose_kernels.specs.Lent.{new_count_at};
+ghost use Rattle.wb_compose_kernels.specs.Inner.Counts.{new_count_at};
 ghost use Rattle.wb_compose_kernels.specs.Inner.Filling.{HasNoTarget, HasTarget, IsFilling, IsFirstOpened, OpensNone, sets_in, slots_in};
 
 use crate::blocks::{is_hole, item_in_union};

@@ -7,7 +7,8 @@ use Rattle.wb_base.specs.declared.symbol.Symbol.{Symbol}
 use Rattle.wb_grammar_theory.specs.Items.{after_dot}
 use Rattle.wb_items.specs.declared.item_lookahead.ItemLookahead.{ItemLookahead}
 use Rattle.wb_termset.specs.Sets.{IsMember, Intersects, IsUnion}
-use Rattle.wb_determinism.specs.Inner.Conflicts.{AreTaken, HasNoConflictAt, HasNoConflictIn, IsPairConflict, IsShiftConflict}
+use Rattle.wb_determinism.specs.Inner.Conflicts.{AreTaken}
+use Rattle.wb_determinism.specs.Conflicts.{HasNoConflictAt, HasNoConflictIn, IsPairConflict, IsShiftConflict}
 use Rattle.wb_determinism.specs.Inner.Conflicts.{TakesItem, TakesSet}
 
 -- a set that has no taken member is added

@@ -27,10 +27,11 @@ use Rattle.wb_determinism.specs.Numbers.{item_up}
 use Rattle.wb_determinism.specs.Inner.Contexts.{HasImage, IsContext, both_of, host_of}
 use Rattle.wb_determinism.specs.Inner.Envelopes.{AreInKernel, IsEnvelopeRow, IsEnvelopeSet, IsRowFault, KeepsRow}
 use Rattle.wb_determinism.specs.Inner.Index.{IsIndexable}
-use Rattle.wb_determinism.specs.Inner.Conflicts.{HasNoConflictIn, IsFoundBy}
+use Rattle.wb_determinism.specs.Inner.Conflicts.{IsFoundBy}
+use Rattle.wb_determinism.specs.Conflicts.{HasNoConflictIn}
 use Rattle.wb_determinism.specs.Inner.Considered.{AreConsidered, CanBoth, IsClearSet, IsConsideredFor, IsLookaheadAt, IsOwnList, IsPairAt}
 use Rattle.wb_determinism.specs.Inner.Considered.{KernelAt}
-use Rattle.wb_determinism.specs.Inner.Valid.{IsReduced, IsShifted}
+use Rattle.wb_determinism.specs.Valid.{IsReduced, IsShifted}
 use Rattle.wb_determinism.proofs.BoundLemmas.{own_bound}
 use Rattle.wb_determinism.proofs.EnvelopeLemmas.{closure_kept}
 use Rattle.wb_determinism.proofs.RegionLemmas.{kernel_item}

@@ -8,8 +8,7 @@ use Rattle.wb_lemmas.proofs.Places.{at_push, at_within}
 use Rattle.wb_base.specs.declared.symbol.Symbol.{Symbol}
 use Rattle.wb_base.specs.Grammar.{Production}
 use Rattle.wb_determinism.specs.declared.numbers.Numbers.{Numbers}
-use Rattle.wb_determinism.specs.Images.{begins, bridged}
-use Rattle.wb_determinism.specs.Inner.Images.{AreImages, IsDown}
+use Rattle.wb_determinism.specs.Images.{begins, bridged, AreImages, IsDown}
 
 -- one terminal more with what it stands for
 pub images_more : (m : Numbers) (phi : ℕ → ℕ) (t : ℕ) (images : List (Option ℕ)) (o : Option ℕ) → AreImages m phi t images

@@ -20,7 +20,7 @@ use Rattle.wb_determinism.specs.LookaheadRule.{IsLookaheadFault}
 use Rattle.wb_determinism.specs.Inner.Keeps.{KeepsHostLookaheads, KeepsInEnvelope, HasNoEnvelopeConflict}
 use Rattle.wb_determinism.specs.Numbers.{terminal_up, up_by}
 use Rattle.wb_determinism.specs.Inner.Contexts.{HasImage}
-use Rattle.wb_determinism.specs.Inner.Images.{AreImages, IsDown}
+use Rattle.wb_determinism.specs.Images.{AreImages, IsDown}
 use Rattle.wb_determinism.proofs.NumberLemmas.{lifted_once}
 use Rattle.wb_determinism.proofs.RowLemmas.{lookahead_listed, row_entry}
 

@@ -1,5 +1,5 @@
 -- What terminals of an extended host stand for: a marker for the hole of its nonterminal, and any other for itself.
-use Rattle.std.specs.Prelude.{◌≡◌, ◌==◌, ℕ, suc, Bool, true, false, List, [], ◌∷◌, Option, Some, None, if◌then◌else◌, option_and_then}
+use Rattle.std.specs.Prelude.{◌≡◌, ◌==◌, ℕ, suc, Bool, true, false, List, [], ◌∷◌, Option, Some, None, if◌then◌else◌, option_and_then, ◌≢◌, MatchOption, length, slice_get}
 use Rattle.std.specs.Prelude.{unwrap_or, slice_get}
 use Rattle.wb_base.specs.declared.symbol.Symbol.{Symbol}
 use Rattle.wb_base.specs.declared.symbol.Symbol.TheVariants.{Terminal, Nonterminal}
@@ -49,3 +49,12 @@ stands_for r g t = if is_marker_row (slice_get r.terminals t) then hole_for g r.
 -- the terminal stands for this one of the host
 abbrev pub StandsFor : ResolvedParts → GrammarView → Numbers → ℕ → ℕ → Type 0
 StandsFor r g m t own = terminal_up m own ≡ stands_for r g t
+
+-- the host's terminal that has become this one, or none
+abbrev pub IsDown : Numbers → ℕ → Option ℕ → Type 0
+IsDown m t o = MatchOption o ((own : ℕ) → t ≢ terminal_up m own) (λ own. t ≡ terminal_up m own)
+
+-- for each of the first terminals the host's terminal for which it stands, or none
+pub record AreImages (m : Numbers) (phi : ℕ → ℕ) (count : ℕ) (images : List (Option ℕ)) : Type 0 where
+  pub len : length images ≡ count
+  pub each : (t : ℕ) (o : Option ℕ) → slice_get images t ≡ Some o → IsDown m (phi t) o

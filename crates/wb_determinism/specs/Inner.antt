@@ -5,10 +5,8 @@ pub mod Contexts
 pub mod Keeps
 pub mod Envelopes
 pub mod Conflicts
-pub mod Valid
 pub mod Considered
 pub mod Shown
 pub mod Clashes
-pub mod Images
 pub mod Extended
 pub mod Index

@@ -14,5 +14,9 @@ pub mod EnvelopeClash
 pub mod Extensions
 -- why an extension isn't, each reason with a true example where no earlier one holds
 pub mod Refusals
+-- terminals after dots, and lookaheads of complete items
+pub mod Valid
+-- conflicts of items with sets of lookaheads
+pub mod Conflicts
 -- what only proofs need
 pub mod Inner

@@ -4,7 +4,8 @@
 
 ghost use Rattle.std.specs.Prelude.{◌≡◌, All, IsTrue, length};
 ghost use Rattle.wb_items.specs.declared.item_lookahead.ItemLookahead.{ItemLookahead};
-ghost use Rattle.wb_determinism.specs.Inner.Conflicts.{HasNoConflictIn, TakesItem, TakesSet};
+ghost use Rattle.wb_determinism.specs.Inner.Conflicts.{TakesItem, TakesSet};
+ghost use Rattle.wb_determinism.specs.Conflicts.{HasNoConflictIn};
 
 use wb_base::Grammar;
 use wb_items::{ItemLookahead, symbol_after};

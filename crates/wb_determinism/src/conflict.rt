@@ -3,7 +3,8 @@
 ghost use Rattle.std.specs.Prelude.{◌≡◌, ◌<◌, ℕ, All, MatchOption, Some, length, slice_get};
 ghost use Rattle.wb_items.specs.declared.item_lookahead.ItemLookahead.{ItemLookahead};
 ghost use Rattle.wb_termset.specs.Sets.{IsMember};
-ghost use Rattle.wb_determinism.specs.Inner.Conflicts.{AreApartBefore, HasNoConflictAt, HasNoConflictIn, IsFound, IsFoundPair, IsPairConflict, IsShiftConflict};
+ghost use Rattle.wb_determinism.specs.Inner.Conflicts.{IsFound, IsFoundPair};
+ghost use Rattle.wb_determinism.specs.Conflicts.{AreApartBefore, HasNoConflictAt, HasNoConflictIn, IsPairConflict, IsShiftConflict};
 
 use crate::apart::are_apart;
 use wb_base::Grammar;

@@ -9,7 +9,7 @@ ghost use Rattle.wb_items.specs.Kernels.{count_of, prefix_of};
 ghost use Rattle.wb_items.specs.Table.{AreProductions};
 ghost use Rattle.wb_termset.specs.Sets.{IsMember};
 ghost use Rattle.wb_compose_theory.specs.Numbered.{IsNewHostKernel};
-ghost use Rattle.wb_determinism.specs.Inner.Valid.{IsReduced};
+ghost use Rattle.wb_determinism.specs.Valid.{IsReduced};
 ghost use Rattle.wb_determinism.specs.Numbers.{up_by};
 ghost use Rattle.wb_determinism.specs.Inner.Numbers.{AreInTurn};
 ghost use Rattle.wb_determinism.specs.Regions.{AreRegions, IsRegion};

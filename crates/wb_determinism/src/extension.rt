@@ -11,9 +11,8 @@ ghost use Rattle.wb_determinism.specs.Extensions.{AreExtensionParts, IsDetermini
 ghost use Rattle.wb_determinism.specs.Refusals.{IsExtensionRefusal};
 ghost use Rattle.wb_determinism.specs.Regions.{AreRegions};
 ghost use Rattle.wb_items.specs.Kernels.{count_of};
-ghost use Rattle.wb_determinism.specs.Images.{stands_for};
+ghost use Rattle.wb_determinism.specs.Images.{stands_for, AreImages};
 ghost use Rattle.wb_determinism.specs.Inner.Extended.{IsContextOf, IsExtended};
-ghost use Rattle.wb_determinism.specs.Inner.Images.{AreImages};
 
 use crate::context::Context;
 use crate::host_index::host_index;

@@ -1,8 +1,7 @@
 //! For which terminal of the host does one of the extended host stand? A marker stands for the hole of its nonterminal.
 
 ghost use Rattle.std.specs.Prelude.{◌≡◌, ◌≤◌, ◌<◌, ◌+◌, ◌^◌, IfOk, length, slice_get};
-ghost use Rattle.wb_determinism.specs.Images.{begins, bridged, hole_among, hole_for, is_marker_row, is_marking, stands_for};
-ghost use Rattle.wb_determinism.specs.Inner.Images.{AreImages, IsDown};
+ghost use Rattle.wb_determinism.specs.Images.{begins, bridged, hole_among, hole_for, is_marker_row, is_marking, stands_for, AreImages, IsDown};
 ghost use Rattle.wb_determinism.specs.Inner.Numbers.{AreInTurn};
 
 use crate::numbers::{Numbers, terminal_before};

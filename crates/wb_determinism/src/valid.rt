@@ -3,7 +3,7 @@
 ghost use Rattle.std.specs.Prelude.{◌≡◌, ◌≤◌, ◌<◌, ◌+◌, ◌↔◌, ◌⊎◌, ℕ, All, IfOk, length};
 ghost use Rattle.wb_items.specs.declared.item_lookahead.ItemLookahead.{ItemLookahead};
 ghost use Rattle.wb_termset.specs.Sets.{IsMember};
-ghost use Rattle.wb_determinism.specs.Inner.Valid.{AddsReductions, AddsShift, IsReduced, IsShifted};
+ghost use Rattle.wb_determinism.specs.Valid.{AddsReductions, AddsShift, IsReduced, IsShifted};
 
 use std::alloc::{AllocError, Global};
 use wb_base::{Grammar, Symbol};

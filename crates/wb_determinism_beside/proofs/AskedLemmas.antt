@@ -3,8 +3,7 @@ use Rattle.std.proofs.Common.{◌≡◌, ◌≤◌, ◌+◌, ◌-◌, ◌∙◌,
 use Rattle.std.proofs.lemmas.List.{length-append}
 use Rattle.wb_base.specs.Grammar.{GrammarView, Production}
 use Rattle.wb_determinism.specs.Extensions.{IsDeterministicExtension, IsPartOf, numbers_of}
-use Rattle.wb_determinism.specs.Images.{stands_for}
-use Rattle.wb_determinism.specs.Inner.Images.{AreImages}
+use Rattle.wb_determinism.specs.Images.{stands_for, AreImages}
 use Rattle.wb_determinism_contexts.specs.Sets.{FitsGrammar}
 use Rattle.wb_determinism_host.specs.declared.parts.HostParts.{HostParts}
 use Rattle.wb_determinism_host.specs.Hosts.{IsFitForParsing}

@@ -10,8 +10,8 @@ use Rattle.wb_lemmas.proofs.Elements.{all_at}
 use Rattle.wb_lemmas.proofs.Places.{at_push, at_within, nothing_at}
 use Rattle.wb_base.specs.declared.symbol.Symbol.{Symbol}
 use Rattle.wb_base.specs.Grammar.{GrammarView}
-use Rattle.wb_determinism.specs.Inner.Conflicts.{HasNoConflictIn}
-use Rattle.wb_determinism.specs.Inner.Valid.{IsReduced, IsShifted}
+use Rattle.wb_determinism.specs.Conflicts.{HasNoConflictIn}
+use Rattle.wb_determinism.specs.Valid.{IsReduced, IsShifted}
 use Rattle.wb_determinism_contexts.specs.Considered.{IsConsideredAt, LexiconView}
 use Rattle.wb_grammar_theory.specs.declared.item.Item.{Item}
 use Rattle.wb_grammar_theory.specs.Items.{HasItem, after_dot}

@@ -15,8 +15,7 @@ use Rattle.wb_compose_theory_grammar.specs.Pieces.{ArePieces, IsPiece, Piece}
 use Rattle.wb_compose_theory_grammar.specs.UnitedWorlds.{index_of}
 use Rattle.wb_compose_theory_grammar.proofs.BridgeLemmas.{piece_ok}
 use Rattle.wb_determinism.specs.declared.numbers.Numbers.{Numbers}
-use Rattle.wb_determinism.specs.Images.{stands_for}
-use Rattle.wb_determinism.specs.Inner.Images.{AreImages, IsDown}
+use Rattle.wb_determinism.specs.Images.{stands_for, AreImages, IsDown}
 use Rattle.wb_determinism.specs.Numbers.{terminal_up}
 use Rattle.wb_determinism_kernels.specs.Numbers.{image_or, phi_by, up_by}
 use Rattle.wb_determinism_theory.proofs.UnitedLemmas.{united_beside}

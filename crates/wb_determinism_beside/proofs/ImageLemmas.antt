@@ -8,8 +8,7 @@ use Rattle.wb_lemmas.proofs.Places.{at_push, at_within}
 use Rattle.wb_base.specs.declared.symbol.Symbol.{Symbol}
 use Rattle.wb_base.specs.Grammar.{Production}
 use Rattle.wb_determinism.specs.declared.numbers.Numbers.{Numbers}
-use Rattle.wb_determinism.specs.Images.{begins, bridged}
-use Rattle.wb_determinism.specs.Inner.Images.{AreImages}
+use Rattle.wb_determinism.specs.Images.{begins, bridged, AreImages}
 use Rattle.wb_determinism_kernels.specs.declared.numbers.Numbers as moved
 use Rattle.wb_determinism_beside.specs.Given.{moved_by}
 use Rattle.wb_determinism_beside.specs.Inner.Images.{AreImagesBy, IsDownBy}

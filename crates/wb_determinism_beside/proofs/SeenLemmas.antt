@@ -8,8 +8,7 @@ use Rattle.wb_compose_theory.specs.Numbered.{HasEnvelopeConflict, IsHostKernel, 
 use Rattle.wb_compose_theory.specs.Renamings.{Renaming, renamed, renamed_item}
 use Rattle.wb_compose_theory_grammar.specs.Numberings.{phi_of, up_of}
 use Rattle.wb_determinism.specs.Extensions.{IsDeterministicExtension}
-use Rattle.wb_determinism.specs.Images.{stands_for}
-use Rattle.wb_determinism.specs.Inner.Images.{AreImages}
+use Rattle.wb_determinism.specs.Images.{stands_for, AreImages}
 use Rattle.wb_determinism.specs.declared.numbers.Numbers.{Numbers}
 use Rattle.wb_determinism.specs.Numbers as tested
 use Rattle.wb_determinism_contexts.specs.Considered.{HasNoClashAt, IsClashAt, IsConsideredAt, LexiconView}

@@ -7,7 +7,7 @@ use Rattle.wb_base.specs.Grammar.{GrammarView}
 use Rattle.wb_grammar_theory.specs.Items.{after_dot}
 use Rattle.wb_items.specs.declared.item_lookahead.ItemLookahead.{ItemLookahead}
 use Rattle.wb_termset.specs.Sets.{IsMember}
-use Rattle.wb_determinism.specs.Inner.Valid.{AddsReductions, AddsShift, IsBefore, IsReduced, IsShifted}
+use Rattle.wb_determinism.specs.Valid.{AddsReductions, AddsShift, IsBefore, IsReduced, IsShifted}
 
 module _ (g : GrammarView) (row : List ItemLookahead) (n : ℕ) (looks : ItemLookahead) (at : slice_get row n ≡ Some looks) where
   same_looks : (place : ℕ) (other : ItemLookahead) → slice_get row place ≡ Some other → place ≡ n → other ≡ looks

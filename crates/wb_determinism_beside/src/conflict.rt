@@ -1,7 +1,7 @@
 //! Has a row of items with their lookaheads no conflict?
 
 ghost use Rattle.std.specs.Prelude.{◌≡◌, ◌<◌, ℕ, All, IsTrue, Some, false, length, slice_get};
-ghost use Rattle.wb_determinism.specs.Inner.Conflicts.{AreApartBefore, HasNoConflictAt, HasNoConflictIn, IsPairConflict};
+ghost use Rattle.wb_determinism.specs.Conflicts.{AreApartBefore, HasNoConflictAt, HasNoConflictIn, IsPairConflict};
 ghost use Rattle.wb_items.specs.declared.item_lookahead.ItemLookahead.{ItemLookahead};
 
 use wb_base::Grammar;

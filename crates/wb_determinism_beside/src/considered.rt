@@ -2,7 +2,7 @@
 
 ghost use Rattle.std.specs.Prelude.{◌≡◌, ◌+◌, ◌<◌, ◌⊎◌, ◌↔◌, [], ℕ, All, IfOk, IfSome, IsTrue, List, length};
 ghost use Rattle.wb_base.specs.declared.symbol.Symbol.{Symbol};
-ghost use Rattle.wb_determinism.specs.Inner.Valid.{IsReduced, IsShifted};
+ghost use Rattle.wb_determinism.specs.Valid.{IsReduced, IsShifted};
 ghost use Rattle.wb_determinism_contexts.specs.Sets.{FitsGrammar, lent};
 ghost use Rattle.wb_items.specs.declared.item_lookahead.ItemLookahead.{ItemLookahead};
 ghost use Rattle.wb_termset.specs.Sets.{IsMember};

@@ -4,8 +4,7 @@ ghost use Rattle.std.specs.Prelude.{◌≡◌, ◌+◌, ℕ, List, Option, [], �
 ghost use Rattle.wb_base.specs.Grammar.{GrammarView};
 ghost use Rattle.wb_compose_theory_grammar.specs.Numberings.{phi_of};
 ghost use Rattle.wb_compose_theory_grammar.specs.Pieces.{ArePieces};
-ghost use Rattle.wb_determinism.specs.Images.{stands_for};
-ghost use Rattle.wb_determinism.specs.Inner.Images.{AreImages};
+ghost use Rattle.wb_determinism.specs.Images.{stands_for, AreImages};
 ghost use Rattle.wb_determinism_host.specs.Lexicons.{lexicon_of};
 ghost use Rattle.wb_determinism_kernels.specs.Numbers.{phi_by, up_by};
 ghost use Rattle.wb_grammar_theory.specs.Shape.{IsReduced};

@@ -23,8 +23,8 @@ use Rattle.wb_determinism_kernels.specs.Inner.Advances.{symbol_by}
 use Rattle.wb_determinism_kernels.specs.Inner.Advances.{symbol_of}
 use Rattle.wb_items.specs.Kernels.{Precedes}
 use Rattle.wb_items.specs.Order.{SymbolPrecedes}
-use Rattle.wb_items.specs.Inner.Passes.{AreRising}
-use Rattle.wb_items.specs.Inner.Growing.{IsMoved}
+use Rattle.wb_items.specs.Sorted.{AreRising}
+use Rattle.wb_items.specs.Moved.{IsMoved}
 use Rattle.wb_items.proofs.OrderLemmas.{less_by}
 use Rattle.wb_items.proofs.SymbolOrder.{symbol_not_itself}
 

@@ -13,7 +13,7 @@ use Rattle.wb_grammar_theory.specs.Items.{IsKernelItem}
 use Rattle.wb_grammar_theory.specs.Shape.{IsLive}
 use Rattle.wb_grammar_theory.proofs.ClosureLemmas.{closure_complete, closure_sound}
 use Rattle.wb_items.specs.declared.transitions.Move.{Move}
-use Rattle.wb_items.specs.Inner.Growing.{IsKernelFor}
+use Rattle.wb_items.specs.Moved.{IsKernelFor}
 use Rattle.wb_items.specs.Kernels.{KernelsView, ListsItems, ListsKernel, count_of}
 use Rattle.wb_items.specs.Order.{SymbolPrecedes}
 use Rattle.wb_items.specs.Table.{IsRow, Leads}

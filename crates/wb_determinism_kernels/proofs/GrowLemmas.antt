@@ -11,7 +11,7 @@ use Rattle.wb_grammar_theory.specs.declared.item.Item.{Item}
 use Rattle.wb_grammar_theory.specs.Items.{IsKernelItem, IsValidItem, IsViablePrefix, SameKernel, close, move, start, start_item}
 use Rattle.wb_grammar_theory.specs.Productions.{end_of}
 use Rattle.wb_grammar_theory.proofs.FlowLemmas.{same_itself}
-use Rattle.wb_items.specs.Inner.Growing.{IsKernelFor}
+use Rattle.wb_items.specs.Moved.{IsKernelFor}
 use Rattle.wb_items.specs.Kernels.{AreInOrder, KernelsView, ListsKernel, count_of, prefix_of}
 use Rattle.wb_items.specs.Table.{Leads, SameItems}
 use Rattle.wb_compose_theory.specs.Numbered.{IsHostKernel}

@@ -2,7 +2,7 @@
 use Rattle.std.proofs.Common.{◌≡◌, ◌++◌, ◌∷◌, ◌∙◌, [], List, ℕ, length, sym, ap, subst, arith, length-append}
 use Rattle.std.specs.List.{insert}
 use Rattle.wb_grammar_theory.specs.declared.item.Item.{Item}
-use Rattle.wb_items.specs.Inner.Searches.{IsIndex, LiesWithin}
+use Rattle.wb_items.specs.KernelOrder.{IsIndex, LiesWithin}
 use Rattle.wb_items.specs.Kernels.{AreInOrder}
 use Rattle.wb_items.proofs.IndexLemmas.{index_more}
 use Rattle.wb_determinism_kernels.specs.declared.index.Step.{Step}

@@ -12,7 +12,7 @@ use Rattle.wb_grammar_theory.specs.Items.{IsKernelItem, IsViablePrefix, advance,
 use Rattle.wb_grammar_theory.specs.Productions.{IsProduction}
 use Rattle.wb_grammar_theory.proofs.DotLemmas.{after_initial}
 use Rattle.wb_grammar_theory.proofs.ProductionLemmas.{production_within}
-use Rattle.wb_items.specs.Inner.Growing.{IsKernelFor}
+use Rattle.wb_items.specs.Moved.{IsKernelFor}
 use Rattle.wb_items.specs.Kernels.{KernelsView, count_of, prefix_of}
 use Rattle.wb_items.specs.Table.{Leads}
 use Rattle.wb_compose_theory.specs.Numbered.{IsHostKernel}

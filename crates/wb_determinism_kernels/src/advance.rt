@@ -6,7 +6,7 @@ ghost use Rattle.wb_grammar_theory.specs.declared.item.Item.{Item};
 ghost use Rattle.wb_grammar_theory.specs.Items as items;
 ghost use Rattle.wb_determinism_kernels.specs.declared.advance.Advance.{Advance};
 ghost use Rattle.wb_determinism_kernels.specs.Inner.Advances.{AdvancesUpTo, AreAdvancesRising, HasAdvance, symbol_of};
-ghost use Rattle.wb_items.specs.Inner.Growing.{IsMoved};
+ghost use Rattle.wb_items.specs.Moved.{IsMoved};
 
 use crate::places::item_at;
 use std::alloc::{AllocError, Global};

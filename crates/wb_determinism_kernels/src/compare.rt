@@ -3,7 +3,7 @@
 ghost use Rattle.std.specs.Prelude.{◌≡◌};
 ghost use Rattle.std.specs.Ordering.{MatchOrdering};
 ghost use Rattle.wb_items.specs.Kernels.{AreInOrder, Precedes};
-ghost use Rattle.wb_items.specs.Inner.Searches.{ComesFirst};
+ghost use Rattle.wb_items.specs.KernelOrder.{ComesFirst};
 ghost use Rattle.wb_items.specs.Table.{SameItems};
 
 use crate::places::item_at;

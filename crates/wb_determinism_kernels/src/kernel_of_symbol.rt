@@ -5,7 +5,7 @@ ghost use Rattle.wb_grammar_theory.specs.declared.item.Item.{Item};
 ghost use Rattle.wb_determinism_kernels.specs.declared.advance.Advance.{Advance};
 ghost use Rattle.wb_determinism_kernels.specs.Inner.Advances.{AreAdvancesRising, IsRun, items_of, symbol_of};
 ghost use Rattle.wb_items.specs.Kernels.{AreInOrder};
-ghost use Rattle.wb_items.specs.Inner.Passes.{AreRising, StrictUpTo};
+ghost use Rattle.wb_items.specs.Sorted.{AreRising, StrictUpTo};
 
 use crate::advance::{Advance, symbol_at};
 use crate::places::{is_item, is_symbol};

@@ -7,7 +7,7 @@ ghost use Rattle.wb_determinism_kernels.specs.Given.{IsGiven};
 ghost use Rattle.wb_determinism_kernels.specs.NewKernels.{prefixes_beside};
 ghost use Rattle.wb_determinism_kernels.specs.Numbers.{up_by};
 ghost use Rattle.wb_determinism_kernels.specs.Inner.Growing.{AreFoundSoFar, IsAdded, IsHostNumber, IsNoHostKernel};
-ghost use Rattle.wb_items.specs.Inner.Growing.{IsKernelFor};
+ghost use Rattle.wb_items.specs.Moved.{IsKernelFor};
 ghost use Rattle.wb_items.specs.Kernels.{count_of};
 
 use crate::beside::Beside;

@@ -3,7 +3,7 @@
 ghost use Rattle.std.specs.Prelude.{◌≡◌, ◌<◌, List, IfOk, IfErr, Some, length, slice_get};
 ghost use Rattle.wb_grammar_theory.specs.declared.item.Item.{Item};
 ghost use Rattle.wb_items.specs.Kernels.{AreInOrder};
-ghost use Rattle.wb_items.specs.Inner.Searches.{IsIndex, LiesWithin};
+ghost use Rattle.wb_items.specs.KernelOrder.{IsIndex, LiesWithin};
 ghost use Rattle.wb_items.specs.Table.{SameItems};
 
 use crate::compare::compare_in_order;

@@ -1,11 +1,11 @@
 -- Equations by what they are for.
-use Rattle.std.specs.Prelude.{◌≡◌, ◌≢◌, ◌<◌, ◌≤◌, ℕ, zero, suc, List, Some, length, slice_get}
+use Rattle.std.specs.Prelude.{◌≡◌, ◌≢◌, ◌<◌, ℕ, suc, List, Some, length, slice_get}
 use Rattle.wb_syntax_resolved.specs.declared.equation.Equation.{Equation}
 use Rattle.wb_syntax_resolved.specs.declared.equation.Place.TheVariants as place
 use Rattle.wb_syntax_resolved.specs.declared.equation.Target.{Target}
 use Rattle.wb_syntax_resolved.specs.declared.equation.Target.TheVariants as target
 use Rattle.wb_syntax_resolved.specs.declared.production.Production.{Production}
-use Rattle.wb_eval_rows.specs.Sparse.{number_at, IsForest}
+use Rattle.wb_eval_rows.specs.Sparse.{number_at}
 use Rattle.wb_eval_rules.specs.declared.equations.Equations.{Equations}
 
 -- the number of the equation for a target, from 1 on, or 0
@@ -14,13 +14,6 @@ number_for index (target.Top y) = number_at index.tops 0 y
 number_for index (target.Forward y) = number_at index.forwards 0 y
 number_for index (target.Place (place.Child k) y) = number_at index.children k y
 number_for index (target.Place (place.Local x) y) = number_at index.locals x y
-
--- the numbers can be found
-pub record AreFound (index : Equations) : Type 0 where
-  pub tops : IsForest index.tops
-  pub forwards : IsForest index.forwards
-  pub children : IsForest index.children
-  pub locals : IsForest index.locals
 
 -- the numbers are those of the first equations, so many: each number leads to an equation for its target, and each equation has one
 pub record IsIndexOf (equations : List Equation) (count : ℕ) (index : Equations) : Type 0 where

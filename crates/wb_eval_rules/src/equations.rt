@@ -8,7 +8,8 @@ ghost use Rattle.wb_flow_theory.specs.Vertices.{local, forward, tree_of};
 ghost use Rattle.wb_syntax_resolved.specs.declared.equation.Target.{Target};
 ghost use Rattle.wb_operations.specs.Operations.{OperationSignature};
 ghost use Rattle.wb_eval_rules.specs.Codes.{IsCoded, HasCode};
-ghost use Rattle.wb_eval_rules.specs.Indexes.{number_for, AreFound, IsIndexOf};
+ghost use Rattle.wb_eval_rules.specs.Indexes.{number_for, IsIndexOf};
+ghost use Rattle.wb_eval_rules.specs.Inner.Found.{AreFound};
 
 use crate::code::Op;
 use crate::codes::Codes;

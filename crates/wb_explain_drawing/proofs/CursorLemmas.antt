@@ -7,7 +7,7 @@ use Rattle.std.proofs.lemmas.List.{drop-append-le, length-take-le, take_more}
 use Rattle.std.proofs.lemmas.List.Sums.{count_by_more_no, count_by_more_yes, count_by-le-length}
 use Rattle.wb_lemmas.proofs.Parts.{drop_past}
 use Rattle.wb_explain_places.specs.Characters.{begins_character, is_line_feed}
-use Rattle.wb_explain_places.specs.Inner.Ends.{IsLineStart}
+use Rattle.wb_explain_places.specs.LineStarts.{IsLineStart}
 use Rattle.wb_explain_places.specs.Place.{line_number}
 use Rattle.wb_explain_drawing.specs.Inner.Bytes.{IsByteAt}
 use Rattle.wb_explain_drawing.specs.Reached.{IsReached, column_from}

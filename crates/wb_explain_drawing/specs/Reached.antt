@@ -2,7 +2,7 @@
 use Rattle.std.specs.Prelude.{◌≡◌, ◌≤◌, ◌+◌, ℕ, List, length, take, drop}
 use Rattle.std.specs.List.{count_by}
 use Rattle.wb_explain_places.specs.Characters.{begins_character}
-use Rattle.wb_explain_places.specs.Inner.Ends.{IsLineStart}
+use Rattle.wb_explain_places.specs.LineStarts.{IsLineStart}
 use Rattle.wb_explain_places.specs.Place.{line_number}
 use Rattle.wb_explain_drawing.specs.declared.cursor.Cursor.{Cursor}
 

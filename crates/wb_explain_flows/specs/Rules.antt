@@ -1,6 +1,6 @@
 -- By which equation a vertex reads another, and where that equation is.
 use Rattle.std.specs.Prelude.{◌≡◌, ℕ, List, Some, Contains, slice_get}
-use Rattle.wb_flow.specs.Inner.Arrows.{read_by}
+use Rattle.wb_flow.specs.Reads.{read_by}
 use Rattle.wb_flow.specs.Rules.{target_of}
 use Rattle.wb_flow.specs.declared.vertex.Vertex.{Vertex}
 use Rattle.wb_flow.specs.declared.vertex.Vertex.TheVariants as v

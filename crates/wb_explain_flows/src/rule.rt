@@ -1,7 +1,7 @@
 //! Which equation of a production reads one vertex for another?
 
 ghost use Rattle.std.specs.Prelude.{◌≡◌, Some, IfSome, true};
-ghost use Rattle.wb_flow.specs.Inner.Arrows.{read_by, label_read};
+ghost use Rattle.wb_flow.specs.Reads.{read_by, label_read};
 ghost use Rattle.wb_flow.specs.Rules.{target_of};
 ghost use Rattle.wb_explain_flows.specs.Inner.Equations.{IsEquationAt, IsForwardAt, IsLocalAt, IsMadeAt};
 ghost use Rattle.wb_explain_flows.specs.Rules.{IsReadAt, ReadsVertex};

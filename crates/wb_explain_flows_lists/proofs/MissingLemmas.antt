@@ -7,7 +7,8 @@ use Rattle.wb_complete.specs.Refusals.{LacksTop}
 use Rattle.wb_flow.proofs.AddingLemmas.{adds_as, adds_none}
 use Rattle.wb_flow.proofs.ArrowLemmas.{defined_rule, top_rule}
 use Rattle.wb_flow.proofs.RowLemmas.{OnNonterminal}
-use Rattle.wb_flow.specs.Inner.Adding.{Adds, SomeBelow}
+use Rattle.wb_flow.specs.Inner.Adding.{SomeBelow}
+use Rattle.wb_flow.specs.Adding.{Adds}
 use Rattle.wb_flow.specs.Rules.{IsDefined}
 use Rattle.wb_flow.specs.declared.vertex.Vertex.{Vertex}
 use Rattle.wb_flow.specs.declared.vertex.Vertex.TheVariants as v

@@ -3,7 +3,7 @@
 //! All of them, as aspects to paste: a report shows one.
 
 ghost use Rattle.std.specs.Prelude.{◌≡◌, ◌↔◌, ◌⊎◌, ◌++◌, Contains, IfOk, OnOk};
-ghost use Rattle.wb_flow.specs.Inner.Adding.{Adds};
+ghost use Rattle.wb_flow.specs.Adding.{Adds};
 ghost use Rattle.wb_flow.specs.Occurrences.{IsIndexOf};
 ghost use Rattle.wb_flow.specs.Rules.{IsDefined};
 ghost use Rattle.wb_flow.specs.declared.vertex.Vertex.{Vertex as Point};

@@ -2,7 +2,8 @@
 use Rattle.std.proofs.Common.{◌≡◌, ◌∙◌, ℕ, List, ◌++◌, ap, length}
 use lib.Chars.{codes}
 use Rattle.wb_text_parts.specs.Parts.{number_then, Begins, IsSmall}
-use Rattle.wb_explain_lines.specs.Lines.{AreRefusedParts, IsRefusedLine, ShowsNumber}
+use Rattle.wb_explain_lines.specs.Lines.{IsRefusedLine, ShowsNumber}
+use Rattle.wb_explain_lines.specs.Inner.Parts.{AreRefusedParts}
 
 pub refused_line : (line after file code rest : List ℕ) → line ≡ codes "refused " ++ after → AreRefusedParts after file code rest
     → IsRefusedLine line file code rest

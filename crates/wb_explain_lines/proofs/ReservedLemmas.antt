@@ -8,7 +8,7 @@ use Rattle.wb_text_tokens.specs.declared.token.Dialect.{Dialect}
 use Rattle.wb_text_tokens.specs.declared.token.Token.{Token}
 use Rattle.wb_text_tokens.specs.declared.token.Token.TheVariants.{Word as Reserved}
 use Rattle.wb_text_tokens.specs.declared.word.Word.{Word}
-use Rattle.wb_explain_lines.specs.Reserved.{IsReservedAt}
+use Rattle.wb_explain_lines.specs.Inner.Reserved.{IsReservedAt}
 
 pub reserved_next : (next : Next Token) (placed : Placed Token) (word : Word) → next ≡ n.Found placed → placed.token ≡ Reserved word
     → (dialect : Dialect) (text : List ℕ) (from : ℕ) → IsNextIn dialect text from next → IsReservedAt dialect text from word

@@ -4,7 +4,7 @@ pub mod Page
 pub mod Written
 -- what a shelf keeps while it is read
 pub mod Outside
--- a reserved word of a text
-pub mod Reserved
 -- the parts of a report's line
 pub mod Lines
+-- words of private functions
+pub mod Inner

@@ -3,11 +3,6 @@ use Rattle.std.specs.Prelude.{◌≡◌, ℕ, List, ◌++◌, length}
 use lib.Chars.{codes}
 use Rattle.wb_text_parts.specs.Parts.{number_then}
 
--- the text is the name of a file, a code of two bytes after a space, and what is after that
-pub record AreRefusedParts (text file code rest : List ℕ) : Type 0 where
-  pub short : length code ≡ 2
-  pub parts : text ≡ file ++ (codes " " ++ (code ++ rest))
-
 -- the line refuses this file, with this code of two bytes, and this is after the code
 pub record IsRefusedLine (line file code rest : List ℕ) : Type 0 where
   pub short : length code ≡ 2

@@ -2,7 +2,8 @@
 
 ghost use Rattle.std.specs.Prelude.{◌≡◌, ◌<◌, ◌++◌, length, IfSome};
 ghost use lib.Chars.{codes};
-ghost use Rattle.wb_explain_lines.specs.Lines.{AreRefusedParts, IsRefusedLine, ShowsNumber};
+ghost use Rattle.wb_explain_lines.specs.Lines.{IsRefusedLine, ShowsNumber};
+ghost use Rattle.wb_explain_lines.specs.Inner.Parts.{AreRefusedParts};
 
 use wb_text_parts::{number, word};
 

@@ -5,7 +5,7 @@
 ghost use Rattle.std.specs.Prelude.{◌≤◌, ℕ, List, length, IfOk, IfSome};
 ghost use Rattle.wb_text_tokens.specs.NextToken.{IsNextIn};
 ghost use Rattle.wb_text_tokens.specs.declared.token.Dialect.{Dialect};
-ghost use Rattle.wb_explain_lines.specs.Reserved.{IsReservedAt};
+ghost use Rattle.wb_explain_lines.specs.Inner.Reserved.{IsReservedAt};
 
 use std::alloc::{AllocError, Global};
 use wb_text_predictive::Next;

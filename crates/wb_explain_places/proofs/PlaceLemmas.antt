@@ -2,7 +2,8 @@
 use Rattle.std.proofs.Common.{◌≡◌, ◌≢◌, ◌+◌, ◌≤◌, ◌<◌, ◌∙◌, ℕ, List, ◌++◌, slice_index, slice_range, ap, ◌⊎◌, inl, inr, Result, Ok, Err, OnOk}
 use Rattle.std.proofs.lemmas.Bool.{cases_lt}
 use Rattle.wb_lemmas.proofs.Parts.{append_assoc}
-use Rattle.wb_explain_places.specs.Inner.Ends.{IsLineEnd, IsLineStart}
+use Rattle.wb_explain_places.specs.Inner.Ends.{IsLineEnd}
+use Rattle.wb_explain_places.specs.LineStarts.{IsLineStart}
 use Rattle.wb_explain_places.specs.Place.{column, heading, line_number, pointed, IsLineOf, Shows}
 
 -- a line from its beginning to its end

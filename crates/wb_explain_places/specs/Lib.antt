@@ -6,4 +6,6 @@ pub mod Place
 pub mod Window
 -- where a name is
 pub mod Uses
+-- where a line begins
+pub mod LineStarts
 pub mod Inner

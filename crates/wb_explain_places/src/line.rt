@@ -1,7 +1,8 @@
 //! Where does the line of a place begin, and where does it end?
 
 ghost use Rattle.std.specs.Prelude.{◌≤◌, length};
-ghost use Rattle.wb_explain_places.specs.Inner.Ends.{IsLineEnd, IsLineStart};
+ghost use Rattle.wb_explain_places.specs.Inner.Ends.{IsLineEnd};
+ghost use Rattle.wb_explain_places.specs.LineStarts.{IsLineStart};
 
 // Where the line begins.
 pub(crate) fn line_start(text: &[u8], at: usize) -> usize

@@ -7,7 +7,8 @@ use Rattle.std.proofs.lemmas.Bool.{cases_lt}
 use Rattle.std.proofs.lemmas.Option.{slice_get_within, slice_get-get_or}
 use Rattle.wb_lemmas.proofs.Members.{contains_at, place_of, nothing_in, contains_push, push_contains, push_contains_last}
 use Rattle.wb_lemmas.proofs.Places.{at_once}
-use Rattle.wb_flow.specs.Inner.Adding.{Adds, SomeBefore, SomeOf, SomeBelow}
+use Rattle.wb_flow.specs.Inner.Adding.{SomeBefore, SomeOf, SomeBelow}
+use Rattle.wb_flow.specs.Adding.{Adds}
 
 -- one of the numbers up to this one is below it, or it
 pub below_or : (k i : ℕ) → k < i + 1 → (k < i) ⊎ (k ≡ i)

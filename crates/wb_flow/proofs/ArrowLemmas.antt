@@ -19,7 +19,8 @@ use Rattle.wb_flow.specs.declared.positions.TreeAt.{TreeAt}
 use Rattle.wb_flow.specs.declared.vertex.Vertex.{Vertex}
 use Rattle.wb_flow.specs.declared.vertex.Vertex.TheVariants as code
 use Rattle.wb_flow.specs.Inner.Adding.{SomeOf}
-use Rattle.wb_flow.specs.Inner.Arrows.{IsArrow, read_by, IsExpressionArrow, IsRuleArrow, IsOccurrenceArrow}
+use Rattle.wb_flow.specs.Inner.Arrows.{IsArrow, IsExpressionArrow, IsRuleArrow, IsOccurrenceArrow}
+use Rattle.wb_flow.specs.Reads.{read_by}
 use Rattle.wb_flow.specs.Inner.Arrows.{IsBelowArrow, IsCopyArrow, IsLeftCopyArrow}
 use Rattle.wb_flow.specs.Inner.Positions.{vertex_at, tree_at, HasTree}
 use Rattle.wb_flow.specs.Vertices.{vertex_below, vertex_of}

@@ -15,7 +15,7 @@ use Rattle.wb_lemmas.proofs.Places.{at_once, at_within, default_at}
 use Rattle.wb_termset.specs.Sets.{IsMember, IsSubset}
 use Rattle.wb_termset.proofs.CallerLemmas.{IsUnion-left, IsUnion-right}
 use Rattle.wb_flow.specs.declared.vertex.Vertex.{Vertex}
-use Rattle.wb_flow.specs.Inner.Adding.{Adds}
+use Rattle.wb_flow.specs.Adding.{Adds}
 use Rattle.wb_flow.specs.Inner.Closing.{AreEven, AreFalling, AreJoined, IsClosing, AreClosed, AreClosedOver, AreStarts}
 use Rattle.wb_flow.specs.ReachSets.{set_at}
 use Rattle.wb_flow.specs.Inner.Closing.{IsStepOf, AreStepsOf}

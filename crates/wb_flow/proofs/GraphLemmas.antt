@@ -15,7 +15,8 @@ use Rattle.wb_flow.specs.declared.positions.TreeAt.{TreeAt}
 use Rattle.wb_flow.specs.declared.vertex.FlowGraph.{FlowGraph}
 use Rattle.wb_flow.specs.declared.vertex.Vertex.{Vertex}
 use Rattle.wb_flow.specs.Graphs.{IsNeededBy, IsFlowGraph}
-use Rattle.wb_flow.specs.Inner.Adding.{Adds, SomeOf}
+use Rattle.wb_flow.specs.Inner.Adding.{SomeOf}
+use Rattle.wb_flow.specs.Adding.{Adds}
 use Rattle.wb_flow.specs.Inner.Arrows.{IsArrow, IsNumbered, IsRuleArrow, IsBelowArrow, IsLeftCopyArrow}
 use Rattle.wb_flow.specs.Inner.Positions.{HasTree, IsVertexOf}
 use Rattle.wb_flow.specs.Vertices.{vertex_of}

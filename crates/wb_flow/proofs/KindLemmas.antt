@@ -11,8 +11,10 @@ use Rattle.wb_flow.specs.declared.arrows.Arrow.{Arrow}
 use Rattle.wb_flow.specs.declared.positions.Position.{Position}
 use Rattle.wb_flow.specs.declared.vertex.Vertex.{Vertex}
 use Rattle.wb_flow.specs.declared.vertex.Vertex.TheVariants as code
-use Rattle.wb_flow.specs.Inner.Adding.{Adds, SomeOf, SomeBelow}
-use Rattle.wb_flow.specs.Inner.Arrows.{IsReadArrow, IsExpressionArrow, IsEquationArrow, IsLocalArrow, IsForwardArrow, IsRuleArrow, read_by}
+use Rattle.wb_flow.specs.Inner.Adding.{SomeOf, SomeBelow}
+use Rattle.wb_flow.specs.Adding.{Adds}
+use Rattle.wb_flow.specs.Inner.Arrows.{IsReadArrow, IsExpressionArrow, IsEquationArrow, IsLocalArrow, IsForwardArrow, IsRuleArrow}
+use Rattle.wb_flow.specs.Reads.{read_by}
 use Rattle.wb_flow.specs.Inner.Arrows.{IsNeedArrow, IsTreeArrow, IsCopyArrow}
 use Rattle.wb_flow.specs.Inner.Positions.{vertex_at, tree_at}
 use Rattle.wb_flow.proofs.AddingLemmas.{adds_as, adds_one, adds_none}

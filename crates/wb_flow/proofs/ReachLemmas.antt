@@ -16,7 +16,8 @@ use Rattle.wb_flow.specs.declared.vertex.FlowGraph.{FlowGraph}
 use Rattle.wb_flow.specs.declared.vertex.Vertex.{Vertex}
 use Rattle.wb_flow.specs.declared.vertex.Vertex.TheVariants as code
 use Rattle.wb_flow.specs.Tops.{IsTop, KnowsTops, IsSelection, AddsSelected, HasSet, IsBeyond}
-use Rattle.wb_flow.specs.Inner.Adding.{Adds, SomeOf}
+use Rattle.wb_flow.specs.Inner.Adding.{SomeOf}
+use Rattle.wb_flow.specs.Adding.{Adds}
 use Rattle.wb_flow.specs.Inner.Closing.{IsOutsideAt, IsSelectionBefore}
 use Rattle.wb_flow.specs.ReachSets.{set_at}
 use Rattle.wb_flow.proofs.AddingLemmas.{below_or, adds_as}

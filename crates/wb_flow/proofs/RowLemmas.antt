@@ -5,7 +5,8 @@ use Rattle.std.proofs.lemmas.Option.{slice_get-get_or, same_Some}
 use Rattle.wb_lemmas.proofs.Members.{contains_at, place_of}
 use Rattle.wb_lemmas.proofs.Places.{at_once}
 use Rattle.wb_flow_theory.specs.Occurrences.{IsOn}
-use Rattle.wb_flow.specs.Inner.Adding.{Adds, SomeBefore, SomeOf}
+use Rattle.wb_flow.specs.Inner.Adding.{SomeBefore, SomeOf}
+use Rattle.wb_flow.specs.Adding.{Adds}
 use Rattle.wb_flow.specs.Occurrences.{IsIndexOf}
 use Rattle.wb_flow.proofs.AddingLemmas.{adds_as, adds_more, adds_all}
 use Rattle.wb_flow.proofs.IndexLemmas.{row_number, number_within, on_of_number}

@@ -6,7 +6,8 @@ use Rattle.std.proofs.lemmas.Option.{same_Some, slice_get_within, slice_get-get_
 use Rattle.wb_flow.specs.declared.positions.Position.{Position}
 use Rattle.wb_flow.specs.declared.positions.Position.TheVariants as p
 use Rattle.wb_flow.specs.declared.positions.TreeAt.{TreeAt}
-use Rattle.wb_flow.specs.Inner.Adding.{Adds, SomeBelow}
+use Rattle.wb_flow.specs.Inner.Adding.{SomeBelow}
+use Rattle.wb_flow.specs.Adding.{Adds}
 use Rattle.wb_flow.specs.Inner.Positions.{nonterminal_at, child_nonterminal, kind_nonterminal, HasTree, IsTreeOf}
 use Rattle.wb_flow.proofs.AddingLemmas.{adds_both, adds_to_nothing}
 use Rattle.wb_syntax_resolved.specs.declared.production.Child.{Child}

@@ -14,5 +14,9 @@ pub mod Tops
 pub mod Refusals
 -- that they have at most one answer
 pub mod OneAnswer
+-- lists to which values are added
+pub mod Adding
+-- what a node of an expression reads
+pub mod Reads
 -- what loops keep, and words of private functions
 pub mod Inner

@@ -6,7 +6,8 @@ ghost use Rattle.std.specs.Prelude.{◌≡◌, ◌↔◌, Contains, OnOk, length
 ghost use Rattle.wb_flow_theory.specs.Rules.{Forwards};
 ghost use Rattle.wb_flow.specs.declared.vertex.Vertex.{Vertex};
 ghost use Rattle.wb_flow.specs.Rules.{IsDefined};
-ghost use Rattle.wb_flow.specs.Inner.Adding.{Adds, SomeOf, SomeBelow};
+ghost use Rattle.wb_flow.specs.Inner.Adding.{SomeOf, SomeBelow};
+ghost use Rattle.wb_flow.specs.Adding.{Adds};
 ghost use Rattle.wb_flow.specs.Inner.Arrows.{IsReadArrow, IsExpressionArrow, IsEquationArrow, IsLocalArrow, IsForwardArrow, IsRuleArrow};
 ghost use Rattle.wb_flow.specs.Inner.Arrows.{IsNeedArrow, IsTreeArrow, IsOccurrenceArrow, IsBelowArrow, IsCopyArrow, IsLeftCopyArrow};
 ghost use Rattle.wb_flow.specs.Occurrences.{IsIndexOf};

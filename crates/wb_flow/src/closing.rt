@@ -5,7 +5,7 @@
 ghost use Rattle.std.specs.Prelude.{◌≡◌, ◌≢◌, ◌<◌, ℕ, All, Contains, IfOk, OnOk, length, replicate, false, slice_get, Some};
 ghost use Rattle.std.specs.List.Sorted.{IsNonDecreasingBy};
 ghost use Rattle.wb_flow.specs.declared.vertex.Vertex.{Vertex};
-ghost use Rattle.wb_flow.specs.Inner.Adding.{Adds};
+ghost use Rattle.wb_flow.specs.Adding.{Adds};
 ghost use Rattle.wb_flow.specs.Inner.Closing.{AreEven, AreStarts, AddsStart, AreStepsOf, AreFalling, AreJoined, AreClosed, AreClosedOver};
 ghost use Rattle.wb_flow.specs.ReachSets.{set_at, AreReachSets};
 ghost use Rattle.wb_graph.specs.Components.{AreComponents};

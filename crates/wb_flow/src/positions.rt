@@ -4,7 +4,8 @@
 
 ghost use Rattle.std.specs.Prelude.{◌≡◌, ◌↔◌, IsTrue, Contains, IfOk, OnOk, length};
 ghost use Rattle.wb_flow.specs.declared.positions.Position.TheVariants.{Top, Child, Local};
-ghost use Rattle.wb_flow.specs.Inner.Adding.{Adds, SomeBelow};
+ghost use Rattle.wb_flow.specs.Inner.Adding.{SomeBelow};
+ghost use Rattle.wb_flow.specs.Adding.{Adds};
 ghost use Rattle.wb_flow.specs.Inner.Positions.{vertex_at, tree_at, child_nonterminal, nonterminal_at, HasTree, IsTreeOf};
 
 use crate::Vertex;

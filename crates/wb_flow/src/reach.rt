@@ -5,7 +5,7 @@
 
 ghost use Rattle.std.specs.Prelude.{◌≡◌, ◌<◌, ◌↔◌, ℕ, Some, All, IfOk, IfSome, IfNone, OnOk, Contains, length, slice_get};
 ghost use Rattle.wb_flow.specs.declared.vertex.Vertex.{Vertex};
-ghost use Rattle.wb_flow.specs.Inner.Adding.{Adds};
+ghost use Rattle.wb_flow.specs.Adding.{Adds};
 ghost use Rattle.wb_flow.specs.Inner.Closing.{IsOutsideAt};
 ghost use Rattle.wb_flow.specs.ReachSets.{set_at};
 ghost use Rattle.wb_flow.specs.Tops.{AddsSelected, HasSet, IsBeyond, IsTop, IsSelection, KnowsTops};

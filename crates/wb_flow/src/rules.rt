@@ -5,7 +5,7 @@
 ghost use Rattle.std.specs.Prelude.{◌≡◌, ◌↔◌, Contains, IfOk};
 ghost use Rattle.wb_flow.specs.declared.vertex.Vertex.{Vertex};
 ghost use Rattle.wb_flow.specs.Rules.{attribute_at, target_of, IsDefined};
-ghost use Rattle.wb_flow.specs.Inner.Arrows.{label_read, read_by};
+ghost use Rattle.wb_flow.specs.Reads.{label_read, read_by};
 
 use crate::Vertex;
 use crate::vertex_set::VertexSet;

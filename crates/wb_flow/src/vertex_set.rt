@@ -4,7 +4,7 @@
 
 ghost use Rattle.std.specs.Prelude.{◌≡◌, ◌↔◌, [], Contains, IfSome, IfNone, IsTrue, OnOk, Some, length, slice_get};
 ghost use Rattle.wb_base.specs.Different.{Differ};
-ghost use Rattle.wb_flow.specs.Inner.Adding.{Adds};
+ghost use Rattle.wb_flow.specs.Adding.{Adds};
 
 use crate::Vertex;
 use indexmap::IndexSet;

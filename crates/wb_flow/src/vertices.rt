@@ -4,7 +4,8 @@
 
 ghost use Rattle.std.specs.Prelude.{◌≡◌, ◌↔◌, Some, Contains, IfOk, OnOk};
 ghost use Rattle.wb_flow.specs.declared.vertex.Vertex.{Vertex};
-ghost use Rattle.wb_flow.specs.Inner.Adding.{Adds, SomeOf};
+ghost use Rattle.wb_flow.specs.Inner.Adding.{SomeOf};
+ghost use Rattle.wb_flow.specs.Adding.{Adds};
 ghost use Rattle.wb_flow.specs.Inner.Positions.{tree_at, IsAttributeOf, IsVertexOf};
 ghost use Rattle.wb_flow.specs.Occurrences.{IsIndexOf};
 

@@ -24,8 +24,9 @@ use Rattle.wb_items.specs.Inner.Advances.{AreAdvancesRising, AdvancePrecedes, Ha
 use Rattle.wb_items.specs.Inner.Advances.{symbol_of}
 use Rattle.wb_items.specs.Kernels.{ListsItems, Precedes}
 use Rattle.wb_items.specs.Order.{SymbolPrecedes}
-use Rattle.wb_items.specs.Inner.Passes.{AdvancesUpTo, AreRising}
-use Rattle.wb_items.specs.Inner.Growing.{IsMoved}
+use Rattle.wb_items.specs.Inner.Passes.{AdvancesUpTo}
+use Rattle.wb_items.specs.Sorted.{AreRising}
+use Rattle.wb_items.specs.Moved.{IsMoved}
 use Rattle.wb_items.proofs.OrderLemmas.{less_by}
 use Rattle.wb_items.proofs.SymbolOrder.{symbol_not_itself}
 

@@ -7,7 +7,8 @@ use Rattle.wb_lemmas.proofs.Places.{at_once}
 use Rattle.wb_lemmas.proofs.Members.{contains_at, place_of}
 use Rattle.wb_grammar_theory.specs.declared.item.Item.{Item}
 use Rattle.wb_items.specs.Kernels.{Precedes, AreInOrder}
-use Rattle.wb_items.specs.Inner.Searches.{ComesFirst, IsAfter, IsLeastAfter, AgreeUpTo}
+use Rattle.wb_items.specs.Inner.Searches.{IsAfter, IsLeastAfter, AgreeUpTo}
+use Rattle.wb_items.specs.KernelOrder.{ComesFirst}
 use Rattle.wb_items.specs.Table.{SameItems}
 use Rattle.wb_items.proofs.OrderLemmas.{compared, ahead, alike, follows, precedes_then, not_itself}
 

@@ -10,7 +10,8 @@ use Rattle.wb_lemmas.proofs.Members.{contains_at, place_of}
 use Rattle.wb_grammar_theory.specs.declared.item.Item.{Item}
 use Rattle.wb_items.specs.Kernels.{Precedes, AreInOrder}
 use Rattle.wb_items.specs.Table.{SameItems}
-use Rattle.wb_items.specs.Inner.Searches.{ComesFirst, AgreeBelow}
+use Rattle.wb_items.specs.Inner.Searches.{AgreeBelow}
+use Rattle.wb_items.specs.KernelOrder.{ComesFirst}
 use Rattle.wb_items.proofs.OrderLemmas.{precedes_then, not_itself}
 
 -- the derived order of items

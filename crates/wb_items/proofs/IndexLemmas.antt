@@ -10,7 +10,7 @@ use Rattle.wb_lemmas.proofs.Places.{at_once, at_push, default_at}
 use Rattle.wb_lemmas.proofs.Members.{contains_at, place_of}
 use Rattle.wb_grammar_theory.specs.declared.item.Item.{Item}
 use Rattle.wb_items.specs.Kernels.{AreInOrder}
-use Rattle.wb_items.specs.Inner.Searches.{ComesFirst, IsIndex, LiesWithin}
+use Rattle.wb_items.specs.KernelOrder.{ComesFirst, IsIndex, LiesWithin}
 use Rattle.wb_items.specs.Table.{SameItems}
 use Rattle.wb_items.proofs.CompareLemmas.{first_then, first_not_same, first_not_turned}
 

@@ -10,11 +10,12 @@ use Rattle.wb_base.specs.declared.symbol.Symbol.{Symbol}
 use Rattle.wb_base.specs.declared.symbol.Symbol.TheVariants.{Terminal}
 use Rattle.wb_grammar_theory.specs.declared.item.Item.{Item}
 use Rattle.wb_items.specs.declared.kernel_index.Step.{Step}
-use Rattle.wb_items.specs.Index.{GoesOn, IndexView, prefixes_after, prefixes_of}
+use Rattle.wb_items.specs.Index.{IndexView, prefixes_after, prefixes_of}
+use Rattle.wb_items.specs.Inner.Numbering.{GoesOn}
 use Rattle.wb_items.specs.Inner.Steps.{IsKernelIndex, AreSteps}
 use Rattle.std.specs.List.{insert}
 use Rattle.wb_items.specs.Kernels.{AreInOrder}
-use Rattle.wb_items.specs.Inner.Searches.{IsIndex, LiesWithin}
+use Rattle.wb_items.specs.KernelOrder.{IsIndex, LiesWithin}
 use Rattle.wb_items.proofs.IndexLemmas.{index_more}
 
 -- the prefix of a step

@@ -14,7 +14,8 @@ use Rattle.wb_grammar_theory.proofs.KernelLemmas.{kernel_decides, same_move}
 use Rattle.wb_grammar_theory.proofs.ValidLemmas.{before_last}
 use Rattle.wb_grammar_theory.proofs.FlowLemmas.{same_itself, same_back, same_then}
 use Rattle.wb_items.specs.declared.transitions.Move.{Move}
-use Rattle.wb_items.specs.Index.{GoesOn, IndexView}
+use Rattle.wb_items.specs.Index.{IndexView}
+use Rattle.wb_items.specs.Inner.Numbering.{GoesOn}
 use Rattle.wb_items.specs.Kernels.{AreKernels, AreInOrder, IsLedTo, ListsKernel, ListsItems, HasNoneBefore}
 use Rattle.wb_items.specs.Table.{AreMovesInOrder, SameItems, IsTable, IsRow, Leads}
 use Rattle.wb_items.proofs.OrderLemmas.{order_nil}

@@ -19,7 +19,8 @@ use Rattle.wb_items.specs.Index.{IndexView}
 use Rattle.wb_items.specs.Order.{SymbolPrecedes}
 use Rattle.wb_items.specs.Inner.Passes.{MovesUpTo}
 use Rattle.wb_items.specs.Table.{AreKernelsOf, AreMoves, AreMovesInOrder, IsRow, Leads}
-use Rattle.wb_items.specs.Inner.Growing.{Grows, IsKernelFor, IsMoved}
+use Rattle.wb_items.specs.Inner.Growing.{Grows}
+use Rattle.wb_items.specs.Moved.{IsKernelFor, IsMoved}
 use Rattle.wb_items.proofs.AdvanceLemmas.{run_exact}
 use Rattle.wb_items.proofs.TableLemmas.{prefix_at, moved_kernel, grows_then, grows_none, moves_grow}
 use Rattle.wb_items.proofs.SymbolOrder.{symbol_not_itself}

@@ -10,7 +10,7 @@ use Rattle.wb_base.specs.declared.symbol.Symbol.{Symbol}
 use Rattle.wb_base.specs.Grammar.{GrammarView}
 use Rattle.wb_grammar_theory.specs.declared.item.Item.{Item}
 use Rattle.wb_grammar_theory.specs.Items.{advance}
-use Rattle.wb_items.specs.Inner.Growing.{IsMoved}
+use Rattle.wb_items.specs.Moved.{IsMoved}
 use Rattle.wb_items.specs.MovedKernels.{AreInSymbolOrder, AreMovedKernels}
 use Rattle.wb_items.specs.Kernels.{AreInOrder}
 use Rattle.wb_items.specs.Order.{SymbolPrecedes}

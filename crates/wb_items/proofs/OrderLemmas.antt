@@ -11,7 +11,7 @@ use Rattle.wb_lemmas.proofs.Places.{default_at, at_push, at_once}
 use Rattle.wb_lemmas.proofs.Members.{contains_at, place_of, contains_push, push_contains, push_contains_last}
 use Rattle.wb_grammar_theory.specs.declared.item.Item.{Item}
 use Rattle.wb_items.specs.Kernels.{Precedes, AreInOrder}
-use Rattle.wb_items.specs.Inner.Passes.{AreRising, StrictUpTo}
+use Rattle.wb_items.specs.Sorted.{AreRising, StrictUpTo}
 
 -- items of one production and one place of the dot are one
 pub same_item : (a b : Item) → a.production ≡ b.production → a.dot ≡ b.dot → a ≡ b

@@ -20,7 +20,7 @@ use Rattle.wb_items.specs.Index.{IndexView}
 use Rattle.wb_items.specs.Kernels.{AreInOrder, ListsItems, ListsKernel}
 use Rattle.wb_items.specs.Parts.{AreListed}
 use Rattle.wb_items.specs.Table.{AreMoves, IsRow, IsTable, SameItems}
-use Rattle.wb_items.specs.Inner.Growing.{IsKernelFor}
+use Rattle.wb_items.specs.Moved.{IsKernelFor}
 use Rattle.wb_items.specs.Inner.MoveRows.{AreRowsOf, IsRowOf}
 use Rattle.wb_items.specs.Inner.Parts.{AreClosuresOf, AreParts, FoundUpTo, IsClosureOf, PlacesUpTo, Reaches}
 use Rattle.wb_items.proofs.SetLemmas.{set_here, set_elsewhere}

@@ -20,7 +20,8 @@ use Rattle.wb_items.specs.declared.transitions.Move.{Move}
 use Rattle.wb_items.specs.Index.{IndexView}
 use Rattle.wb_items.specs.Kernels.{AreInOrder, ListsKernel, ListsItems}
 use Rattle.wb_items.specs.Table.{SameItems, AreKernelsOf, AreMoves, IsRow, Leads, AreFollowed}
-use Rattle.wb_items.specs.Inner.Growing.{IsKernelFor, Grows}
+use Rattle.wb_items.specs.Inner.Growing.{Grows}
+use Rattle.wb_items.specs.Moved.{IsKernelFor}
 
 -- a number of kernels has its prefix
 pub prefix_at : {g : GrammarView} {prefixes : List (List Symbol)} {kernels : List (List Item)} → AreKernelsOf g prefixes kernels → (s : ℕ) →

@@ -1,5 +1,5 @@
 -- Prefixes as steps, each from an earlier one by a symbol.
-use Rattle.std.specs.Prelude.{◌≡◌, ◌<◌, ℕ, List, [], ◌∷◌, ◌++◌, slice_index_or}
+use Rattle.std.specs.Prelude.{List, [], ◌∷◌, ◌++◌, slice_index_or}
 use Rattle.wb_base.specs.declared.symbol.Symbol.{Symbol}
 use Rattle.wb_grammar_theory.specs.declared.item.Item.{Item}
 use Rattle.wb_items.specs.declared.kernel_index.Step.{Step}
@@ -17,10 +17,3 @@ prefixes_after known (step ∷ steps) = prefixes_after (known ++ (slice_index_or
 -- the prefixes that the steps lead to from the empty one
 abbrev pub prefixes_of : List Step → List (List Symbol)
 prefixes_of steps = prefixes_after ([] ∷ []) steps
-
--- the prefix of this number goes on from that of a lower one by a symbol
-pub record GoesOn (prefixes : List (List Symbol)) (n : ℕ) : Type 0 where
-  pub from : ℕ
-  pub symbol : Symbol
-  pub before : from < n
-  pub is : slice_index_or prefixes n [] ≡ slice_index_or prefixes from [] ++ symbol ∷ []

@@ -16,5 +16,11 @@ pub mod Lookaheads
 pub mod Apart
 -- the lookaheads of a grammar's items as such sets
 pub mod LookaheadSets
+-- items that moved over a symbol, and kernels in order
+pub mod Moved
+-- items in order, each once
+pub mod Sorted
+-- kernels in the order of sets of items, by numbers
+pub mod KernelOrder
 -- what loops keep, and words of private functions
 pub mod Inner

@@ -5,7 +5,7 @@ use Rattle.wb_base.specs.Grammar.{GrammarView}
 use Rattle.wb_grammar_theory.specs.declared.item.Item.{Item}
 use Rattle.wb_grammar_theory.specs.Items.{after_dot}
 use Rattle.wb_items.specs.declared.moved.MovedKernel.{MovedKernel}
-use Rattle.wb_items.specs.Inner.Growing.{IsMoved}
+use Rattle.wb_items.specs.Moved.{IsMoved}
 use Rattle.wb_items.specs.Kernels.{AreInOrder}
 use Rattle.wb_items.specs.Order.{SymbolPrecedes}
 

@@ -7,7 +7,7 @@ ghost use Rattle.wb_grammar_theory.specs.Items as items;
 ghost use Rattle.wb_items.specs.declared.advance.Advance.{Advance};
 ghost use Rattle.wb_items.specs.Inner.Advances.{AreAdvancesRising, HasAdvance, symbol_of};
 ghost use Rattle.wb_items.specs.Inner.Passes.{AdvancesUpTo};
-ghost use Rattle.wb_items.specs.Inner.Growing.{IsMoved};
+ghost use Rattle.wb_items.specs.Moved.{IsMoved};
 
 use crate::dot::{item_at, symbol_after};
 use std::alloc::{AllocError, Global};

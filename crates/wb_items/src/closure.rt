@@ -6,7 +6,7 @@ ghost use Rattle.wb_grammar_theory.specs.Items.{initial_item};
 ghost use Rattle.wb_grammar_theory.specs.Closure.{InClosure};
 ghost use Rattle.wb_items.specs.Inner.Closing.{IsClosing};
 ghost use Rattle.wb_items.specs.Kernels.{AreInOrder};
-ghost use Rattle.wb_items.specs.Inner.Passes.{AreRising, StrictUpTo};
+ghost use Rattle.wb_items.specs.Sorted.{AreRising, StrictUpTo};
 ghost use Rattle.wb_items.specs.Table.{AreProductions};
 
 use crate::dot::{is_item, item_at, nonterminal_after};

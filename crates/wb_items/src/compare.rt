@@ -3,7 +3,8 @@
 ghost use Rattle.std.specs.Prelude.{◌≡◌, ◌<◌, ◌≤◌, ◌+◌, ◌↔◌, IsTrue, length};
 ghost use Rattle.std.specs.Ordering.{MatchOrdering};
 ghost use Rattle.wb_items.specs.Kernels.{AreInOrder, Precedes};
-ghost use Rattle.wb_items.specs.Inner.Searches.{ComesFirst, IsAfter, IsLeastAfter};
+ghost use Rattle.wb_items.specs.Inner.Searches.{IsAfter, IsLeastAfter};
+ghost use Rattle.wb_items.specs.KernelOrder.{ComesFirst};
 ghost use Rattle.wb_items.specs.Table.{SameItems};
 
 use crate::dot::item_at;

@@ -5,7 +5,7 @@
 ghost use Rattle.std.specs.List.{insert};
 ghost use Rattle.std.specs.Prelude.{◌≡◌, ◌<◌, ◌≤◌, ◌++◌, ◌∷◌, [], ℕ, suc, List, IfOk, IfSome, IfNone, OnErr, OnOk, Some, length, slice_get, slice_index_or};
 ghost use Rattle.wb_grammar_theory.specs.declared.item.Item.{Item};
-ghost use Rattle.wb_items.specs.Index.{GoesOn};
+ghost use Rattle.wb_items.specs.Inner.Numbering.{GoesOn};
 ghost use Rattle.wb_items.specs.Kernels.{AreInOrder};
 ghost use Rattle.wb_items.specs.Table.{SameItems};
 

@@ -13,7 +13,8 @@ ghost use Rattle.wb_items.specs.declared.advance.Advance.{Advance};
 ghost use Rattle.wb_items.specs.Inner.Advances.{AreAdvancesRising};
 ghost use Rattle.wb_items.specs.Inner.Passes.{MovesUpTo};
 ghost use Rattle.wb_items.specs.Table.{AreKernelsOf, AreFollowed, AreProductions, IsRow, IsTable, Leads};
-ghost use Rattle.wb_items.specs.Inner.Growing.{Grows, IsKernelFor};
+ghost use Rattle.wb_items.specs.Inner.Growing.{Grows};
+ghost use Rattle.wb_items.specs.Moved.{IsKernelFor};
 
 use crate::advance::{Advance, advances, symbol_at};
 use crate::closure::close;

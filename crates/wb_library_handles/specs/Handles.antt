@@ -1,5 +1,5 @@
 -- Which value a handle names, and what becomes of the others.
-use Rattle.std.specs.Prelude.{◌≡◌, ◌≢◌, ◌<◌, ◌⊎◌, ℕ, true, false, List, Option, None, Some, slice_get}
+use Rattle.std.specs.Prelude.{◌≡◌, ◌≢◌, ◌<◌, ◌⊎◌, ℕ, true, false, List, Option, Some, slice_get}
 use Rattle.wb_library_handles.specs.declared.handle.Handle.{Handle}
 use Rattle.wb_library_handles.specs.declared.slot.Slot.{Slot}
 
@@ -29,7 +29,3 @@ module _ {T : Type 0} where
   -- what is at other places than the handle's is the same in both
   abbrev pub AreOthersKept : (old new : List (Slot T)) → Handle → Type 0
   AreOthersKept old new handle = (place : ℕ) → place ≢ handle.place → slice_get new place ≡ slice_get old place
-
-  -- the place can be taken, where there is one
-  abbrev pub IsFree : List (Slot T) → ℕ → Type 0
-  IsFree slots place = (slot : Slot T) → slice_get slots place ≡ Some slot → (slot.is_spent ≡ false) × (slot.value ≡ None)

@@ -3,7 +3,8 @@
 //! A place whose value was let go is taken again with the next generation, as long as there is one.
 
 ghost use Rattle.std.specs.Prelude.{◌≡◌, ◌<◌, ◌≤◌, [], None, Some, IfOk, IfSome, IfNone, OnErr, MatchOption, length, slice_get};
-ghost use Rattle.wb_library_handles.specs.Handles.{AreOthersKept, AreSpentKept, IsAt, IsFree, IsNamed, IsSpent, NamesNone};
+ghost use Rattle.wb_library_handles.specs.Handles.{AreOthersKept, AreSpentKept, IsAt, IsNamed, IsSpent, NamesNone};
+ghost use Rattle.wb_library_handles.specs.Inner.Free.{IsFree};
 
 use crate::AddRefusal;
 use crate::handle::Handle;

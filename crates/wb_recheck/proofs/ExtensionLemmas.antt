@@ -10,7 +10,8 @@ use Rattle.wb_certify.specs.certify_refusal.CertifyRefusal.TheVariants as c
 use Rattle.wb_certify.proofs.DeterminismLemmas.{whole_reason}
 use Rattle.wb_certify.proofs.ValueLemmas.{attributes_refused, made_beside, parts_beside, start_is}
 use Rattle.wb_certify.specs.Extensions.{IsCertifiedBeside, IsCertifiedExtension, IsOneExtension}
-use Rattle.wb_certify.specs.Inner.Tests.{AreClearBeside, IsFound, IsReasonBeside}
+use Rattle.wb_certify.specs.Inner.Tests.{IsReasonBeside}
+use Rattle.wb_certify.specs.Beside.{AreClearBeside, IsFound}
 use Rattle.wb_certify.specs.Kept.{Extends}
 use Rattle.wb_certify.specs.Refusals.{IsReason}
 use Rattle.wb_certify.specs.Tests.{IsAttributesReason, IsMarkReason, KeepMarkers}

@@ -7,7 +7,7 @@ ghost use Rattle.std.specs.Prelude.{◌≡◌, ℕ, List, IfErr, IfOk, IfSome, I
 ghost use Rattle.wb_items.specs.LookaheadSets.{AreLookaheads};
 ghost use Rattle.wb_certify.specs.Judged.{AreFactsOfHost};
 ghost use Rattle.wb_certify.specs.Extensions.{IsCertifiedBeside, IsOneExtension};
-ghost use Rattle.wb_certify.specs.Inner.Tests.{AreClearBeside};
+ghost use Rattle.wb_certify.specs.Beside.{AreClearBeside};
 ghost use Rattle.wb_certify.specs.Kept.{Extends};
 ghost use Rattle.wb_certify.specs.Tests.{KeepMarkers};
 ghost use Rattle.wb_recheck.specs.Certificates.{IsCertificateOfExtension, IsFaultOfExtension};

@@ -16,7 +16,8 @@ use Rattle.wb_recheck_entries.specs.declared.refusal.EntryRefusal.{EntryRefusal}
 use Rattle.wb_recheck_entries.specs.declared.refusal.EntryRefusal.TheVariants as e
 use Rattle.wb_recheck_entries.specs.declared.fault.CertificateFault.{CertificateFault}
 use Rattle.wb_recheck_entries.specs.declared.fault.CertificateFault.TheVariants.{Syntax, WrongLine, Missing, NoMemory}
-use Rattle.wb_recheck_entries.specs.Texts.{HasCertificate, IsCertificateOf, IsFault, IsFaultIn, IsFaultOf}
+use Rattle.wb_recheck_entries.specs.Texts.{HasCertificate, IsCertificateOf, IsFault, IsFaultOf}
+use Rattle.wb_recheck_entries.specs.Inner.Faults.{IsFaultIn}
 use Rattle.wb_recheck_entries.specs.Inner.Numbers.{IsLineFault, IsMemory, TellsEntry, TellsLine}
 
 module _ (text : List ℕ) (names : Head → Type 0) (g : GrammarView) (c : Certificate) where

@@ -12,7 +12,8 @@ use Rattle.wb_lemmas.proofs.Members.{contains_at, place_of}
 use Rattle.wb_grammar_theory.specs.declared.item.Item.{Item}
 use Rattle.wb_recheck_theory.specs.declared.entry.Entry.{Entry}
 use Rattle.wb_recheck_theory.specs.Entries.{IsListed}
-use Rattle.wb_recheck_entries.specs.Keys.{Key, key_at, key_of, IsInserted}
+use Rattle.wb_recheck_entries.specs.Keys.{Key, key_at, key_of}
+use Rattle.wb_recheck_entries.specs.Inner.Inserted.{IsInserted}
 
 -- equality of pairs, as it is tested
 abbrev same_pair : ℕ × ℕ → ℕ × ℕ → Bool

@@ -19,7 +19,8 @@ use Rattle.wb_recheck_theory.specs.declared.line.Line.{Line}
 use Rattle.wb_recheck_theory.specs.Entries.{opens, moves_on}
 use Rattle.wb_recheck_theory.specs.Lines.{IsMoveOf}
 use Rattle.wb_recheck_entries.specs.declared.known.Known.{Known}
-use Rattle.wb_recheck_entries.specs.Keys.{Key, key_at, IsInserted}
+use Rattle.wb_recheck_entries.specs.Keys.{Key, key_at}
+use Rattle.wb_recheck_entries.specs.Inner.Inserted.{IsInserted}
 use Rattle.wb_recheck_entries.specs.Inner.Steps.{AreFirstsListed, AreFollowersIn, AreInitialsListed, AreMembersListed, AreNumbersListed}
 use Rattle.wb_recheck_entries.specs.Inner.Steps.{AreOpenedListed, AreOpenersListed, IsFirstUnlisted, IsFollowerOut, IsInitialUnlisted}
 use Rattle.wb_recheck_entries.specs.Inner.Steps.{IsMemberUnlisted, IsMovedListed, IsMovedUnlisted, IsNumberUnlisted, IsOpenedUnlisted}

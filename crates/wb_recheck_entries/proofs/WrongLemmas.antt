@@ -13,7 +13,8 @@ use Rattle.wb_recheck_theory.specs.declared.entry.Entry.{Entry}
 use Rattle.wb_recheck_theory.specs.Entries.{first_entry, IsEntryInRange, IsFollowed}
 use Rattle.wb_recheck_theory.proofs.RangeLemmas.{followed_in_range}
 use Rattle.wb_recheck_entries.specs.Faults.{IsRightEntry, AreRightEntries, IsFirstWrongEntry}
-use Rattle.wb_recheck_entries.specs.Keys.{Key, key_of, IsInserted}
+use Rattle.wb_recheck_entries.specs.Keys.{Key, key_of}
+use Rattle.wb_recheck_entries.specs.Inner.Inserted.{IsInserted}
 use Rattle.wb_recheck_entries.specs.Inner.Walks.{AreKeysUpTo}
 use Rattle.wb_recheck_entries.proofs.KeyLemmas.{listed_back, listed_there}
 

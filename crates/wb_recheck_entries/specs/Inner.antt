@@ -6,3 +6,5 @@ pub mod Walks
 pub mod Gathering
 -- numbers of lines
 pub mod Numbers
+pub mod Inserted
+pub mod Faults

@@ -1,5 +1,5 @@
 -- Entries by their kernel, item and terminal.
-use Rattle.std.specs.Prelude.{◌≡◌, ℕ, Bool, true, false, List, [], ◌∷◌, ◌++◌, Contains}
+use Rattle.std.specs.Prelude.{ℕ}
 use Rattle.wb_grammar_theory.specs.declared.item.Item.{Item}
 use Rattle.wb_recheck_theory.specs.declared.entry.Entry.{Entry}
 
@@ -14,8 +14,3 @@ key_at k item t = ((k, item.production), (item.dot, t))
 -- that of an entry, whatever its origin
 abbrev pub key_of : Entry → Key
 key_of e = key_at e.kernel e.item e.terminal
-
--- the key was there and nothing changed, or it is new and after the others, as the answer says
-abbrev pub IsInserted : List Key → Key → List Key → Bool → Type 0
-IsInserted old key new true = (¬ Contains old key) × (new ≡ old ++ key ∷ [])
-IsInserted old key new false = Contains old key × (new ≡ old)

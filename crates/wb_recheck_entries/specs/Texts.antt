@@ -55,13 +55,6 @@ pub record IsMissing (g : GrammarView) (lines : List Line) (entries : List Entry
   pub entries_right : AreRightEntries g lines entries
   pub lacks : LacksMove g lines k ⊎ LacksEntry g lines entries k
 
--- the fault is the first of lines and entries
-abbrev pub IsFaultIn : GrammarView → List Line → List Entry → CertificateFault → Type 0
-IsFaultIn g lines entries (Syntax at) = ⊥
-IsFaultIn g lines entries (WrongLine n) = IsWrongLine g lines entries n
-IsFaultIn g lines entries (Missing k) = IsMissing g lines entries k
-IsFaultIn g lines entries (NoMemory error) = Unit {0}
-
 -- the fault is the first of a certificate: the second line doesn't name the owner, or it does and there is a fault of lines and entries
 abbrev pub IsFaultOf : (Head → Type 0) → GrammarView → Certificate → CertificateFault → Type 0
 IsFaultOf names g c (Syntax at) = ⊥

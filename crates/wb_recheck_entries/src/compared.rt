@@ -9,7 +9,8 @@ ghost use Rattle.wb_recheck_entries.specs.Keys.{key_of};
 ghost use Rattle.wb_recheck_entries.specs.References.{IsReference};
 ghost use Rattle.wb_recheck_theory.specs.Certificates.{IsCertificate};
 ghost use Rattle.wb_recheck_theory.specs.Lines.{AreMovesListed};
-ghost use Rattle.wb_recheck_entries.specs.Texts.{HasCertificate, IsCertificateOf, IsFault, IsFaultIn, IsFaultOf, IsHeadOf};
+ghost use Rattle.wb_recheck_entries.specs.Texts.{HasCertificate, IsCertificateOf, IsFault, IsFaultOf, IsHeadOf};
+ghost use Rattle.wb_recheck_entries.specs.Inner.Faults.{IsFaultIn};
 ghost use Rattle.wb_recheck_entries.specs.Inner.Numbers.{IsLineFault, TellsEntry, TellsLine};
 
 use crate::first_wrong::keys_of_entries;

@@ -1,7 +1,7 @@
 //! Entries by their kernel, item and terminal, found by hashing.
 
 ghost use Rattle.std.specs.Prelude.{◌≡◌, ◌↔◌, [], Contains, IfOk, IsTrue, MatchBool};
-ghost use Rattle.wb_recheck_entries.specs.Keys.{IsInserted};
+ghost use Rattle.wb_recheck_entries.specs.Inner.Inserted.{IsInserted};
 
 use indexmap::IndexSet;
 use std::alloc::{AllocError, Global};

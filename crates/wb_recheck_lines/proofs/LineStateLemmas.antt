@@ -11,7 +11,7 @@ use Rattle.wb_grammar_theory.proofs.ValidLemmas.{before_last}
 use Rattle.wb_items.specs.Kernels.{AreKernels, HasNoneBefore, KernelsView, LeadsTo, count_of, prefix_of}
 use Rattle.wb_recheck_theory.specs.declared.line.Line.{Line}
 use Rattle.wb_recheck_theory.specs.Lines.{kernel_count, prefix_at, IsGoodLine, AreGoodLines}
-use Rattle.wb_recheck_theory.specs.Inner.Worklists.{AreNumbered}
+use Rattle.wb_recheck_theory.specs.Listed.{AreNumbered}
 use Rattle.wb_recheck_theory.proofs.CertificateLemmas.{move_back}
 use Rattle.wb_recheck_theory.proofs.GrowLemmas.{line_grown, line_shrunk}
 use Rattle.wb_recheck_theory.proofs.KernelListLemmas.{viable_carried}

@@ -10,7 +10,7 @@ use Rattle.wb_items.specs.Kernels.{AreKernels, KernelsView, LeadsTo, count_of, p
 use Rattle.wb_items.specs.declared.transitions.Move.{Move}
 use Rattle.wb_recheck_theory.specs.declared.line.Line.{Line}
 use Rattle.wb_recheck_theory.specs.Lines.{AreGoodLines, AreMovesListed}
-use Rattle.wb_recheck_theory.specs.Inner.Worklists.{AreNumbered}
+use Rattle.wb_recheck_theory.specs.Listed.{AreNumbered}
 use Rattle.wb_recheck_theory.proofs.NumberedLemmas.{good_by_number, listed_by_number}
 use Rattle.wb_recheck_lines.specs.Faults.{LacksMove}
 use Rattle.wb_recheck_lines.specs.Inner.Walks.{AreListedUpTo, AreMovesIn, HasMoveOut}

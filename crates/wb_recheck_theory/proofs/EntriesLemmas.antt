@@ -12,7 +12,7 @@ use Rattle.wb_recheck_theory.specs.declared.entry.Entry.{Entry}
 use Rattle.wb_recheck_theory.specs.Lines.{AreGoodLines, AreMovesListed}
 use Rattle.wb_recheck_theory.specs.Entries.{IsListed, first_entry, IsGoodEntry, AreGoodEntries, AreFollowersListed}
 use Rattle.wb_recheck_theory.specs.Certificates.{IsCertificate}
-use Rattle.wb_recheck_theory.specs.Inner.Worklists.{AreEntries}
+use Rattle.wb_recheck_theory.specs.Listed.{AreEntries}
 
 -- what is listed stays listed when entries are added
 pub listed_grown : (entries more : List Entry) (k : ℕ) (item : Item) (t : ℕ) → IsListed entries k item t →

@@ -14,7 +14,7 @@ use Rattle.wb_grammar_theory.proofs.KernelLemmas.{same_move}
 use Rattle.wb_grammar_theory.proofs.FlowLemmas.{same_itself, same_then, same_back, zero_state}
 use Rattle.wb_recheck_theory.specs.declared.line.Line.{Line}
 use Rattle.wb_recheck_theory.specs.Lines.{kernel_count, HasMove, IsGoodLine, AreGoodLines, IsMoveListed, prefix_at}
-use Rattle.wb_recheck_theory.specs.Inner.Worklists.{AreNumbered}
+use Rattle.wb_recheck_theory.specs.Listed.{AreNumbered}
 use Rattle.wb_recheck_theory.proofs.PrefixLemmas.{prefix_first, prefix_grown, prefix_pushed}
 use Rattle.wb_recheck_theory.proofs.CertificateLemmas.{move_there, move_back}
 use Rattle.wb_recheck_theory.proofs.KernelListLemmas.{viable_carried}

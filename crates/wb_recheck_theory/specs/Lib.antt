@@ -8,5 +8,7 @@ pub mod Certificates
 pub mod KernelLists
 -- small grammars with certificates, of which one lists a kernel of no prefix
 pub mod Examples
+-- entries as they are listed, and kernels that are numbered otherwise
+pub mod Listed
 -- what a checker and a writer keep while they go through a list
 pub mod Inner

@@ -14,7 +14,7 @@ use Rattle.wb_items.specs.declared.transitions.Move.{Move}
 use Rattle.wb_recheck_lines.specs.States.{StatesView}
 use Rattle.wb_recheck_theory.specs.declared.line.Line.{Line}
 use Rattle.wb_recheck_theory.specs.Lines.{kernel_count, prefix_at, HasMove, IsMoveOf, IsMoveListed, AreGoodLines, AreMovesListed}
-use Rattle.wb_recheck_theory.specs.Inner.Worklists.{AreNumbered}
+use Rattle.wb_recheck_theory.specs.Listed.{AreNumbered}
 use Rattle.wb_recheck_theory.proofs.CertificateLemmas.{move_back}
 use Rattle.wb_recheck_theory.proofs.GrowLemmas.{item_shrunk, move_grown}
 use Rattle.wb_recheck_theory.proofs.KernelListLemmas.{viable_carried}

@@ -6,7 +6,7 @@ use Rattle.wb_text_predictive.specs.declared.symbol.Symbol.TheVariants.{Token}
 use Rattle.wb_text_predictive.specs.declared.table.Placed.{Placed}
 use Rattle.wb_text_predictive.specs.Grammar.{Grammar}
 use Rattle.wb_text_predictive.specs.Entries.{Entry, is_decided}
-use Rattle.wb_text_predictive.specs.Inner.Stack.{Any, Begins, NoneFits}
+use Rattle.wb_text_predictive.specs.Stack.{Any, Begins, NoneFits}
 use Rattle.wb_text_predictive.proofs.Stacks.{can_go_on, none_starts, nothing_follows, other_token, takes}
 use Rattle.wb_text_expected.specs.Expected.{ComesAfter}
 use Rattle.wb_text_expected.specs.Inner.Bare.{StandsBare, bare}

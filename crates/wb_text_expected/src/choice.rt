@@ -4,7 +4,7 @@
 
 ghost use Rattle.std.specs.Prelude.{◌≡◌, ◌++◌, reverse, OnOk, MatchOption, Some, None};
 ghost use Rattle.wb_text_predictive.specs.Kinds.{is_member};
-ghost use Rattle.wb_text_predictive.specs.Inner.Choice.{choose};
+ghost use Rattle.wb_text_predictive.specs.Choice.{choose};
 ghost use Rattle.wb_text_predictive.specs.Rules.{rights_of, kinds_of};
 
 use std::alloc::AllocError;

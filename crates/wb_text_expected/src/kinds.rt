@@ -2,7 +2,7 @@
 
 ghost use Rattle.std.specs.Prelude.{◌≡◌, [], List, reverse, IfOk, IfSome, OnOk};
 ghost use Rattle.wb_text_predictive.specs.declared.table.Placed.{Placed};
-ghost use Rattle.wb_text_predictive.specs.Inner.Stack.{Any};
+ghost use Rattle.wb_text_predictive.specs.Stack.{Any};
 ghost use Rattle.wb_text_expected.specs.Expected.{AreExpected, AreThose, ComesAfter};
 ghost use Rattle.wb_text_expected.specs.Inner.Added.{Adds};
 ghost use Rattle.wb_text_expected.specs.Inner.Bare.{StandsBare};

@@ -4,8 +4,8 @@
 
 ghost use Rattle.std.specs.Prelude.{◌≡◌, List, ◌∷◌, ◌++◌, [], reverse, IfOk, IsTrue, MatchBool, MatchOption, Some, None};
 ghost use Rattle.wb_text_predictive.specs.declared.table.Placed.{Placed};
-ghost use Rattle.wb_text_predictive.specs.Inner.Choice.{choose};
-ghost use Rattle.wb_text_predictive.specs.Inner.Stack.{Any};
+ghost use Rattle.wb_text_predictive.specs.Choice.{choose};
+ghost use Rattle.wb_text_predictive.specs.Stack.{Any};
 ghost use Rattle.wb_text_expected.specs.Expected.{ComesAfter};
 ghost use Rattle.wb_text_expected.specs.Inner.Bare.{StandsBare, bare};
 ghost use Rattle.wb_text_expected.specs.Inner.Machine.{TopIs};

@@ -4,7 +4,7 @@
 
 ghost use Rattle.std.specs.Prelude.{◌≡◌, ◌≤◌, List, [], length, reverse, IfOk, IsTrue};
 ghost use Rattle.wb_text_predictive.specs.declared.table.Placed.{Placed};
-ghost use Rattle.wb_text_predictive.specs.Inner.Stack.{Any};
+ghost use Rattle.wb_text_predictive.specs.Stack.{Any};
 ghost use Rattle.wb_text_expected.specs.Inner.Bare.{StandsBare};
 ghost use Rattle.wb_text_expected.specs.Inner.Steps.{GoesOn, HasWalked, IsEnded, StepIs};
 

@@ -8,8 +8,8 @@ use Rattle.wb_text_predictive.specs.declared.table.Placed.{Placed}
 use Rattle.wb_text_predictive.specs.Grammar.{Grammar, Derives, done, token, expand, act}
 use Rattle.wb_text_predictive.specs.Entries.{Entry, all_nullable, firsts, is_foreseen, is_followed, is_decided}
 use Rattle.wb_text_predictive.specs.Kinds.{implies, is_member, is_subset}
-use Rattle.wb_text_predictive.specs.Inner.Choice.{choose}
-use Rattle.wb_text_predictive.specs.Inner.Stack.{lookahead, Foresees, IsFollowed}
+use Rattle.wb_text_predictive.specs.Choice.{choose}
+use Rattle.wb_text_predictive.specs.Stack.{lookahead, Foresees, IsFollowed}
 use Rattle.wb_text_predictive.proofs.Booleans.{implied}
 use Rattle.wb_text_predictive.proofs.Derivations.{act_in, token_in, nil_same}
 use Rattle.wb_text_predictive.proofs.Members.{member_left, member_right, joined_cases, subset_member, chosen}

@@ -5,7 +5,7 @@ use Rattle.wb_text_predictive.specs.declared.symbol.Symbol.{Symbol}
 use Rattle.wb_text_predictive.specs.declared.symbol.Symbol.TheVariants.{Token, Nonterminal, Act}
 use Rattle.wb_text_predictive.specs.declared.table.Placed.{Placed}
 use Rattle.wb_text_predictive.specs.Grammar.{Grammar, Derives, done, token, expand, act}
-use Rattle.wb_text_predictive.specs.Inner.Stack.{lookahead}
+use Rattle.wb_text_predictive.specs.Stack.{lookahead}
 
 module _ {K N A X V : Type 0} (g : Grammar K N A X V) where
   -- texts of two rows, one after the other

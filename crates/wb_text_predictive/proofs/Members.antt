@@ -3,7 +3,7 @@ use Rattle.std.proofs.Common.{◌≡◌, ℕ, zero, suc, List, [], ◌∷◌, �
 use Rattle.std.proofs.Common.{⊎_elim, sym, ap, ◌∙◌, subst}
 use Rattle.std.specs.Prelude.{slice_get, ◌↔◌}
 use Rattle.wb_text_predictive.specs.Kinds.{is_member, is_subset, is_apart, is_apart_from_all, are_apart}
-use Rattle.wb_text_predictive.specs.Inner.Choice.{choose}
+use Rattle.wb_text_predictive.specs.Choice.{choose}
 use Rattle.wb_text_predictive.proofs.Booleans.{skipped}
 use Rattle.wb_lemmas.proofs.Booleans.{and_left, and_right, or_left, or_right, or_cases}
 

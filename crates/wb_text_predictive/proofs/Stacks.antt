@@ -9,8 +9,8 @@ use Rattle.wb_text_predictive.specs.declared.table.Placed.{Placed}
 use Rattle.wb_text_predictive.specs.Grammar.{Grammar, Derives, done, token, expand, act, IsText, CanStart}
 use Rattle.wb_text_predictive.specs.Entries.{Entry, is_below, is_decided, is_foreseen, is_followed}
 use Rattle.wb_text_predictive.specs.Kinds.{is_member}
-use Rattle.wb_text_predictive.specs.Inner.Choice.{choose}
-use Rattle.wb_text_predictive.specs.Inner.Stack.{IsFollowed, Stands, Any, Begins, NoneFits}
+use Rattle.wb_text_predictive.specs.Choice.{choose}
+use Rattle.wb_text_predictive.specs.Stack.{IsFollowed, Stands, Any, Begins, NoneFits}
 use Rattle.wb_text_predictive.proofs.Members.{chosen_is}
 use Rattle.wb_text_predictive.proofs.Rights.{right_facts, some_below}
 use Rattle.wb_text_predictive.proofs.Derivations.{derives_append, act_in, token_in, token_kind, token_not_nil, nil_only_nil}

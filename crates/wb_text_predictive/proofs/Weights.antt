@@ -3,7 +3,7 @@ use Rattle.std.proofs.Common.{◌≡◌, ℕ, suc, ◌+◌, ◌<◌, List, [], �
 use Rattle.wb_text_predictive.specs.declared.symbol.Symbol.{Symbol}
 use Rattle.wb_text_predictive.specs.declared.symbol.Symbol.TheVariants.{Token, Nonterminal, Act}
 use Rattle.wb_text_predictive.specs.Entries.{Entry, all_nullable, weight_of, is_decided}
-use Rattle.wb_text_predictive.specs.Inner.Choice.{choose}
+use Rattle.wb_text_predictive.specs.Choice.{choose}
 use Rattle.wb_text_predictive.proofs.Booleans.{implied}
 use Rattle.wb_text_predictive.proofs.Members.{chosen_is}
 use Rattle.wb_text_predictive.proofs.Rights.{right_facts}

@@ -10,5 +10,9 @@ pub mod Kinds
 pub mod Entries
 -- a small table: nested lists of digits
 pub mod Nested
+-- which right side is chosen at a kind
+pub mod Choice
+-- what a row of symbols stands for: the texts that may come after the tokens that were read
+pub mod Stack
 -- what loops keep, and words of private functions
 pub mod Inner

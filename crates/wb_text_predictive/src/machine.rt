@@ -5,10 +5,10 @@
 
 ghost use Rattle.std.specs.Prelude.{◌≡◌, List, [], ◌∷◌, ◌++◌, reverse, IfOk, MatchBool, MatchOption, Some, None};
 ghost use Rattle.wb_text_predictive.specs.declared.table.Placed.{Placed};
-ghost use Rattle.wb_text_predictive.specs.Inner.Choice.{choose};
+ghost use Rattle.wb_text_predictive.specs.Choice.{choose};
 ghost use Rattle.wb_text_predictive.specs.Grammar.{CanStart, IsText};
 ghost use Rattle.wb_text_predictive.specs.Inner.Machine.{TopIs};
-ghost use Rattle.wb_text_predictive.specs.Inner.Stack.{Stands, Any};
+ghost use Rattle.wb_text_predictive.specs.Stack.{Stands, Any};
 
 use crate::choice::{chosen, push_row};
 use crate::symbol::Symbol;

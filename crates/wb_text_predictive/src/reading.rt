@@ -6,7 +6,7 @@ ghost use Rattle.std.specs.Prelude.{◌≡◌, ◌≤◌, List, length, reverse,
 ghost use Rattle.wb_text_predictive.specs.declared.reading.Outcome.{Outcome};
 ghost use Rattle.wb_text_predictive.specs.declared.table.Placed.{Placed};
 ghost use Rattle.wb_text_predictive.specs.Reading.{IsOutcome};
-ghost use Rattle.wb_text_predictive.specs.Inner.Stack.{Stands, Any};
+ghost use Rattle.wb_text_predictive.specs.Stack.{Stands, Any};
 ghost use Rattle.wb_text_predictive.specs.Inner.Steps.{StepIs, GoesOn};
 
 use crate::machine::{finish, take};

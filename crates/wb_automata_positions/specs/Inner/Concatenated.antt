@@ -1,7 +1,7 @@
 -- The nodes of several expressions, one after the other in one list.
 use Rattle.std.specs.Prelude.{◌≡◌, ◌+◌, ◌<◌, ℕ, List, [], Some, slice_get, slice_index_or, length, map, ◌++◌}
 use Rattle.wb_regex.specs.Tree.{Tree}
-use Rattle.wb_automata_positions.specs.Sizes.{bound_of}
+use Rattle.wb_automata_positions.specs.Inner.Bounds.{bound_of}
 use Rattle.wb_regex.specs.Covers.{Covers}
 use Rattle.wb_regex.specs.Filled.{Filled}
 use Rattle.wb_regex.specs.Matches.{Matches}

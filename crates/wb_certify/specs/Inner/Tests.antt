@@ -7,7 +7,6 @@ use Rattle.wb_certify_host.specs.DeterministicHosts.{AreHostParts, IsDeterminist
 use Rattle.wb_certify_host.specs.parts.HostParts.{HostParts}
 use Rattle.wb_certify_host.specs.determinism_refusal.DeterminismRefusal.{DeterminismRefusal}
 use Rattle.wb_certify_host.specs.determinism_refusal.DeterminismRefusal.TheVariants as d
-use Rattle.wb_determinism_beside.specs.DeterministicExtensions.{IsDeterministicExtension}
 use Rattle.wb_marking.specs.Bridges.{AreBridges}
 use Rattle.wb_certify_host.specs.Resolving.{ResolvesExtension}
 use Rattle.wb_operations.specs.Operations.{OperationSignature}
@@ -15,8 +14,9 @@ use Rattle.wb_syntax.specs.SpecText.{SpecView}
 use Rattle.wb_syntax_resolved.specs.declared.resolved.ResolvedParts.{ResolvedParts}
 use Rattle.wb_syntax_resolved.specs.Resolved.{IsResolved}
 use Rattle.wb_types.specs.Rules.{KindsOk}
-use Rattle.wb_certify.specs.Extensions.{AreMarkersKept, IsCertifiedBeside, IsDeterministicBeside}
+use Rattle.wb_certify.specs.Extensions.{IsCertifiedBeside}
 use Rattle.wb_certify.specs.Refusals.{IsBesideRefusal, IsReason}
+use Rattle.wb_certify.specs.Beside.{IsFound}
 
 -- the rules on bridges hold in the grammar
 abbrev pub HaveBridges : ResolvedParts → Type 0
@@ -31,15 +31,6 @@ abbrev pub IsPlainMemory : DeterminismRefusal → Type 0
 IsPlainMemory (d.NoMemory error) = Unit {0}
 IsPlainMemory other = ⊥
 
--- markers keep their rules, and the extension is deterministic beside the host with this grammar with holes
-pub record IsClearBeside (r : ResolvedParts) (g host : GrammarView) : Type 0 where
-  pub markers : AreMarkersKept r g
-  pub deterministic : IsDeterministicExtension r g host
-
--- so for each grammar that the specification has
-abbrev pub AreClearBeside : ResolvedParts → GrammarView → Type 0
-AreClearBeside r host = (g : GrammarView) → r.grammar ≡ Some g → IsClearBeside r g host
-
 -- the parts are those of a host, which is deterministic, and of which this is the specification with some extension whose names are right
 pub record IsOfHost (r : ResolvedParts) (parts : HostParts) : Type 0 where
   pub host : ResolvedParts
@@ -52,14 +43,6 @@ pub record IsOfHost (r : ResolvedParts) (parts : HostParts) : Type 0 where
   pub of_host : AreHostParts host host_grammar parts
   pub spec : SpecView
   pub names : ResolvesExtension host spec r
-
--- host and extended host have grammars, and the extension is deterministic beside the host
-pub record IsFound (host r : ResolvedParts) : Type 0 where
-  pub host_grammar : GrammarView
-  pub host_start : host.grammar ≡ Some host_grammar
-  pub grammar : GrammarView
-  pub start : r.grammar ≡ Some grammar
-  pub deterministic : IsDeterministicBeside host r host_grammar grammar
 
 -- the host is certified, and the extension is deterministic beside it
 pub record IsMade (host : CertifiedView) (r : ResolvedParts) : Type 0 where

@@ -18,7 +18,8 @@ use Rattle.wb_compose_kernels.specs.declared.blocks.Block.{Block}
 use Rattle.wb_compose_kernels.specs.declared.blocks.Blocks.{Blocks}
 use Rattle.wb_compose_kernels.specs.declared.filling.Filling.{Filling}
 use Rattle.wb_compose_kernels.specs.declared.splice.Part.{Part}
-use Rattle.wb_compose_kernels.specs.Lent.{AreSetsOf, new_count_at, prefix_at}
+use Rattle.wb_compose_kernels.specs.Lent.{AreSetsOf}
+use Rattle.wb_compose_kernels.specs.Inner.Counts.{new_count_at, prefix_at}
 use Rattle.wb_compose_kernels.specs.Inner.Blocks.{AreBlocksUpTo, IsBlocksOf, IsHoleBy, names_by}
 use Rattle.wb_compose_kernels.specs.Inner.Given.{IsGiven}
 use Rattle.wb_compose_kernels.specs.Inner.Images.{AreMarkersUpTo, IsImage}

@@ -9,7 +9,8 @@ use Rattle.wb_compose_theory.specs.Homes.{Home, of, of_host}
 use Rattle.wb_compose_theory_grammar.specs.UnitedWorlds.{united}
 use Rattle.wb_compose_theory_kernels.specs.Kernels.{HasNoHole, IsFrom, IsItemFrom, IsTaken}
 use Rattle.wb_compose_kernels.specs.declared.splice.Splice.{Splice}
-use Rattle.wb_compose_kernels.specs.Lent.{AreSpliceable, new_count_at, numbers_in, prefix_at}
+use Rattle.wb_compose_kernels.specs.Lent.{AreSpliceable}
+use Rattle.wb_compose_kernels.specs.Inner.Counts.{new_count_at, numbers_in, prefix_at}
 
 -- what was listed stays where it is
 abbrev pub Keeps : List (List Item) → List (List Item) → Type 0

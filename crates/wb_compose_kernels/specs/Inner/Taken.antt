@@ -5,7 +5,7 @@ use Rattle.wb_base.specs.declared.symbol.Symbol.TheVariants.{Terminal}
 use Rattle.wb_items.specs.Kernels.{count_of}
 use Rattle.wb_compose_kernels.specs.declared.marks.Mark.{Mark}
 use Rattle.wb_compose_kernels.specs.declared.splice.Splice.{Splice}
-use Rattle.wb_compose_kernels.specs.Lent.{new_count_at}
+use Rattle.wb_compose_kernels.specs.Inner.Counts.{new_count_at}
 
 -- a number for each kernel of the host, and for each new kernel of each extension
 pub record AreNumbersOf (s : Splice) (host : List ℕ) (new : List (List ℕ)) : Type 0 where

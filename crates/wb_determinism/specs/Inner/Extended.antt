@@ -16,12 +16,11 @@ use Rattle.wb_determinism.specs.declared.extension.Extended.{Extended}
 use Rattle.wb_determinism.specs.EnvelopeClash.{HasNoEnvelopeClash}
 use Rattle.wb_determinism.specs.Inner.Keeps.{KeepsInEnvelope, HasNoEnvelopeConflict}
 use Rattle.wb_determinism.specs.Extensions.{IsHostBeside, both_lexicon, both_numbers, extended_grammar}
-use Rattle.wb_determinism.specs.Images.{stands_for}
+use Rattle.wb_determinism.specs.Images.{stands_for, AreImages}
 use Rattle.wb_determinism.specs.LookaheadRule.{IsLookaheadFault}
 use Rattle.wb_determinism.specs.Inner.Clashes.{IsClashFault}
 use Rattle.wb_determinism.specs.Inner.Shown.{IsInnerFault}
 use Rattle.wb_determinism.specs.Inner.Contexts.{HasImage, IsContext, both_of, host_of}
-use Rattle.wb_determinism.specs.Inner.Images.{AreImages}
 
 -- what is scanned of so many terminals, and the host's layout
 abbrev pub lexicon_for : ResolvedParts → ℕ → LexiconView

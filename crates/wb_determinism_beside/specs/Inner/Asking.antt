@@ -2,8 +2,7 @@
 use Rattle.std.specs.Prelude.{◌≡◌, ◌+◌, ◌-◌, length}
 use Rattle.wb_determinism.specs.declared.numbers.Numbers.{Numbers}
 use Rattle.wb_determinism.specs.Extensions.{IsDeterministicExtension, numbers_of}
-use Rattle.wb_determinism.specs.Images.{stands_for}
-use Rattle.wb_determinism.specs.Inner.Images.{AreImages}
+use Rattle.wb_determinism.specs.Images.{stands_for, AreImages}
 use Rattle.wb_determinism_host.specs.HostGrammar.{HasGrammar}
 use Rattle.wb_determinism_kernels.specs.declared.beside.Beside.{Beside}
 use Rattle.wb_grammar.specs.Facts.{AreFacts}

@@ -4,7 +4,7 @@ use Rattle.wb_base.specs.declared.symbol.Symbol.{Symbol}
 use Rattle.wb_base.specs.Grammar.{GrammarView}
 use Rattle.wb_grammar_theory.specs.declared.item.Item.{Item}
 use Rattle.wb_items.specs.declared.transitions.Move.{Move}
-use Rattle.wb_items.specs.Inner.Growing.{IsKernelFor}
+use Rattle.wb_items.specs.Moved.{IsKernelFor}
 use Rattle.wb_items.specs.Kernels.{KernelsView, ListsItems, count_of}
 use Rattle.wb_items.specs.Table.{IsRow, Leads}
 use Rattle.wb_compose_theory.specs.Renamings.{Renaming}

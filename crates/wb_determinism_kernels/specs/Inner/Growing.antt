@@ -4,7 +4,7 @@ use Rattle.wb_base.specs.declared.symbol.Symbol.{Symbol}
 use Rattle.wb_base.specs.Grammar.{GrammarView}
 use Rattle.wb_grammar_theory.specs.declared.item.Item.{Item}
 use Rattle.wb_grammar_theory.specs.Items.{IsViablePrefix}
-use Rattle.wb_items.specs.Inner.Searches.{IsIndex}
+use Rattle.wb_items.specs.KernelOrder.{IsIndex}
 use Rattle.wb_items.specs.Kernels.{AreInOrder, KernelsView, ListsKernel, count_of, prefix_of}
 use Rattle.wb_items.specs.Table.{Leads, SameItems}
 use Rattle.wb_compose_theory.specs.Renamings.{Renaming, renamed_item}

@@ -1,11 +1,5 @@
 -- Where a line begins, and where it ends.
-use Rattle.std.specs.Prelude.{◌≡◌, ◌≢◌, ◌⊎◌, ◌≤◌, ◌<◌, ◌-◌, ℕ, List, length, slice_index}
-
--- the line of a place begins here
-pub record IsLineStart (text : List ℕ) (at start : ℕ) : Type 0 where
-  pub from : start ≤ at
-  pub begins : (start ≡ 0) ⊎ (slice_index text (start - 1) ≡ 10)
-  pub none : (k : ℕ) → start ≤ k → k < at → slice_index text k ≢ 10
+use Rattle.std.specs.Prelude.{◌≡◌, ◌≢◌, ◌⊎◌, ◌≤◌, ◌<◌, ℕ, List, length, slice_index}
 
 -- the line of a place ends here
 pub record IsLineEnd (text : List ℕ) (at end : ℕ) : Type 0 where

@@ -1,9 +1,8 @@
 -- Edges of a flow graph by the vertices that they lead from and to, for each kind of edge.
-use Rattle.std.specs.Prelude.{◌≡◌, ◌≢◌, ◌⊎◌, ℕ, List, Option, None, Some, Contains, slice_get}
-use Rattle.wb_syntax_expressions.specs.declared.node.Node.TheVariants as n
+use Rattle.std.specs.Prelude.{◌≡◌, ◌≢◌, ◌⊎◌, ℕ, List, Some, Contains, slice_get}
 use Rattle.wb_flow_theory.specs.Occurrences.{Goes, IsOn}
 use Rattle.wb_flow_theory.specs.Rules.{Forwards}
-use Rattle.wb_flow.specs.Rules.{attribute_at, target_of, IsDefined}
+use Rattle.wb_flow.specs.Rules.{target_of, IsDefined}
 use Rattle.wb_flow.specs.declared.arrows.Arrow.{Arrow}
 use Rattle.wb_flow.specs.declared.positions.Position.{Position}
 use Rattle.wb_flow.specs.declared.positions.Position.TheVariants as p
@@ -16,28 +15,15 @@ use Rattle.wb_syntax_resolved.specs.declared.attributes.Direction.TheVariants.{S
 use Rattle.wb_syntax_resolved.specs.declared.attributes.Occurrence.{Occurrence}
 use Rattle.wb_syntax_resolved.specs.declared.attribution.AttributionParts.{AttributionParts}
 use Rattle.wb_syntax_resolved.specs.declared.equation.Equation.{Equation}
-use Rattle.wb_syntax_resolved.specs.declared.equation.Place.{Place}
-use Rattle.wb_syntax_resolved.specs.declared.equation.Place.TheVariants as place
 use Rattle.wb_syntax_resolved.specs.declared.production.Forward.{Forward}
 use Rattle.wb_syntax_resolved.specs.declared.production.Local.{Local}
 use Rattle.wb_syntax_resolved.specs.declared.production.Production.{Production}
 use Rattle.wb_syntax_resolved.specs.Expression.{Node}
+use Rattle.wb_flow.specs.Reads.{read_by}
 
 -- the edge is one of the production's flow graph
 abbrev pub IsArrow : AttributionParts → Production → Arrow → Type 0
 IsArrow a production arrow = IsNeededBy a production arrow.from arrow.to
-
--- what a node reads
-abbrev pub label_read : Place → Option Vertex
-label_read (place.Child k) = None
-label_read (place.Local x) = Some (v.LocalTree x)
-
-abbrev pub read_by : Node → Option Vertex
-read_by (n.Label at) = label_read at
-read_by (n.Read at number) = Some (attribute_at at number)
-read_by (n.Top number) = Some (v.Top number)
-read_by (n.Forward number) = Some (v.Forward number)
-read_by node = None
 
 -- an edge from this vertex to what a node reads
 abbrev pub IsReadArrow : Vertex → Node → Arrow → Type 0

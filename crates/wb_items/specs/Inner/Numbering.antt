@@ -1,5 +1,5 @@
 -- Sets that are made for the items of one kernel after another.
-use Rattle.std.specs.Prelude.{◌≡◌, ◌↔◌, ◌≤◌, ◌<◌, ◌+◌, ℕ, Bool, false, List, [], ◌∷◌, ◌++◌, All, length, replicate}
+use Rattle.std.specs.Prelude.{◌≡◌, ◌↔◌, ◌≤◌, ◌<◌, ◌+◌, ℕ, Bool, false, List, [], ◌∷◌, ◌++◌, All, length, replicate, slice_index_or}
 use Rattle.std.specs.Prelude.{take, Some, slice_get, slice_set}
 use Rattle.wb_base.specs.Grammar.{GrammarView}
 use Rattle.wb_grammar_theory.specs.declared.item.Item.{Item}
@@ -7,6 +7,7 @@ use Rattle.wb_items.specs.declared.numbering.Made.{Made}
 use Rattle.wb_items.specs.Apart.{AreApart, BelongTogether, Opens}
 use Rattle.wb_items.specs.Kernels.{KernelsView}
 use Rattle.wb_items.specs.Lookaheads.{AreNumbered, LookaheadsView}
+use Rattle.wb_base.specs.declared.symbol.Symbol.{Symbol}
 
 -- the empty set of terminals and the end
 abbrev pub empty_set : GrammarView → List Bool
@@ -58,3 +59,10 @@ pub record NumberedUpTo (kernels : KernelsView) (n : ℕ) (numbers : List (List 
   pub are_made : AreMade kernels.grammar made
   pub numbered : AreNumbered (first_kernels kernels n numbers made.sets.items)
   pub apart : AreApart kernels.grammar (first_kernels kernels n numbers made.sets.items)
+
+-- the prefix of this number goes on from that of a lower one by a symbol
+pub record GoesOn (prefixes : List (List Symbol)) (n : ℕ) : Type 0 where
+  pub from : ℕ
+  pub symbol : Symbol
+  pub before : from < n
+  pub is : slice_index_or prefixes n [] ≡ slice_index_or prefixes from [] ++ symbol ∷ []

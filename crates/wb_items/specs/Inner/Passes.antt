@@ -1,5 +1,5 @@
 -- Lists in the middle of a pass over another list.
-use Rattle.std.specs.Prelude.{◌≡◌, ◌⊎◌, ◌+◌, ℕ, ◌<◌, ◌≤◌, List, ◌∷◌, length, Some, Contains, slice_get}
+use Rattle.std.specs.Prelude.{◌≡◌, ℕ, ◌<◌, ◌≤◌, List, ◌∷◌, length, Some, Contains, slice_get}
 use Rattle.wb_base.specs.declared.symbol.Symbol.{Symbol}
 use Rattle.wb_base.specs.Grammar.{GrammarView}
 use Rattle.wb_grammar_theory.specs.declared.item.Item.{Item}
@@ -9,21 +9,9 @@ use Rattle.wb_items.specs.declared.transitions.Move.{Move}
 use Rattle.wb_items.specs.declared.advance.Advance.{Advance}
 use Rattle.wb_items.specs.Inner.Advances.{HasAdvance, ListsAdvances, symbol_of}
 use Rattle.wb_items.specs.Index.{IndexView}
-use Rattle.wb_items.specs.Kernels.{Precedes, AreInOrder}
 use Rattle.wb_items.specs.Order.{SymbolPrecedes}
 use Rattle.wb_items.specs.Table.{AreKernelsOf, AreMoves, AreMovesInOrder}
 use Rattle.wb_items.specs.Inner.Growing.{Grows}
-
--- no item precedes the one before it
-abbrev pub AreRising : List Item → Type 0
-AreRising items = (k : ℕ) (a b : Item) → slice_get items k ≡ Some a → slice_get items (k + 1) ≡ Some b → ¬ Precedes b a
-
--- the items at the first places, each once and in order
-pub record StrictUpTo (items list : List Item) (n : ℕ) : Type 0 where
-  pub sound : (z : Item) → Contains list z → (j : ℕ) × (j < n) × (slice_get items j ≡ Some z)
-  pub complete : (j : ℕ) (z : Item) → j < n → slice_get items j ≡ Some z → Contains list z
-  pub sorted : AreInOrder list
-  pub last : (m : ℕ) (a z : Item) → n ≡ m + 1 → slice_get items m ≡ Some a → Contains list z → Precedes z a ⊎ (z ≡ a)
 
 -- the items at the first places are listed with the symbols after their dots, each with its dot after the symbol
 pub record AdvancesUpTo (g : GrammarView) (closure : List Item) (list : List Advance) (n : ℕ) : Type 0 where

@@ -2,7 +2,7 @@
 use Rattle.std.specs.Prelude.{◌≡◌, ◌≤◌, ◌+◌, ℕ, List, length, Some, slice_get}
 use Rattle.wb_grammar_theory.specs.declared.item.Item.{Item}
 use Rattle.wb_items.specs.declared.kernel_index.Step.{Step}
-use Rattle.wb_items.specs.Inner.Searches.{IsIndex}
+use Rattle.wb_items.specs.KernelOrder.{IsIndex}
 
 -- each step goes on from an earlier prefix, and there is a list of items for each prefix
 pub record AreSteps (steps : List Step) (kernels : List (List Item)) : Type 0 where

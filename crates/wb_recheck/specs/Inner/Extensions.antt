@@ -2,7 +2,7 @@
 use Rattle.std.specs.Prelude.{◌≡◌, ℕ, List, Some, IfSome, IsSome, length}
 use Rattle.wb_base.specs.Grammar.{GrammarView}
 use Rattle.wb_certify.specs.Hosts.{CertifiedView, IsCertified}
-use Rattle.wb_certify.specs.Inner.Tests.{IsFound}
+use Rattle.wb_certify.specs.Beside.{IsFound}
 use Rattle.wb_certify.specs.DeterministicExtensions.{IsHostBeside}
 use Rattle.wb_certify.specs.parts.HostParts.{HostParts}
 use Rattle.wb_marking_holes.specs.Holes.{with_holes_of}

@@ -5,7 +5,7 @@ use Rattle.wb_items.specs.Kernels.{KernelsView, LeadsTo, count_of, prefix_of}
 use Rattle.wb_items.specs.declared.transitions.Move.{Move}
 use Rattle.wb_recheck_theory.specs.declared.line.Line.{Line}
 use Rattle.wb_recheck_theory.specs.Lines.{AreGoodLines, IsGoodLine}
-use Rattle.wb_recheck_theory.specs.Inner.Worklists.{AreNumbered}
+use Rattle.wb_recheck_theory.specs.Listed.{AreNumbered}
 
 -- the lines before the place are good, and the numbers are those of their kernels
 pub record AreStatesUpTo (kernels : KernelsView) (lines : List Line) (states : List ℕ) (place : ℕ) : Type 0 where

@@ -1,29 +1,12 @@
 -- Lines and entries as they are listed: of those before a place, all that moves or follows is listed.
-use Rattle.std.specs.Prelude.{◌≡◌, ℕ, ◌<◌, ◌≤◌, List, length, Some, slice_get}
+use Rattle.std.specs.Prelude.{ℕ, ◌<◌, ◌≤◌, List}
 use Rattle.wb_base.specs.declared.symbol.Symbol.{Symbol}
 use Rattle.wb_base.specs.Grammar.{GrammarView}
-use Rattle.wb_grammar_theory.specs.Items.{SameKernel}
 use Rattle.wb_recheck_theory.specs.declared.line.Line.{Line}
-use Rattle.wb_recheck_theory.specs.declared.entry.Entry.{Entry}
-use Rattle.wb_recheck_theory.specs.Lines.{kernel_count, prefix_at, HasMove, AreGoodLines, IsMoveListed}
-use Rattle.wb_recheck_theory.specs.Entries.{first_entry, AreGoodEntries, AreFollowersListed}
+use Rattle.wb_recheck_theory.specs.Lines.{kernel_count, HasMove, AreGoodLines, IsMoveListed}
 
 -- the lines are good, and the moves of the kernels before this number are listed
 pub record AreLines (g : GrammarView) (lines : List Line) (reached : ℕ) : Type 0 where
   pub within : reached ≤ kernel_count lines
   pub good : AreGoodLines g lines
   pub closed : (k : ℕ) (x : Symbol) → k < reached → HasMove g lines k x → IsMoveListed g lines k x
-
--- the entries are good and begin with the first, and what follows from those before this place is listed
-pub record AreEntries (g : GrammarView) (lines : List Line) (entries : List Entry) (reached : ℕ) : Type 0 where
-  pub within : reached ≤ length entries
-  pub entry_first : slice_get entries 0 ≡ Some (first_entry g)
-  pub entries_good : AreGoodEntries g lines entries
-  pub closed : (n : ℕ) (e : Entry) → n < reached → slice_get entries n ≡ Some e →
-      AreFollowersListed g lines entries e.kernel e.item e.terminal
-
--- kernels that are numbered otherwise: at each place of the list is the number, of so many, of a prefix with the kernel of that place
-pub record AreNumbered (g : GrammarView) (count : ℕ) (prefix_of : ℕ → List Symbol) (lines : List Line) (states : List ℕ) : Type 0 where
-  pub len : length states ≡ kernel_count lines
-  pub below : (k s : ℕ) → slice_get states k ≡ Some s → s < count
-  pub same : (k s : ℕ) → slice_get states k ≡ Some s → SameKernel g (prefix_at lines k) (prefix_of s)

@@ -7,7 +7,7 @@ use Rattle.wb_items.specs.declared.transitions.Move.{Move}
 use Rattle.wb_recheck_lines.specs.States.{StatesView}
 use Rattle.wb_recheck_theory.specs.declared.line.Line.{Line}
 use Rattle.wb_recheck_theory.specs.Lines.{AreGoodLines}
-use Rattle.wb_recheck_theory.specs.Inner.Worklists.{AreNumbered}
+use Rattle.wb_recheck_theory.specs.Listed.{AreNumbered}
 use Rattle.wb_recheck_writer.specs.Order.{AreLinesInOrder}
 use Rattle.wb_recheck_writer.specs.declared.lines.NumberedLines.{NumberedLines}
 

@@ -15,7 +15,7 @@ use Rattle.wb_recheck_theory.specs.declared.line.Line.{Line}
 use Rattle.wb_recheck_theory.specs.declared.entry.Entry.{Entry}
 use Rattle.wb_recheck_theory.specs.Lines.{IsItemAt}
 use Rattle.wb_recheck_theory.specs.Entries.{IsEntryInRange, IsFollowed, IsListed}
-use Rattle.wb_recheck_theory.specs.Inner.Worklists.{AreEntries}
+use Rattle.wb_recheck_theory.specs.Listed.{AreEntries}
 use Rattle.wb_recheck_writer.specs.declared.context.Context.{Context}
 use Rattle.wb_recheck_writer.specs.declared.source.Source.{Source}
 use Rattle.wb_recheck_writer.specs.declared.opened.Opening.{Opening}

@@ -4,7 +4,7 @@ use Rattle.wb_text_predictive.specs.declared.symbol.Symbol.{Symbol}
 use Rattle.wb_text_predictive.specs.declared.table.Placed.{Placed}
 use Rattle.wb_text_predictive.specs.Grammar.{Grammar}
 use Rattle.wb_text_predictive.specs.Entries.{Entry}
-use Rattle.wb_text_predictive.specs.Inner.Stack.{Stands}
+use Rattle.wb_text_predictive.specs.Stack.{Stands}
 
 -- the same grammar, which makes nothing of a text
 abbrev pub bare : {K N A X V : Type 0} → Grammar K N A X V → Grammar K N A X (Unit {0})

@@ -5,7 +5,7 @@ use Rattle.wb_text_predictive.specs.declared.symbol.Symbol.TheVariants as Symbol
 use Rattle.wb_text_predictive.specs.declared.table.Placed.{Placed}
 use Rattle.wb_text_predictive.specs.Grammar.{Grammar}
 use Rattle.wb_text_predictive.specs.Entries.{Entry}
-use Rattle.wb_text_predictive.specs.Inner.Stack.{Begins, NoneFits}
+use Rattle.wb_text_predictive.specs.Stack.{Begins, NoneFits}
 use Rattle.wb_text_expected.specs.Inner.Bare.{StandsBare, bare}
 use Rattle.wb_text_expected.specs.declared.machine.Top.{Top}
 use Rattle.wb_text_expected.specs.declared.machine.Top.TheVariants.{Token, Bottom, Stuck}

@@ -6,7 +6,7 @@ use Rattle.wb_text_predictive.specs.declared.table.Next.{Next}
 use Rattle.wb_text_predictive.specs.declared.table.Next.TheVariants.{Found}
 use Rattle.wb_text_predictive.specs.Grammar.{Grammar}
 use Rattle.wb_text_predictive.specs.Entries.{Entry}
-use Rattle.wb_text_predictive.specs.Inner.Stack.{Any}
+use Rattle.wb_text_predictive.specs.Stack.{Any}
 use Rattle.wb_text_predictive.specs.Reading.{Spells, place_of}
 use Rattle.wb_text_expected.specs.Inner.Bare.{StandsBare}
 use Rattle.wb_text_expected.specs.declared.walk.Step.{Step}

@@ -7,7 +7,7 @@ use Rattle.wb_text_predictive.specs.declared.machine.Top.TheVariants.{Token, Bot
 use Rattle.wb_text_predictive.specs.declared.table.Placed.{Placed}
 use Rattle.wb_text_predictive.specs.Grammar.{Grammar}
 use Rattle.wb_text_predictive.specs.Entries.{Entry}
-use Rattle.wb_text_predictive.specs.Inner.Stack.{Stands, Begins, NoneFits}
+use Rattle.wb_text_predictive.specs.Stack.{Stands, Begins, NoneFits}
 
 -- with this kind ahead, what is left of the row follows the token that was on top, or is alone, or no text goes on
 abbrev pub TopIs : {K N A X V : Type 0} → (K → K → Bool) → K → (N → Entry K) → Grammar K N A X V

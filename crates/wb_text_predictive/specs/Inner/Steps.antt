@@ -8,7 +8,7 @@ use Rattle.wb_text_predictive.specs.declared.reading.Step.{Step}
 use Rattle.wb_text_predictive.specs.declared.reading.Step.TheVariants.{Went, Done, Stuck}
 use Rattle.wb_text_predictive.specs.Grammar.{Grammar, IsText}
 use Rattle.wb_text_predictive.specs.Entries.{Entry}
-use Rattle.wb_text_predictive.specs.Inner.Stack.{Stands, Any}
+use Rattle.wb_text_predictive.specs.Stack.{Stands, Any}
 use Rattle.wb_text_predictive.specs.Reading.{CannotFollow, place_of}
 
 -- a token was next after the place and was taken, or the end was next and the tokens are a text, or what was next can't follow them

@@ -1,5 +1,4 @@
 use Rattle.std.proofs.Common.{arith, length, subst, sym}
-use Rattle.wb_automata_positions.specs.Rows.{row}
 use Rattle.wb_automata.specs.Inner.Accepted.{AreAccepted}
 use Rattle.wb_automata.specs.Inner.Exploring.{RowsPass}
 use Rattle.wb_automata.proofs.AcceptedLemmas.{accepted_extends}

@@ -6,7 +6,8 @@ use Rattle.wb_determinism_beside.specs.ExtensionDeterminism.{IsExtensionRefusal}
 use Rattle.wb_certify_host.specs.determinism_refusal.DeterminismRefusal.{DeterminismRefusal}
 use Rattle.wb_lemmas.proofs.Refusals.{handed_on}
 use Rattle.wb_certify.specs.Tests.{IsMarkReason}
-use Rattle.wb_certify.specs.Inner.Tests.{AreClearBeside, IsReasonBeside}
+use Rattle.wb_certify.specs.Inner.Tests.{IsReasonBeside}
+use Rattle.wb_certify.specs.Beside.{AreClearBeside}
 use Rattle.wb_certify.proofs.BesideLemmas.{with_some}
 use Rattle.wb_certify.proofs.DeterminismLemmas.{asked_beside, clear_beside, whole_reason}
 use Rattle.wb_certify.proofs.determinism.determinism_beside.Goals as goal

@@ -1,5 +1,5 @@
 use Rattle.std.proofs.Common.{◌≡◌, arith, subst}
-use Rattle.wb_compose_kernels.specs.Lent.{new_count_at}
+use Rattle.wb_compose_kernels.specs.Inner.Counts.{new_count_at}
 use Rattle.wb_compose_kernels.specs.Inner.Filling.{Gains, IsNewGain}
 use Rattle.wb_compose_kernels.proofs.GainLemmas.{IsGainBelow, gains_next, gains_start}
 use Rattle.wb_compose_kernels.proofs.fill.fill_part.Goals as goal

@@ -1,6 +1,6 @@
 use Rattle.std.proofs.Common.{◌≡◌, ◌<◌, ◌++◌, ◌∷◌, [], ℕ, length, inr, subst}
 use Rattle.std.proofs.lemmas.Result.{IfOk-weaker}
-use Rattle.wb_compose_kernels.specs.Lent.{new_count_in}
+use Rattle.wb_compose_kernels.specs.Inner.Counts.{new_count_in}
 use Rattle.wb_compose_kernels.specs.Inner.Lists.{IsNewNext, IsPut}
 use Rattle.wb_compose_kernels.proofs.NextLemmas.{next_new, next_put}
 use Rattle.wb_compose_kernels.proofs.PartLemmas.{part_less}

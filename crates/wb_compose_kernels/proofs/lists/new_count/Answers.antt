@@ -1,5 +1,5 @@
 use Rattle.std.proofs.Common.{◌∙◌, ap, sym}
-use Rattle.wb_compose_kernels.specs.Lent.{new_count_in}
+use Rattle.wb_compose_kernels.specs.Inner.Counts.{new_count_in}
 use Rattle.wb_compose_kernels.proofs.lists.new_count.Goals as goal
 
 pub returns : goal.returns

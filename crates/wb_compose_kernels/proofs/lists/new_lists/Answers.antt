@@ -1,5 +1,5 @@
 use Rattle.std.proofs.Common.{◌≡◌, arith, subst, sym}
-use Rattle.wb_compose_kernels.specs.Lent.{new_count_at}
+use Rattle.wb_compose_kernels.specs.Inner.Counts.{new_count_at}
 use Rattle.wb_compose_kernels.specs.Inner.Lists.{NewUpTo}
 use Rattle.wb_compose_kernels.proofs.LoopLemmas.{new_more, new_start}
 use Rattle.wb_compose_kernels.proofs.lists.new_lists.Goals as goal

@@ -1,5 +1,5 @@
 use Rattle.std.proofs.Common.{◌≡◌, ◌<◌, arith, subst, ℕ}
-use Rattle.wb_compose_kernels.specs.Lent.{new_count_at}
+use Rattle.wb_compose_kernels.specs.Inner.Counts.{new_count_at}
 use Rattle.wb_compose_kernels.specs.Inner.Moves.{Adds, IsNewMove}
 use Rattle.wb_compose_kernels.proofs.AddLemmas.{adds_next, adds_start}
 use Rattle.wb_compose_kernels.proofs.moves.add_new_moves.Goals as goal

@@ -2,7 +2,7 @@ use Rattle.std.proofs.Common.{◌≡◌, ◌<◌, arith, length, subst, ℕ}
 use Rattle.wb_compose_kernels.specs.Inner.Moves.{Adds, IsPartMove}
 use Rattle.wb_compose_kernels.proofs.AddLemmas.{adds_next, adds_start}
 use Rattle.wb_compose_kernels.proofs.RowLemmas.{part_all}
-use Rattle.wb_compose_kernels.specs.Lent.{new_count_at}
+use Rattle.wb_compose_kernels.specs.Inner.Counts.{new_count_at}
 use Rattle.wb_compose_kernels.proofs.moves.add_part_moves.Goals as goal
 
 pub parts-init : goal.parts-init

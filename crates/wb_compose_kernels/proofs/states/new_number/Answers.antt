@@ -2,7 +2,7 @@ use Rattle.std.proofs.Common.{◌+◌, ◌<◌, arith, map, subst}
 use Rattle.wb_items.specs.Kernels.{count_of}
 use Rattle.wb_compose_theory.specs.Homes.{of}
 use Rattle.wb_compose_theory.specs.Renamings.{renamed_item}
-use Rattle.wb_compose_kernels.specs.Lent.{new_count_in}
+use Rattle.wb_compose_kernels.specs.Inner.Counts.{new_count_in}
 use Rattle.wb_compose_kernels.specs.Inner.Blocks.{names_by}
 use Rattle.wb_compose_kernels.specs.Inner.Filling.{HasNoNumber, IsNumberBy, IsOfList, IsOfNoList}
 use Rattle.wb_compose_kernels.proofs.FillingLemmas.{new_of_list, new_of_none}

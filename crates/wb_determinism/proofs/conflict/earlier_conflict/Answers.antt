@@ -1,6 +1,6 @@
 use Rattle.std.proofs.Common.{◌<◌, ℕ, length, subst, arith}
 use Rattle.wb_items.specs.declared.item_lookahead.ItemLookahead.{ItemLookahead}
-use Rattle.wb_determinism.specs.Inner.Conflicts.{IsPairConflict}
+use Rattle.wb_determinism.specs.Conflicts.{IsPairConflict}
 use Rattle.wb_determinism.proofs.ListLemmas.{before_more}
 use Rattle.wb_determinism.proofs.conflict.earlier_conflict.Goals as goal
 

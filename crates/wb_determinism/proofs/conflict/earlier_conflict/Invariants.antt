@@ -1,4 +1,4 @@
-use Rattle.wb_determinism.specs.Inner.Conflicts.{AreApartBefore}
+use Rattle.wb_determinism.specs.Conflicts.{AreApartBefore}
 use Rattle.wb_determinism.proofs.conflict.earlier_conflict.Given as goal
 
 abbrev pub invariant-places : goal.invariant-places

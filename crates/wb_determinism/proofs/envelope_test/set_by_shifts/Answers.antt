@@ -2,8 +2,9 @@ use Rattle.std.proofs.Common.{ℕ, length, sym, subst}
 use Rattle.std.specs.Prelude.{◌↔◌, ◌⊎◌, ◌<◌}
 use Rattle.wb_base.specs.Grammar.{GrammarView}
 use Rattle.wb_termset.specs.Sets.{IsMember}
-use Rattle.wb_determinism.specs.Inner.Conflicts.{HasNoConflictIn, IsFound}
-use Rattle.wb_determinism.specs.Inner.Valid.{IsReduced, IsShifted}
+use Rattle.wb_determinism.specs.Inner.Conflicts.{IsFound}
+use Rattle.wb_determinism.specs.Conflicts.{HasNoConflictIn}
+use Rattle.wb_determinism.specs.Valid.{IsReduced, IsShifted}
 use Rattle.wb_determinism.proofs.ConsideredLemmas.{pair_out, clear_out}
 use Rattle.wb_determinism.proofs.envelope_test.set_by_shifts.Goals as goal
 

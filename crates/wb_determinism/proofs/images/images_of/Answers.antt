@@ -1,6 +1,5 @@
 use Rattle.std.proofs.Common.{◌+◌, subst, sym}
-use Rattle.wb_determinism.specs.Images.{stands_for}
-use Rattle.wb_determinism.specs.Inner.Images.{AreImages}
+use Rattle.wb_determinism.specs.Images.{stands_for, AreImages}
 use Rattle.wb_determinism.proofs.ImageLemmas.{images_more}
 use Rattle.wb_determinism.proofs.images.images_of.Goals as goal
 

@@ -1,5 +1,4 @@
-use Rattle.wb_determinism.specs.Images.{stands_for}
-use Rattle.wb_determinism.specs.Inner.Images.{AreImages}
+use Rattle.wb_determinism.specs.Images.{stands_for, AreImages}
 use Rattle.wb_determinism.proofs.images.images_of.Given as goal
 
 abbrev pub invariant-terminals : goal.invariant-terminals

@@ -1,7 +1,7 @@
 use Rattle.std.proofs.Common.{◌≡◌, ◌+◌, ℕ, length}
 use Rattle.std.specs.Prelude.{◌↔◌}
 use Rattle.wb_termset.specs.Sets.{IsMember}
-use Rattle.wb_determinism.specs.Inner.Valid.{IsShifted}
+use Rattle.wb_determinism.specs.Valid.{IsShifted}
 use Rattle.wb_determinism.proofs.valid.shifts_of.Given as goal
 
 abbrev pub invariant-items : goal.invariant-items

@@ -1,5 +1,5 @@
 use Rattle.std.proofs.Common.{◌<◌, ℕ}
-use Rattle.wb_determinism.specs.Inner.Conflicts.{HasNoConflictAt}
+use Rattle.wb_determinism.specs.Conflicts.{HasNoConflictAt}
 use Rattle.wb_determinism_beside.proofs.conflict.has_no_conflict.Given as goal
 
 abbrev pub invariant-items : goal.invariant-items

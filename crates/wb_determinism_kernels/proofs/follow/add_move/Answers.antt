@@ -2,7 +2,7 @@ use Rattle.std.proofs.Common.{◌≡◌, ◌++◌, ◌∷◌, [], Some, sym, sub
 use Rattle.std.specs.Prelude.{slice_get, slice_index_or}
 use Rattle.std.proofs.lemmas.Option.{slice_get-get_or}
 use Rattle.wb_lemmas.proofs.Places.{at_once}
-use Rattle.wb_items.specs.Inner.Growing.{IsKernelFor}
+use Rattle.wb_items.specs.Moved.{IsKernelFor}
 use Rattle.wb_determinism_kernels.specs.declared.moved.MovedKernel.{MovedKernel}
 use Rattle.wb_determinism_kernels.specs.NewKernels.{prefixes_beside}
 use Rattle.wb_determinism_kernels.specs.Numbers.{up_by}

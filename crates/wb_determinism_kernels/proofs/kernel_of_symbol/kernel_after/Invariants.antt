@@ -1,5 +1,5 @@
 use Rattle.wb_determinism_kernels.specs.Inner.Advances.{items_of}
-use Rattle.wb_items.specs.Inner.Passes.{StrictUpTo}
+use Rattle.wb_items.specs.Sorted.{StrictUpTo}
 use Rattle.wb_determinism_kernels.proofs.kernel_of_symbol.kernel_after.Given as goal
 
 abbrev pub invariant-places : goal.invariant-places

@@ -1,5 +1,5 @@
 use Rattle.std.proofs.Common.{◌-◌}
-use Rattle.wb_items.specs.Inner.Searches.{LiesWithin}
+use Rattle.wb_items.specs.KernelOrder.{LiesWithin}
 use Rattle.wb_determinism_kernels.proofs.search.locate.Given as goal
 
 abbrev pub invariant-halves : goal.invariant-halves

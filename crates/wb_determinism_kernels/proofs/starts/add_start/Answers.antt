@@ -2,7 +2,7 @@ use Rattle.std.proofs.Common.{◌++◌, ◌∷◌, ◌∙◌, [], List, length, 
 use Rattle.std.proofs.lemmas.Bool.{true≢false}
 use Rattle.wb_base.specs.declared.symbol.Symbol.TheVariants.{Terminal}
 use Rattle.wb_grammar_theory.specs.declared.item.Item.{Item}
-use Rattle.wb_items.specs.Inner.Growing.{IsKernelFor}
+use Rattle.wb_items.specs.Moved.{IsKernelFor}
 use Rattle.wb_determinism_kernels.specs.Inner.Holes.{AfterUpTo}
 use Rattle.wb_determinism_kernels.proofs.StartLemmas.{after_kernel, never_begun, never_there, started_more, started_pass}
 use Rattle.wb_determinism_kernels.proofs.starts.add_start.Goals as goal

@@ -1,5 +1,6 @@
 use Rattle.std.proofs.Common.{◌≡◌}
-use Rattle.wb_eval_rules.specs.Indexes.{AreFound, IsIndexOf}
+use Rattle.wb_eval_rules.specs.Indexes.{IsIndexOf}
+use Rattle.wb_eval_rules.specs.Inner.Found.{AreFound}
 use Rattle.wb_eval_rules.proofs.equations.equations_of.Given as goal
 
 abbrev pub invariant-equations : goal.invariant-equations

@@ -1,4 +1,5 @@
-use Rattle.wb_flow.specs.Inner.Adding.{Adds, SomeBelow}
+use Rattle.wb_flow.specs.Inner.Adding.{SomeBelow}
+use Rattle.wb_flow.specs.Adding.{Adds}
 use Rattle.wb_flow_theory.specs.Modular.{IsProduction}
 use Rattle.wb_explain_flows_lists.specs.Inner.Found.{IsMissingOf}
 use Rattle.wb_syntax_resolved.specs.declared.production.Production.{Production}

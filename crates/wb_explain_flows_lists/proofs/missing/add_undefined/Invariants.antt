@@ -1,4 +1,5 @@
-use Rattle.wb_flow.specs.Inner.Adding.{Adds, SomeBefore}
+use Rattle.wb_flow.specs.Inner.Adding.{SomeBefore}
+use Rattle.wb_flow.specs.Adding.{Adds}
 use Rattle.wb_flow.proofs.RowLemmas.{OfNumber}
 use Rattle.wb_explain_flows_lists.specs.Inner.Found.{IsMissingFor}
 use Rattle.wb_explain_flows_lists.proofs.MissingLemmas.{missing}

@@ -1,5 +1,5 @@
 use Rattle.std.proofs.Common.{subst}
-use Rattle.wb_flow.specs.Inner.Adding.{Adds}
+use Rattle.wb_flow.specs.Adding.{Adds}
 use Rattle.wb_flow.proofs.AddingLemmas.{adds_to_nothing}
 use Rattle.wb_explain_flows_lists.specs.Missing.{IsMissing}
 use Rattle.wb_explain_flows_lists.proofs.missing.all_missing.Goals as goal

@@ -1,5 +1,6 @@
 use Rattle.std.proofs.Common.{◌≤◌, List, length, subst, arith}
-use Rattle.wb_flow.specs.Inner.Adding.{Adds, SomeOf}
+use Rattle.wb_flow.specs.Inner.Adding.{SomeOf}
+use Rattle.wb_flow.specs.Adding.{Adds}
 use Rattle.wb_flow.specs.Inner.Arrows.{IsEquationArrow, IsExpressionArrow}
 use Rattle.wb_flow.proofs.AddingLemmas.{read_item, adds_start, adds_more, adds_all}
 use Rattle.wb_syntax_resolved.specs.declared.equation.Equation.{Equation}

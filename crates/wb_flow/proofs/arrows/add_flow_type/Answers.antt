@@ -1,6 +1,7 @@
 use Rattle.std.proofs.Common.{◌≤◌, ℕ, List, length, get_or, subst, arith}
 use Rattle.std.proofs.lemmas.Option.{slice_get-get_or}
-use Rattle.wb_flow.specs.Inner.Adding.{Adds, SomeOf}
+use Rattle.wb_flow.specs.Inner.Adding.{SomeOf}
+use Rattle.wb_flow.specs.Adding.{Adds}
 use Rattle.wb_flow.specs.Inner.Arrows.{IsNeedArrow}
 use Rattle.wb_flow.proofs.AddingLemmas.{adds_start, adds_more, adds_all}
 use Rattle.wb_flow.proofs.KindLemmas.{need_one}

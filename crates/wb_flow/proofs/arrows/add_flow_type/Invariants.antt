@@ -1,4 +1,5 @@
-use Rattle.wb_flow.specs.Inner.Adding.{Adds, SomeBefore}
+use Rattle.wb_flow.specs.Inner.Adding.{SomeBefore}
+use Rattle.wb_flow.specs.Adding.{Adds}
 use Rattle.wb_flow.specs.Inner.Arrows.{IsNeedArrow}
 use Rattle.wb_flow.proofs.arrows.add_flow_type.Given as goal
 

@@ -1,7 +1,7 @@
 use Rattle.std.proofs.Common.{subst}
 use Rattle.std.proofs.lemmas.Result.{on_ok_weaker}
 use Rattle.wb_flow.specs.declared.vertex.Vertex.TheVariants.{ForwardTree}
-use Rattle.wb_flow.specs.Inner.Adding.{Adds}
+use Rattle.wb_flow.specs.Adding.{Adds}
 use Rattle.wb_flow.specs.Inner.Arrows.{IsExpressionArrow}
 use Rattle.wb_flow.proofs.KindLemmas.{forward_one}
 use Rattle.wb_flow.proofs.arrows.add_forward.Goals as goal

@@ -1,7 +1,8 @@
 use Rattle.std.proofs.Common.{◌≡◌, ◌∙◌, List, Some, length, get_or, slice_get, subst, ap, arith}
 use Rattle.std.proofs.lemmas.Option.{slice_get-get_or}
 use Rattle.wb_flow.specs.declared.vertex.Vertex.TheVariants.{LocalTree}
-use Rattle.wb_flow.specs.Inner.Adding.{Adds, SomeBelow}
+use Rattle.wb_flow.specs.Inner.Adding.{SomeBelow}
+use Rattle.wb_flow.specs.Adding.{Adds}
 use Rattle.wb_flow.specs.Inner.Arrows.{IsLocalArrow, IsExpressionArrow}
 use Rattle.wb_flow.proofs.AddingLemmas.{adds_start_below, adds_more_below}
 use Rattle.wb_flow.proofs.KindLemmas.{local_one}

@@ -1,4 +1,5 @@
-use Rattle.wb_flow.specs.Inner.Adding.{Adds, SomeBelow}
+use Rattle.wb_flow.specs.Inner.Adding.{SomeBelow}
+use Rattle.wb_flow.specs.Adding.{Adds}
 use Rattle.wb_flow.specs.Inner.Arrows.{IsLocalArrow}
 use Rattle.wb_flow.proofs.arrows.add_locals.Given as goal
 

@@ -1,4 +1,5 @@
-use Rattle.wb_flow.specs.Inner.Adding.{Adds, SomeBefore}
+use Rattle.wb_flow.specs.Inner.Adding.{SomeBefore}
+use Rattle.wb_flow.specs.Adding.{Adds}
 use Rattle.wb_flow.specs.Inner.Arrows.{IsBelowArrow}
 use Rattle.wb_flow.proofs.arrows.add_needs.Given as goal
 

@@ -2,7 +2,8 @@ use Rattle.std.proofs.Common.{[], ◌≤◌, length, sym, subst, arith, rules}
 use Rattle.std.proofs.lemmas.List.Sorted.{Contains-permutation, IsPermutation-sym, IsNonDecreasingBy-from_sort_by_key}
 use Rattle.std.proofs.lemmas.Option.{slice_get-get_or}
 use Rattle.wb_graph.specs.Graphs.{Edge}
-use Rattle.wb_flow.specs.Inner.Adding.{Adds, SomeBefore, SomeOf}
+use Rattle.wb_flow.specs.Inner.Adding.{SomeBefore, SomeOf}
+use Rattle.wb_flow.specs.Adding.{Adds}
 use Rattle.wb_flow.specs.Inner.Closing.{IsStepOf}
 use Rattle.wb_flow.proofs.AddingLemmas.{adds_start, adds_more, adds_all, adds_to_nothing}
 use Rattle.wb_flow.proofs.ClosingLemmas.{step_added}

@@ -1,6 +1,6 @@
 use Rattle.std.proofs.Common.{List, subst}
 use Rattle.wb_flow.specs.declared.arrows.Arrow.{Arrow}
-use Rattle.wb_flow.specs.Inner.Adding.{Adds}
+use Rattle.wb_flow.specs.Adding.{Adds}
 use Rattle.wb_flow.specs.Inner.Arrows.{IsRuleArrow}
 use Rattle.wb_flow.proofs.GraphLemmas.{arrows_all}
 use Rattle.wb_flow.proofs.graph.arrows_of.Goals as goal

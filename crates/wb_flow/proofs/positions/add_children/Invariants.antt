@@ -1,5 +1,6 @@
 use Rattle.wb_flow.specs.declared.positions.Position.TheVariants.{Child}
-use Rattle.wb_flow.specs.Inner.Adding.{Adds, SomeBelow}
+use Rattle.wb_flow.specs.Inner.Adding.{SomeBelow}
+use Rattle.wb_flow.specs.Adding.{Adds}
 use Rattle.wb_flow.specs.Inner.Positions.{IsTreeOf}
 use Rattle.wb_flow.proofs.positions.add_children.Given as goal
 

@@ -1,6 +1,7 @@
 use Rattle.std.proofs.Common.{◌≡◌, length, arith, subst}
 use Rattle.wb_flow.specs.declared.positions.Position.TheVariants.{Local}
-use Rattle.wb_flow.specs.Inner.Adding.{Adds, SomeBelow}
+use Rattle.wb_flow.specs.Inner.Adding.{SomeBelow}
+use Rattle.wb_flow.specs.Adding.{Adds}
 use Rattle.wb_flow.specs.Inner.Positions.{IsTreeOf}
 use Rattle.wb_flow.proofs.AddingLemmas.{adds_start_below, adds_more_below}
 use Rattle.wb_flow.proofs.positions.add_locals.Goals as goal

@@ -1,5 +1,6 @@
 use Rattle.wb_flow.specs.declared.positions.Position.TheVariants.{Local}
-use Rattle.wb_flow.specs.Inner.Adding.{Adds, SomeBelow}
+use Rattle.wb_flow.specs.Inner.Adding.{SomeBelow}
+use Rattle.wb_flow.specs.Adding.{Adds}
 use Rattle.wb_flow.specs.Inner.Positions.{IsTreeOf}
 use Rattle.wb_flow.proofs.positions.add_locals.Given as goal
 

@@ -1,7 +1,7 @@
 use Rattle.std.proofs.Common.{List, subst}
 use Rattle.wb_flow.specs.declared.positions.Position.TheVariants.{Top}
 use Rattle.wb_flow.specs.declared.positions.TreeAt.{TreeAt}
-use Rattle.wb_flow.specs.Inner.Adding.{Adds}
+use Rattle.wb_flow.specs.Adding.{Adds}
 use Rattle.wb_flow.specs.Inner.Positions.{IsTreeOf}
 use Rattle.wb_flow.proofs.TreeLemmas.{all_trees}
 use Rattle.wb_flow.proofs.positions.trees_of.Goals as goal

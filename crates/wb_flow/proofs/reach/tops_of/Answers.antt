@@ -1,6 +1,7 @@
 use Rattle.std.proofs.Common.{[], ◌≤◌, length, sym, subst, arith}
 use Rattle.std.proofs.lemmas.Option.{slice_get-get_or}
-use Rattle.wb_flow.specs.Inner.Adding.{Adds, SomeBefore, SomeOf}
+use Rattle.wb_flow.specs.Inner.Adding.{SomeBefore, SomeOf}
+use Rattle.wb_flow.specs.Adding.{Adds}
 use Rattle.wb_flow.proofs.AddingLemmas.{adds_start, adds_more, adds_all, adds_to_nothing}
 use Rattle.wb_flow.proofs.ReachLemmas.{IsTopOf, tops_are}
 use Rattle.wb_flow.proofs.reach.tops_of.Goals as goal

@@ -1,5 +1,6 @@
 use Rattle.std.proofs.Common.{◌≡◌, []}
-use Rattle.wb_flow.specs.Inner.Adding.{Adds, SomeBefore}
+use Rattle.wb_flow.specs.Inner.Adding.{SomeBefore}
+use Rattle.wb_flow.specs.Adding.{Adds}
 use Rattle.wb_flow.specs.Rules.{target_of}
 use Rattle.wb_flow.specs.declared.vertex.Vertex.{Vertex}
 use Rattle.wb_syntax_resolved.specs.declared.equation.Equation.{Equation}

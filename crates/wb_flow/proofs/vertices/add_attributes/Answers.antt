@@ -1,7 +1,7 @@
 use Rattle.std.proofs.Common.{◌≡◌, ◌≤◌, length, get_or, subst, arith}
 use Rattle.std.proofs.lemmas.Option.{slice_get-get_or}
 use Rattle.wb_flow.specs.declared.vertex.Vertex.{Vertex}
-use Rattle.wb_flow.specs.Inner.Adding.{Adds}
+use Rattle.wb_flow.specs.Adding.{Adds}
 use Rattle.wb_flow.specs.Inner.Positions.{vertex_at, IsAttributeOf}
 use Rattle.wb_flow.proofs.AddingLemmas.{adds_start, adds_as}
 use Rattle.wb_flow.proofs.RowLemmas.{OfNumber, OnNonterminal, row_within, row_more, row_all, on_attribute}

@@ -1,5 +1,6 @@
 use Rattle.std.proofs.Common.{◌≡◌}
-use Rattle.wb_flow.specs.Inner.Adding.{Adds, SomeBefore}
+use Rattle.wb_flow.specs.Inner.Adding.{SomeBefore}
+use Rattle.wb_flow.specs.Adding.{Adds}
 use Rattle.wb_flow.specs.Inner.Positions.{vertex_at}
 use Rattle.wb_flow.proofs.RowLemmas.{OfNumber}
 use Rattle.wb_flow.proofs.vertices.add_attributes.Given as goal

@@ -5,7 +5,7 @@ use Rattle.std.proofs.lemmas.List.Sorted.{Contains-permutation, IsPermutation-sy
 use Rattle.wb_grammar_theory.specs.declared.item.Item.{Item}
 use Rattle.wb_grammar_theory.specs.Closure.{InClosure}
 use Rattle.wb_items.specs.Kernels.{AreInOrder}
-use Rattle.wb_items.specs.Inner.Passes.{AreRising}
+use Rattle.wb_items.specs.Sorted.{AreRising}
 use Rattle.wb_items.proofs.OrderLemmas.{sorted_rises}
 use Rattle.wb_items.proofs.closure.close.Goals as goal
 

@@ -1,4 +1,4 @@
-use Rattle.wb_items.specs.Inner.Passes.{StrictUpTo}
+use Rattle.wb_items.specs.Sorted.{StrictUpTo}
 use Rattle.wb_items.proofs.closure.deduplicated.Given as goal
 
 abbrev pub invariant-places : goal.invariant-places

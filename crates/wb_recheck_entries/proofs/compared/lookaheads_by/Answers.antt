@@ -2,7 +2,7 @@ use Rattle.std.proofs.Common.{IfErr, IfOk, subst}
 use Rattle.wb_recheck_theory.specs.Certificates.{IsCertificate}
 use Rattle.wb_recheck_theory.specs.Lines.{AreGoodLines}
 use Rattle.wb_recheck_lines.specs.Faults.{IsLineRefusal}
-use Rattle.wb_recheck_entries.specs.Texts.{IsFaultIn}
+use Rattle.wb_recheck_entries.specs.Inner.Faults.{IsFaultIn}
 use Rattle.wb_recheck_entries.proofs.FaultLemmas.{line_told}
 use Rattle.wb_recheck_entries.proofs.compared.lookaheads_by.Goals as goal
 

@@ -1,6 +1,6 @@
 use Rattle.std.proofs.Common.{sym, ◌∙◌, subst, arith}
 use Rattle.std.proofs.lemmas.Bool.{true≢false}
-use Rattle.wb_recheck_entries.specs.Keys.{IsInserted}
+use Rattle.wb_recheck_entries.specs.Inner.Inserted.{IsInserted}
 use Rattle.wb_recheck_entries.proofs.WrongLemmas.{first_wrong, keys_all, keys_more, keys_start, keys_whole}
 use Rattle.wb_recheck_entries.proofs.first_wrong.keys_of_entries.Goals as goal
 

@@ -1,5 +1,5 @@
 use Rattle.std.proofs.Common.{◌≡◌, drop}
-use Rattle.wb_text_predictive.specs.Inner.Choice.{choose}
+use Rattle.wb_text_predictive.specs.Choice.{choose}
 use Rattle.wb_text_predictive.specs.Rules.{rights_of, kinds_of}
 use Rattle.wb_text_expected.proofs.choice.chosen.Given as goal
 

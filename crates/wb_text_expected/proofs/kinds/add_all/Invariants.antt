@@ -1,6 +1,6 @@
 use Rattle.std.proofs.Common.{List, ◌++◌, drop, reverse}
 use Rattle.wb_text_predictive.specs.declared.table.Placed.{Placed}
-use Rattle.wb_text_predictive.specs.Inner.Stack.{Any}
+use Rattle.wb_text_predictive.specs.Stack.{Any}
 use Rattle.wb_text_expected.specs.Expected.{AreThose, ComesAfter}
 use Rattle.wb_text_expected.specs.Inner.Bare.{StandsBare}
 use Rattle.wb_text_expected.proofs.kinds.add_all.Given as goal

@@ -2,7 +2,7 @@ use Rattle.std.proofs.Common.{◌≡◌, List, [], ◌∷◌, ◌++◌, ◌<◌,
 use Rattle.std.proofs.lemmas.List.{reverse-append, nil_from_length}
 use Rattle.wb_text_predictive.specs.declared.symbol.Symbol.TheVariants.{Token, Nonterminal, Act}
 use Rattle.wb_text_predictive.specs.Entries.{weight_of}
-use Rattle.wb_text_predictive.specs.Inner.Stack.{Begins}
+use Rattle.wb_text_predictive.specs.Stack.{Begins}
 use Rattle.wb_text_predictive.proofs.Stacks.{acts, expands, stuck_nonterminal}
 use Rattle.wb_text_predictive.proofs.Weights.{lighter}
 use Rattle.wb_text_expected.specs.Inner.Bare.{StandsBare, bare}

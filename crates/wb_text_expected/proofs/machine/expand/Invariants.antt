@@ -1,7 +1,7 @@
 use Rattle.std.proofs.Common.{List, reverse}
 use Rattle.wb_text_predictive.specs.declared.table.Placed.{Placed}
 use Rattle.wb_text_predictive.specs.Entries.{weight_of}
-use Rattle.wb_text_predictive.specs.Inner.Stack.{Any, Begins}
+use Rattle.wb_text_predictive.specs.Stack.{Any, Begins}
 use Rattle.wb_text_expected.specs.Inner.Bare.{StandsBare}
 use Rattle.wb_text_expected.proofs.machine.expand.Given as goal
 

@@ -1,5 +1,5 @@
 use Rattle.std.proofs.Common.{◌≡◌, [], ◌∷◌, ◌++◌, reverse, sym, ◌∙◌, subst}
-use Rattle.wb_text_predictive.specs.Inner.Stack.{Begins}
+use Rattle.wb_text_predictive.specs.Stack.{Begins}
 use Rattle.wb_text_predictive.specs.declared.symbol.Symbol.TheVariants as Symbols
 use Rattle.wb_text_expected.specs.declared.machine.Top.TheVariants.{Token}
 use Rattle.wb_text_expected.specs.Inner.Bare.{StandsBare}

@@ -1,7 +1,7 @@
 use Rattle.std.proofs.Common.{◌≤◌, ◌<◌, ◌-◌, List, All, length, reverse}
 use Rattle.wb_text_predictive.specs.declared.table.Placed.{Placed}
 use Rattle.wb_text_predictive.specs.Reading.{Spells}
-use Rattle.wb_text_predictive.specs.Inner.Stack.{Any}
+use Rattle.wb_text_predictive.specs.Stack.{Any}
 use Rattle.wb_text_expected.specs.Inner.Bare.{StandsBare}
 use Rattle.wb_text_expected.proofs.walk.walk.Given as goal
 

@@ -1,7 +1,7 @@
 use Rattle.std.proofs.Common.{List, reverse}
 use Rattle.wb_text_predictive.specs.declared.table.Placed.{Placed}
 use Rattle.wb_text_predictive.specs.Entries.{weight_of}
-use Rattle.wb_text_predictive.specs.Inner.Stack.{Stands, Any, Begins}
+use Rattle.wb_text_predictive.specs.Stack.{Stands, Any, Begins}
 use Rattle.wb_text_predictive.proofs.machine.expand.Given as goal
 
 abbrev pub invariant-expand : goal.invariant-expand

@@ -1,6 +1,6 @@
 use Rattle.std.proofs.Common.{◌≡◌, [], ◌∷◌, ◌++◌, reverse, sym, ◌∙◌, subst}
 use Rattle.wb_text_predictive.specs.declared.machine.Top.TheVariants.{Token, Bottom, Stuck}
-use Rattle.wb_text_predictive.specs.Inner.Stack.{Stands, Any}
+use Rattle.wb_text_predictive.specs.Stack.{Stands, Any}
 use Rattle.wb_text_predictive.specs.Inner.Machine.{TopIs}
 use Rattle.wb_text_predictive.proofs.Stacks.{takes, other_token, none_starts, nothing_follows}
 use Rattle.wb_text_predictive.proofs.machine.take.Goals as goal

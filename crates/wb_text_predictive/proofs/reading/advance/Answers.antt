@@ -2,7 +2,7 @@ use Rattle.std.proofs.Common.{[], ◌∷◌, ◌++◌, reverse, refl, subst}
 use Rattle.std.specs.Prelude.{MatchBool}
 use Rattle.wb_text_predictive.specs.declared.table.Next.TheVariants.{Found, End, NoToken}
 use Rattle.wb_text_predictive.specs.Grammar.{CanStart, IsText}
-use Rattle.wb_text_predictive.specs.Inner.Stack.{Stands, Any}
+use Rattle.wb_text_predictive.specs.Stack.{Stands, Any}
 use Rattle.wb_text_predictive.proofs.reading.advance.Goals as goal
 
 pub returns-then-branch-clause-ok : goal.returns-then-branch-clause-ok

@@ -1,7 +1,7 @@
 use Rattle.std.proofs.Common.{[], ◌∷◌, ◌++◌, length, reverse, refl, sym, ap, ◌∙◌, subst, arith}
 use Rattle.wb_text_predictive.specs.declared.symbol.Symbol.TheVariants.{Nonterminal}
 use Rattle.wb_text_predictive.specs.Reading.{Spells, none}
-use Rattle.wb_text_predictive.specs.Inner.Stack.{Stands, Any}
+use Rattle.wb_text_predictive.specs.Stack.{Stands, Any}
 use Rattle.wb_text_predictive.specs.Inner.Steps.{StepIs, GoesOn}
 use Rattle.wb_text_predictive.proofs.Stacks.{stands_first, can_go_on}
 use Rattle.wb_text_predictive.specs.declared.reading.Outcome.TheVariants.{Whole, Stopped}

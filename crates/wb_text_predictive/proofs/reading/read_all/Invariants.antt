@@ -1,7 +1,7 @@
 use Rattle.std.proofs.Common.{◌≤◌, ◌-◌, List, length, reverse}
 use Rattle.wb_text_predictive.specs.declared.table.Placed.{Placed}
 use Rattle.wb_text_predictive.specs.Reading.{Spells}
-use Rattle.wb_text_predictive.specs.Inner.Stack.{Stands, Any}
+use Rattle.wb_text_predictive.specs.Stack.{Stands, Any}
 use Rattle.wb_text_predictive.proofs.reading.read_all.Given as goal
 
 abbrev pub invariant-read : goal.invariant-read

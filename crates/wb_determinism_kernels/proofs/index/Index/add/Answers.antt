@@ -1,7 +1,7 @@
 use Rattle.std.proofs.Common.{◌≡◌, ◌++◌, ◌∷◌, [], List, Some, length, ◌∙◌, ap, subst, arith}
 use Rattle.std.specs.Prelude.{slice_get}
 use Rattle.wb_grammar_theory.specs.declared.item.Item.{Item}
-use Rattle.wb_items.specs.Inner.Searches.{LiesWithin}
+use Rattle.wb_items.specs.KernelOrder.{LiesWithin}
 use Rattle.wb_items.specs.Table.{SameItems}
 use Rattle.wb_determinism_kernels.specs.declared.index.Step.{Step}
 use Rattle.wb_determinism_kernels.specs.NewKernels.{IndexView}

@@ -1,6 +1,6 @@
 use Rattle.std.proofs.Common.{◌≡◌, Some, sym, subst}
 use Rattle.std.specs.Prelude.{slice_get}
-use Rattle.wb_items.specs.Inner.Searches.{LiesWithin}
+use Rattle.wb_items.specs.KernelOrder.{LiesWithin}
 use Rattle.wb_items.proofs.IndexLemmas.{search_none}
 use Rattle.wb_determinism_kernels.specs.NewKernels.{IndexView}
 use Rattle.wb_determinism_kernels.proofs.index.Index.find.Goals as goal

@@ -1,6 +1,6 @@
 use Rattle.std.proofs.Common.{List, subst, ◌≡◌}
 use Rattle.wb_flow.specs.declared.vertex.Vertex.{Vertex}
-use Rattle.wb_flow.specs.Inner.Adding.{Adds}
+use Rattle.wb_flow.specs.Adding.{Adds}
 use Rattle.wb_flow.proofs.SetLemmas.{inserted}
 use Rattle.wb_flow.proofs.vertex_set.VertexSet.add.Goals as goal
 

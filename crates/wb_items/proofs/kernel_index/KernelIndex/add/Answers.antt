@@ -3,7 +3,7 @@ use Rattle.std.specs.Prelude.{slice_get}
 use Rattle.wb_grammar_theory.specs.declared.item.Item.{Item}
 use Rattle.wb_items.specs.declared.kernel_index.Step.{Step}
 use Rattle.wb_items.specs.Index.{IndexView}
-use Rattle.wb_items.specs.Inner.Searches.{LiesWithin}
+use Rattle.wb_items.specs.KernelOrder.{LiesWithin}
 use Rattle.wb_items.specs.Table.{SameItems}
 use Rattle.wb_items.proofs.IndexedLemmas.{added, found_more}
 use Rattle.wb_items.proofs.kernel_index.KernelIndex.add.Goals as goal

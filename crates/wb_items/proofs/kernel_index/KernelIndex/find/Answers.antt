@@ -1,7 +1,7 @@
 use Rattle.std.proofs.Common.{◌≡◌, Some, sym, subst}
 use Rattle.std.specs.Prelude.{slice_get}
 use Rattle.wb_items.specs.Index.{IndexView}
-use Rattle.wb_items.specs.Inner.Searches.{LiesWithin}
+use Rattle.wb_items.specs.KernelOrder.{LiesWithin}
 use Rattle.wb_items.proofs.IndexLemmas.{search_none}
 use Rattle.wb_items.proofs.kernel_index.KernelIndex.find.Goals as goal
 

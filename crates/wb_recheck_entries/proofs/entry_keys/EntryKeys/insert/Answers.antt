@@ -1,5 +1,6 @@
 use Rattle.std.proofs.Common.{List, subst}
-use Rattle.wb_recheck_entries.specs.Keys.{Key, IsInserted}
+use Rattle.wb_recheck_entries.specs.Keys.{Key}
+use Rattle.wb_recheck_entries.specs.Inner.Inserted.{IsInserted}
 use Rattle.wb_recheck_entries.proofs.KeyLemmas.{inserted}
 use Rattle.wb_recheck_entries.proofs.entry_keys.EntryKeys.insert.Goals as goal
 
