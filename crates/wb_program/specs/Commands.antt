@@ -27,8 +27,7 @@ use Rattle.wb_program_texts.specs.Commands.Reading.{ReadingReport}
 use Rattle.wb_program_texts.specs.Commands.Recheck.{RecheckReport, rechecked_reads}
 use Rattle.wb_program_texts.specs.Commands.Run.{RunReport, RunStops}
 use Rattle.wb_program_texts.specs.Commands.Show.{ShowReport}
-use Rattle.wb_program_texts.specs.Stops.{certified_extension, certified_host, specification, well_defined_host, written_term}
-use Rattle.wb_program_texts.specs.Stops.{StopsAt}
+use Rattle.wb_program_texts.specs.Stops.{certified_extension, certified_host, specification, well_defined_host, written_term, StopsAt}
 use Rattle.wb_program_texts.specs.SeveralStops.{StopsComposed}
 use Rattle.wb_program_texts.specs.Commands.Tree.{TreeReport}
 use Rattle.wb_program_texts.specs.Commands.Value.{ValueReport}

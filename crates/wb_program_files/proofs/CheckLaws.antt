@@ -1,7 +1,7 @@
 -- The report of `check`: it is written whole, and known files have one status, and one text where the host passes its checks.
 use Rattle.std.proofs.Common.{◌≡◌, ℕ, List, [], Option, Some, sym, ◌∙◌}
 use Rattle.wb_certify_files.specs.HostContents.{IsHostText, IsHostRefusal}
-use Rattle.wb_operations.specs.Operations.{OperationSignature, Operations}
+use Rattle.wb_operations.specs.Operations.{OperationSignature}
 use Rattle.wb_report.specs.Lines.{report_of}
 use Rattle.wb_report.specs.declared.done.Done.TheVariants as done
 use Rattle.wb_report.specs.declared.outcome.Outcome.TheVariants as o

@@ -28,9 +28,8 @@ use Rattle.wb_program_files.specs.declared.status.Status.{Status}
 use Rattle.wb_program_files.specs.declared.status.Status.TheVariants.{Done, TooManyExtensions}
 use Rattle.wb_program_files.proofs.StopLemmas.{stops_first}
 use Rattle.wb_program_files.proofs.FileLemmas.{refused_checks}
-use Rattle.wb_program_files.specs.Commands.Certify.{CertifyReport, ExtensionsReport, IsExtensionNamed}
+use Rattle.wb_program_files.specs.Commands.Certify.{CertifyReport, ExtensionsReport, IsExtensionNamed, CertifyStops}
 use Rattle.wb_program_files.specs.Inner.Extensions.{EndsAtExtension, LeadsTo, StopsFrom}
-use Rattle.wb_program_files.specs.Commands.Certify.{CertifyStops}
 
 -- a text that is too long is refused for that
 pub too_long_extension : (host : ResolvedParts) (operations : List OperationSignature) (contents : List ℕ) → 1048576 < length contents

@@ -8,8 +8,7 @@ use Rattle.wb_program_files.specs.Stopped.{Outside, Stopped, GoesOn}
 use Rattle.wb_program_files.specs.declared.answer.Answer.{Answer}
 use Rattle.wb_program_files.specs.declared.files.ReadFailure.{ReadFailure}
 use Rattle.wb_program_files.specs.declared.files.ReadFailure.TheVariants.{NoMemory}
-use Rattle.wb_program_files.proofs.StopLemmas.{goes_on_twice, on_err, on_ok, weaker_stop}
-use Rattle.wb_program_files.proofs.StopLemmas.{reason_since}
+use Rattle.wb_program_files.proofs.StopLemmas.{goes_on_twice, on_err, on_ok, weaker_stop, reason_since}
 
 -- it answers
 pub answered : {X : Type 0} {before now : Outside} {IsSo : X → Type 0} {Comes : (List ℕ → Type 0) → Type 0} (x : X) → IsSo x

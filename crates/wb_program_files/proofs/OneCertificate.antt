@@ -13,10 +13,10 @@ use Rattle.wb_report.specs.declared.certificate_reason.CertificateReason.TheVari
 use Rattle.wb_report.specs.declared.outcome.Outcome.TheVariants as o
 use Rattle.wb_report.specs.declared.refusal.Refusal.TheVariants as r
 use Rattle.wb_world.specs.Shelf.{Files}
-use Rattle.wb_program_files.specs.CertificateChecks.{HasTooLongCertificate, IsPair, IsRefusedBy, RefusedCertificate, RefusedPair, ShowsKernel}
-use Rattle.wb_program_files.specs.CertificateChecks.{WithCertificate}
+use Rattle.wb_program_files.specs.CertificateChecks.{HasTooLongCertificate, IsPair, IsRefusedBy, RefusedCertificate, RefusedPair}
+use Rattle.wb_program_files.specs.CertificateChecks.{ShowsKernel, WithCertificate}
 use Rattle.wb_program_files.specs.Checks.{Report}
-use Rattle.wb_program_files.specs.Files.{FileIs, KnownFile}
+use Rattle.wb_program_files.specs.Files.{FileIs}
 use Rattle.wb_program_files.specs.declared.status.Status.{Status}
 use Rattle.wb_program_files.specs.declared.status.Status.TheVariants.{CertificateRefused, NotCertified, SpecRefused, WrongHost}
 use Rattle.wb_program_files.proofs.OneCheck.{AreOne, on_file}

@@ -1,7 +1,7 @@
 -- The report of `recheck`: it is written whole, and known files have one status, and one text where it isn't left open.
-use Rattle.std.proofs.Common.{◌≡◌, ◌∷◌, [], inl, inr, ℕ, List, Option, Some, None, sym, subst, ◌∙◌}
+use Rattle.std.proofs.Common.{◌≡◌, ◌∷◌, [], ℕ, List, Option, Some, None, sym, subst, ◌∙◌}
 use Rattle.wb_certify_files.specs.Extensions.{IsOneExtension}
-use Rattle.wb_operations.specs.Operations.{OperationSignature, Operations}
+use Rattle.wb_operations.specs.Operations.{OperationSignature}
 use Rattle.wb_certify_files.specs.OneRecheckAnswer.{HaveOneExtensionAnswer, HaveOneHostAnswer}
 use Rattle.wb_certify_files.specs.RecheckedExtensions.{IsRecheckedNamed, IsRefusedExtension}
 use Rattle.wb_certify_files.specs.RecheckedHosts.{IsRecheckedHost, IsRefusedHost}

@@ -3,7 +3,6 @@ use Rattle.std.proofs.Common.{◌≡◌, ℕ, List, Option, Some, ap, sym, ◌�
 use Rattle.wb_world.specs.Shelf.{Files}
 use Rattle.wb_syntax.specs.Canonical.{IsCanonical}
 use Rattle.wb_certify_files.specs.HostContents.{IsBadText}
-use Rattle.wb_operations.specs.Operations.{Operations}
 use Rattle.wb_reader.specs.Refusals.{IsAcceptedText}
 use Rattle.wb_reader.proofs.OneText.{one_text as one_read}
 use Rattle.wb_reader_printer.proofs.CallerLemmas.{one_canonical}

@@ -1,8 +1,6 @@
 -- A report that begins with checks has a status with which it is written whole, where the rest has one.
-use Rattle.std.proofs.Common.{◌≢◌, inl, inr, ℕ, Option, List, [], ◌∷◌, ◌++◌, subst, sym}
-use Rattle.wb_certify_files.specs.HostContents.{IsHostText, IsHostRefusal}
+use Rattle.std.proofs.Common.{◌≢◌, inl, inr, ℕ, Option, List, subst, sym}
 use Rattle.wb_certify_files.specs.declared.host_refusal.HostRefusal.{HostRefusal}
-use Rattle.wb_operations.specs.Operations.{OperationSignature}
 use Rattle.wb_syntax_resolved.specs.declared.resolved.ResolvedParts.{ResolvedParts}
 use Rattle.wb_world.specs.Shelf.{Files}
 use Rattle.wb_program_files.specs.Checks.{Report, Ends, Check}

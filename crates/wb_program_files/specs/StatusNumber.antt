@@ -2,13 +2,10 @@
 use Rattle.std.specs.Prelude.{ℕ}
 use Rattle.wb_program_files.specs.declared.status.Status.{Status}
 use Rattle.wb_program_files.specs.declared.status.Status.TheVariants.{Done, Usage, SpecRefused, OperationFault, MoreSteps, TermRefused}
-use Rattle.wb_program_files.specs.declared.status.Status.TheVariants.{NoSentence}
-use Rattle.wb_program_files.specs.declared.status.Status.TheVariants.{CertificateRefused}
-use Rattle.wb_program_files.specs.declared.status.Status.TheVariants.{EditRefused}
+use Rattle.wb_program_files.specs.declared.status.Status.TheVariants.{NoSentence, CertificateRefused, EditRefused}
 use Rattle.wb_program_files.specs.declared.status.Status.TheVariants.{NotCertified, TextStopped, TextTooLong, TooLongToPrint, WrongHost}
 use Rattle.wb_program_files.specs.declared.status.Status.TheVariants.{TooManyExtensions, DuplicateExtension, UnknownAttribute, Absent}
-use Rattle.wb_program_files.specs.declared.status.Status.TheVariants.{ReadFault}
-use Rattle.wb_program_files.specs.declared.status.Status.TheVariants.{WriteFault, NoMemory}
+use Rattle.wb_program_files.specs.declared.status.Status.TheVariants.{ReadFault, WriteFault, NoMemory}
 
 -- the number that a process with this status ends with
 abbrev pub number_of : Status → ℕ

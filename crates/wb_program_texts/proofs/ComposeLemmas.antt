@@ -7,20 +7,17 @@ use Rattle.wb_syntax_resolved.specs.declared.resolved.ResolvedParts.{ResolvedPar
 use Rattle.wb_world.specs.Shelf.{Files}
 use Rattle.wb_compose_texts.specs.Unions.{all_resolved}
 use Rattle.wb_program_files.specs.Checks.{Report}
-use Rattle.wb_program_texts.specs.Composable.{AreRead, RefusesAny}
-use Rattle.wb_program_texts.specs.Composable.{AreApart}
-use Rattle.wb_program_files.specs.Files.{KnownAbsent, KnownFile}
+use Rattle.wb_program_texts.specs.Composable.{AreRead, RefusesAny, AreApart}
+use Rattle.wb_program_files.specs.Files.{KnownFile}
 use Rattle.wb_program_texts.specs.Inner.Several.{AreWith}
-use Rattle.wb_program_files.specs.Stops.{IsMissing, IsFaulty}
 use Rattle.wb_program_texts.specs.SeveralStops.{StopsComposed, StopsEach, StopsThen}
 use Rattle.wb_program_texts.specs.SeveralChecks.{AreEach, EachChecks, IsNext, SeveralChecks}
 use Rattle.wb_program_files.specs.HostChecks.{IsHostFile, RefusesHost}
 use Rattle.wb_program_files.specs.Stopped.{Outside, Stopped, GoesOn}
 use Rattle.wb_program_texts.specs.declared.composable.Composable.{Composable}
 use Rattle.wb_program_files.specs.declared.files.ReadFailure.{ReadFailure}
-use Rattle.wb_program_files.specs.declared.files.ReadFailure.TheVariants.{Absent, ReadFault, NoMemory}
 use Rattle.wb_program_files.specs.declared.status.Status.{Status}
-use Rattle.wb_program_files.proofs.StopLemmas.{rose_since, weaker_stop}
+use Rattle.wb_program_files.proofs.StopLemmas.{reason_since, weaker_stop}
 use Rattle.wb_program_files.proofs.FileLemmas.{refused_checks}
 
 -- a file that is no certified host has the report of its refusal

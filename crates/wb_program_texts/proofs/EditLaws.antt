@@ -2,7 +2,7 @@
 use Rattle.std.proofs.Common.{◌≡◌, ◌<◌, ◌≤◌, inl, inr, ℕ, List, Option, Some, length, arith, sym, ap, ◌∙◌, subst}
 use Rattle.wb_compose_texts.specs.declared.edits_answer.EditsAnswer.{EditsAnswer}
 use Rattle.wb_compose_texts.specs.declared.edits_answer.EditsAnswer.TheVariants as edits
-use Rattle.wb_operations.specs.Operations.{OperationSignature, Operations}
+use Rattle.wb_operations.specs.Operations.{OperationSignature}
 use Rattle.wb_report.specs.declared.edits_reason.EditsReason.TheVariants as u
 use Rattle.wb_session_edits.specs.Edits.{IsList, IsListOf}
 use Rattle.wb_session_edits.specs.declared.edit.Edit.{Edit}

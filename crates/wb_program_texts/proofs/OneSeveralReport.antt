@@ -16,8 +16,7 @@ use Rattle.wb_world.specs.Shelf.{Files}
 use Rattle.wb_program_files.specs.Checks.{Report}
 use Rattle.wb_program_files.specs.Files.{FileIs}
 use Rattle.wb_program_texts.specs.SeveralChecks.{AreEach, EachChecks, HasName, HasTakenName, IsLaterRefusal, IsNextText, RefusesEach}
-use Rattle.wb_program_texts.specs.SeveralChecks.{RefusesNext}
-use Rattle.wb_program_texts.specs.SeveralChecks.{SeveralChecks, names_of}
+use Rattle.wb_program_texts.specs.SeveralChecks.{RefusesNext, SeveralChecks, names_of}
 use Rattle.wb_program_files.specs.declared.status.Status.{Status}
 use Rattle.wb_program_files.specs.declared.status.Status.TheVariants.{SpecRefused, NotCertified, DuplicateExtension, WrongHost}
 use Rattle.wb_program_files.proofs.OneCheck.{on_file}

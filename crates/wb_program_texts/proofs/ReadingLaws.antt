@@ -2,7 +2,7 @@
 use Rattle.std.proofs.Common.{◌≡◌, ℕ, List, Option, Some, sym, ◌∙◌, subst}
 use Rattle.wb_compose_texts.specs.declared.text_reading.TextReading.{TextReading}
 use Rattle.wb_compose_texts.specs.declared.text_reading.TextReading.TheVariants as reading
-use Rattle.wb_operations.specs.Operations.{OperationSignature, Operations}
+use Rattle.wb_operations.specs.Operations.{OperationSignature}
 use Rattle.wb_syntax_resolved.specs.declared.resolved.ResolvedParts.{ResolvedParts}
 use Rattle.wb_world.specs.Shelf.{Files}
 use Rattle.wb_program_files.specs.Checks.{Check}

@@ -17,8 +17,7 @@ use Rattle.wb_program.specs.Files.{FileIs}
 use Rattle.wb_program.specs.HostChecks.{CertifiedChecks}
 use Rattle.wb_program.specs.SeveralChecks.{EachChecks, IsLaterRefusal, IsNextText, RefusesEach, RefusesNext, SeveralChecks}
 use Rattle.wb_program.specs.status.Status.{Status}
-use Rattle.wb_program.specs.status.Status.TheVariants.{Done, DuplicateExtension, NotCertified, SpecRefused}
-use Rattle.wb_program.specs.status.Status.TheVariants.{TooManyExtensions, WrongHost}
+use Rattle.wb_program.specs.status.Status.TheVariants.{Done, DuplicateExtension, NotCertified, SpecRefused, TooManyExtensions, WrongHost}
 use Rattle.wb_program.specs.Commands.Certify.{CertifyReport, ExtensionsReport}
 use Rattle.wb_program_theory.specs.Codes.{IsCodeStatus, ShowOneCode}
 use Rattle.wb_program_theory.proofs.AlikeLemmas.{IsTold, told_alike}

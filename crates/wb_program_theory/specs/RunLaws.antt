@@ -4,8 +4,7 @@ use Rattle.wb_operations.specs.Operations.{Operations}
 use Rattle.wb_compose_theory_order.specs.Orders.{IsReordering}
 use Rattle.wb_world.specs.Shelf.{Files}
 use Rattle.wb_program.specs.status.Status.{Status}
-use Rattle.wb_program.specs.status.Status.TheVariants.{Done, MoreSteps, OperationFault, TextStopped, TextTooLong}
-use Rattle.wb_program.specs.status.Status.TheVariants.{TooLongToPrint}
+use Rattle.wb_program.specs.status.Status.TheVariants.{Done, MoreSteps, OperationFault, TextStopped, TextTooLong, TooLongToPrint}
 use Rattle.wb_program.specs.status.Status.TheVariants.{UnknownAttribute}
 use Rattle.wb_program.specs.Commands.Run.{RunReport}
 

@@ -9,8 +9,7 @@ use Rattle.wb_program_texts.specs.files.ReadFailure.TheVariants.{NoMemory}
 use Rattle.wb_program_texts.proofs.StopLemmas.{goes_on_here, on_err}
 use Rattle.wb_program.specs.Commands.{ReadsTo}
 use Rattle.wb_program.specs.Report.{InCommandSet}
-use Rattle.wb_program_texts.proofs.MakesLemmas.{answered, exhausted}
-use Rattle.wb_program_texts.proofs.MakesLemmas.{made_so}
+use Rattle.wb_program_texts.proofs.MakesLemmas.{answered, exhausted, made_so}
 use Rattle.wb_program.proofs.AnswerLemmas.{replies, replies_usage}
 use Rattle.wb_program.proofs.CauseLemmas.{comes_to, stopped_asked}
 use Rattle.wb_program.proofs.program.answer.Goals as goal

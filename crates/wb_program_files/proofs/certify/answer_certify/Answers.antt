@@ -11,7 +11,8 @@ use Rattle.wb_program_files.proofs.StopLemmas.{err_of, goes_on_here, some_certif
 use Rattle.wb_program_files.proofs.WordLemmas.{few_texts}
 use Rattle.wb_program_files.specs.Commands.Certify.{ExtensionsReport}
 use Rattle.wb_program_files.proofs.MakesLemmas.{answered, exhausted, handed, made_since}
-use Rattle.wb_program_files.proofs.ExtensionLemmas.{certify_certified, certify_refused, certify_too_many, certify_stops_first, stops_at_since}
+use Rattle.wb_program_files.proofs.ExtensionLemmas.{certify_certified, certify_refused, certify_too_many, certify_stops_first}
+use Rattle.wb_program_files.proofs.ExtensionLemmas.{stops_at_since}
 use Rattle.wb_program_files.proofs.certify.answer_certify.Goals as goal
 
 pub returns-then-extensions-gt-MOST_EXTENSIONS : goal.returns-then-extensions-gt-MOST_EXTENSIONS

@@ -3,10 +3,9 @@ use Rattle.std.proofs.Common.{ℕ, List, Option, ◌⊎◌, inl, inr, subst}
 use Rattle.wb_world.specs.Shelf.{Files}
 use Rattle.wb_program_files.specs.Contents.{ContentsAre}
 use Rattle.wb_program_files.specs.Stopped.{Outside, outside}
-use Rattle.wb_program_files.proofs.StopLemmas.{reason_since}
+use Rattle.wb_program_files.proofs.StopLemmas.{reason_since, goes_on_twice, weaker_stop}
 use Rattle.wb_program_files.proofs.MakesLemmas.{answered, exhausted, handed}
 use Rattle.wb_program_files.proofs.PairLemmas.{paired_read}
-use Rattle.wb_program_files.proofs.StopLemmas.{goes_on_twice, weaker_stop}
 use Rattle.wb_program_files.proofs.pairs.read_pair.Goals as goal
 
 pub returns-in_err-contents : goal.returns-in_err-contents
