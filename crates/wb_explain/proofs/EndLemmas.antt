@@ -6,8 +6,8 @@ use Rattle.wb_explain_lines.specs.Page.{PageView}
 use Rattle.wb_explain_lines.specs.Written.{WrotePart}
 use Rattle.std.specs.Prelude.{OnOk}
 use Rattle.wb_program.specs.Written.{Wrote, WrotePrefix}
-use Rattle.wb_program.specs.declared.status.Status.{Status}
-use Rattle.wb_program.specs.declared.status.Status.TheVariants.{Done, Absent, ReadFault, WriteFault, NoMemory}
+use Rattle.wb_program.specs.status.Status.{Status}
+use Rattle.wb_program.specs.status.Status.TheVariants.{Done, Absent, ReadFault, WriteFault, NoMemory}
 use Rattle.wb_explain.specs.Explained.{AreLines, BeginsWith, Explained, IsExplained}
 use Rattle.wb_explain.specs.Inner.Ends.{Adds, Ends, shown_as}
 use Rattle.wb_explain_shown.specs.Asking.{AsksTree}

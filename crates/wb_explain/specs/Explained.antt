@@ -5,8 +5,8 @@ use Rattle.wb_world.specs.Cause.{NeverFalls}
 use Rattle.wb_explain_shown.specs.Asking.{AsksTree}
 use Rattle.wb_explain_shown.specs.Pictures.{AddsPicture}
 use Rattle.wb_program.specs.Written.{WrotePrefix}
-use Rattle.wb_program.specs.declared.status.Status.{Status}
-use Rattle.wb_program.specs.declared.status.Status.TheVariants.{Done, Absent, ReadFault, WriteFault, NoMemory}
+use Rattle.wb_program.specs.status.Status.{Status}
+use Rattle.wb_program.specs.status.Status.TheVariants.{Done, Absent, ReadFault, WriteFault, NoMemory}
 
 -- this holds of counts that were there in this run, and have not fallen since
 abbrev pub Since : ((List ℕ → ℕ) → Type 0) → (List ℕ → ℕ) → Type 0

@@ -12,7 +12,7 @@ ghost use Rattle.wb_explain_lines.specs.Outside.{outside, Keeps};
 ghost use Rattle.wb_explain_shown.specs.Pictures.{AddsPicture};
 ghost use Rattle.wb_explain.specs.Explained.{BeginsWith, Explained, ShowsAfter, ShowsInstead, Since};
 ghost use Rattle.wb_explain.specs.Inner.Ends.{Adds, Ends, shown_as};
-ghost use Rattle.wb_program.specs.declared.status.Status.{Status};
+ghost use Rattle.wb_program.specs.status.Status.{Status};
 
 use std::alloc::{AllocError, Global};
 use wb_explain_contents::further;

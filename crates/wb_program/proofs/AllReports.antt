@@ -1,32 +1,16 @@
 -- The report of what is asked has the laws of a report, whatever is asked.
 mod CertificateLaws
-mod CertifyLaws
-mod CheckLaws
 mod ComposeLaws
-mod EditLaws
-mod GenerateLaws
-mod ReadingLaws
-mod RecheckLaws
-mod RunLaws
-mod ShowLaws
-mod TreeLaws
-mod ValueLaws
+mod FileLaws
+mod TextLaws
 use Rattle.wb_operations.specs.Operations.{Operations}
 use Rattle.wb_program_words.specs.Asked.{Asked}
 use Rattle.wb_program_words.specs.Asked as a
 use Rattle.wb_program.proofs.AllReports.CertificateLaws.{certificate_laws}
-use Rattle.wb_program.proofs.AllReports.CertifyLaws.{certify_laws}
-use Rattle.wb_program.proofs.AllReports.CheckLaws.{check_laws}
 use Rattle.wb_program.proofs.AllReports.ComposeLaws.{compose_laws}
-use Rattle.wb_program.proofs.AllReports.EditLaws.{edit_laws}
-use Rattle.wb_program.proofs.AllReports.GenerateLaws.{generate_laws}
-use Rattle.wb_program.proofs.AllReports.ReadingLaws.{reading_laws}
+use Rattle.wb_program.proofs.AllReports.FileLaws.{certify_laws, check_laws, recheck_laws, show_laws, value_laws}
+use Rattle.wb_program.proofs.AllReports.TextLaws.{edit_laws, generate_laws, reading_laws, run_laws, tree_laws}
 use Rattle.wb_program.proofs.ReportLaws.{HasLaws}
-use Rattle.wb_program.proofs.AllReports.RecheckLaws.{recheck_laws}
-use Rattle.wb_program.proofs.AllReports.RunLaws.{run_laws}
-use Rattle.wb_program.proofs.AllReports.ShowLaws.{show_laws}
-use Rattle.wb_program.proofs.AllReports.TreeLaws.{tree_laws}
-use Rattle.wb_program.proofs.AllReports.ValueLaws.{value_laws}
 
 pub has_laws : (operations : Operations) (asked : Asked) → HasLaws operations asked
 has_laws operations (a.value host term attribute) = value_laws operations host term attribute

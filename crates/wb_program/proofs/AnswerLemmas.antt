@@ -1,9 +1,9 @@
 -- What a command is answered is the report of the words that ask for it.
 use Rattle.std.proofs.Common.{◌≡◌, inl, inr, ℕ, List, Option}
-use Rattle.wb_program.specs.declared.answer.Answer.{Answer}
-use Rattle.wb_program.specs.declared.status.Status.{Status}
-use Rattle.wb_program.specs.declared.status.Status.TheVariants.{Absent, NoMemory, ReadFault, Usage, WriteFault}
-use Rattle.wb_program.proofs.WrittenWhole.{IsReported, differs}
+use Rattle.wb_program_texts.specs.answer.Answer.{Answer}
+use Rattle.wb_program_texts.specs.status.Status.{Status}
+use Rattle.wb_program_texts.specs.status.Status.TheVariants.{Absent, NoMemory, ReadFault, Usage, WriteFault}
+use Rattle.wb_program_texts.proofs.WrittenWhole.{IsReported, differs}
 use Rattle.wb_operations.specs.Operations.{Operations}
 use Rattle.wb_program_words.specs.Usage.{usage_line}
 use Rattle.wb_program_words.specs.Asked.{Asked}

@@ -4,14 +4,14 @@ use Rattle.wb_world.specs.Shelf.{Files}
 use Rattle.wb_operations.specs.Operations.{OperationSignature}
 use Rattle.wb_program_words.specs.Asked.{Asked}
 use Rattle.wb_program_words.specs.Words.{Asks}
-use Rattle.wb_program.specs.Stops.{IsMissing, IsFaulty}
-use Rattle.wb_program.specs.Inner.Stopped.{Outside, Stopped}
-use Rattle.wb_program.specs.declared.files.ReadFailure.{ReadFailure}
-use Rattle.wb_program.specs.declared.files.ReadFailure.TheVariants.{Absent, ReadFault, NoMemory}
+use Rattle.wb_program_texts.specs.Stops.{IsMissing, IsFaulty}
+use Rattle.wb_program_texts.specs.Stopped.{Outside, Stopped}
+use Rattle.wb_program_texts.specs.files.ReadFailure.{ReadFailure}
+use Rattle.wb_program_texts.specs.files.ReadFailure.TheVariants.{Absent, ReadFault, NoMemory}
 use Rattle.wb_program.specs.Commands.{ReadsTo}
 use Rattle.wb_program.specs.Reads.{ComesTo}
 use Rattle.wb_program.specs.Report.{InCommandSet}
-use Rattle.wb_program.proofs.StopLemmas.{weaker_stop}
+use Rattle.wb_program_texts.proofs.StopLemmas.{weaker_stop}
 
 -- a run of a command that the words ask for stops at a file that they name
 pub comes_to : (operations : List OperationSignature) (before now : Outside) (words : List (List ℕ)) (asked : Asked)

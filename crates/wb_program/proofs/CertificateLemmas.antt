@@ -1,12 +1,12 @@
 -- What is reported of a certificate is the certificate, or that it is too long to print.
 use Rattle.std.proofs.Common.{◌≡◌, ◌<◌, ◌≤◌, inl, inr, ℕ, List, [], ◌∷◌, Option, Some, None, arith, get_or, length, sym, subst}
-use Rattle.wb_certify_files.specs.Kept.{ExtensionView}
-use Rattle.wb_compose_texts.specs.Unions.{all_resolved}
-use Rattle.wb_certify_files.specs.CertificateTexts.{IsExtensionCertificate, IsHostCertificate}
+use Rattle.wb_program_texts.specs.Kept.{ExtensionView}
+use Rattle.wb_program_texts.specs.Unions.{all_resolved}
+use Rattle.wb_program_texts.specs.CertificateTexts.{IsExtensionCertificate, IsHostCertificate}
 use Rattle.wb_syntax_resolved.specs.declared.resolved.ResolvedParts.{ResolvedParts}
 use Rattle.wb_program.specs.Commands.Certificate.{CertificateChecks, IsCertificateOf}
 use Rattle.wb_program.specs.Inner.Certificates.{IsTextOrTooLong, ShownCertificate}
-use Rattle.wb_program.specs.declared.status.Status.{Status}
+use Rattle.wb_program_texts.specs.status.Status.{Status}
 
 -- where there is no extension it is the host's
 pub of_host : (host : ResolvedParts) (extensions : List ExtensionView) (made : Option (List ℕ)) → length extensions < 1

@@ -1,30 +1,13 @@
 mod AllReports
 mod AnswerLemmas
 mod Answering
-mod AttributeLemmas
 mod CauseLemmas
 mod CertificateLemmas
-pub mod ComposeLemmas
-pub mod Excludes
-mod EditLemmas
-mod ExtensionLemmas
-pub mod FileLemmas
-mod HostLemmas
 mod Known
-pub mod MakesLemmas
-pub mod OneCertificate
-pub mod OneCheck
-pub mod OneHostChecks
 pub mod OneReport
-pub mod OneSeveralReport
-mod PairLemmas
-mod Pieces
-mod RecheckLemmas
 mod ReportLaws
-mod SeveralLemmas
-mod ShowLemmas
 pub mod ShownAgain
-mod SourceLemmas
-pub mod StopLemmas
-pub mod WordLemmas
-pub mod WrittenWhole
+-- lemmas of `wb_program_files` and `wb_program_texts` that callers speak of
+pub use Rattle.wb_program_texts.proofs.Excludes
+pub use Rattle.wb_program_texts.proofs.OneCheck
+pub use Rattle.wb_program_texts.proofs.OneSeveralReport

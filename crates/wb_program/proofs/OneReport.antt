@@ -8,9 +8,9 @@ use Rattle.wb_program_words.specs.Words.{Asks}
 use Rattle.wb_program.specs.Laws.{HasOneRefusal, HaveOneStatus, HaveOneText, EndAsReported, ShowsKernel}
 use Rattle.wb_program.specs.Commands.{IsReportOf}
 use Rattle.wb_program.specs.Report.{InCommandSet, IsAnswered, IsReport}
-use Rattle.wb_program.specs.Inner.Below.{LawsBelow}
-use Rattle.wb_program.specs.declared.status.Status.{Status}
-use Rattle.wb_program.specs.declared.status.Status.TheVariants.{SpecRefused, NotCertified}
+use Rattle.wb_program_texts.specs.Below.{LawsBelow}
+use Rattle.wb_program_texts.specs.status.Status.{Status}
+use Rattle.wb_program_texts.specs.status.Status.TheVariants.{SpecRefused, NotCertified}
 use Rattle.wb_program.proofs.AllReports.{has_laws}
 use Rattle.wb_program.proofs.ReportLaws.{AreOneOf}
 

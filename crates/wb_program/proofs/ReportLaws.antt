@@ -6,12 +6,12 @@ use Rattle.wb_program_words.specs.Asked.{Asked}
 use Rattle.wb_program_words.specs.Asked as a
 use Rattle.wb_program.specs.Laws.{HasOneRefusal, ShowsKernel, show_refuses}
 use Rattle.wb_program.specs.Commands.{IsReportOf}
-use Rattle.wb_program.specs.Inner.Below.{LawsBelow}
-use Rattle.wb_program.specs.declared.status.Status.{Status}
-use Rattle.wb_program.specs.declared.status.Status.TheVariants.{SpecRefused, NotCertified}
-use Rattle.wb_program.proofs.OneCheck.{AreOne}
-use Rattle.wb_program.proofs.OneHostChecks.{AreAlike}
-use Rattle.wb_program.proofs.WrittenWhole.{IsReported}
+use Rattle.wb_program_texts.specs.Below.{LawsBelow}
+use Rattle.wb_program_texts.specs.status.Status.{Status}
+use Rattle.wb_program_texts.specs.status.Status.TheVariants.{SpecRefused, NotCertified}
+use Rattle.wb_program_texts.proofs.OneCheck.{AreOne}
+use Rattle.wb_program_texts.proofs.OneHostChecks.{AreAlike}
+use Rattle.wb_program_texts.proofs.WrittenWhole.{IsReported}
 
 -- two reports: one status, and one text unless they are a refusal that may choose its example
 abbrev pub AreOneOf : Asked → Status → Status → List ℕ → List ℕ → Type 0

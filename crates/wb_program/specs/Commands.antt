@@ -1,37 +1,37 @@
 -- What each command reports, and which files it comes to read.
--- The report of each is in a file of its own.
-pub mod Show
-pub mod Check
-pub mod Certify
+-- The report of each is in a file of its own, here or in a crate below.
 pub mod Compose
-pub mod Tree
-pub mod Reading
-pub mod Value
-pub mod Run
-pub mod Generate
 pub mod Certificate
-pub mod Recheck
-pub mod Edit
+pub use Rattle.wb_program_texts.specs.Commands.Show
+pub use Rattle.wb_program_texts.specs.Commands.Check
+pub use Rattle.wb_program_texts.specs.Commands.Certify
+pub use Rattle.wb_program_texts.specs.Commands.Tree
+pub use Rattle.wb_program_texts.specs.Commands.Reading
+pub use Rattle.wb_program_texts.specs.Commands.Value
+pub use Rattle.wb_program_texts.specs.Commands.Run
+pub use Rattle.wb_program_texts.specs.Commands.Generate
+pub use Rattle.wb_program_texts.specs.Commands.Recheck
+pub use Rattle.wb_program_texts.specs.Commands.Edit
 use Rattle.std.specs.Prelude.{◌≤◌, ℕ, Option, List, [], ◌∷◌, length, map}
 use Rattle.wb_operations.specs.Operations.{Operations, OperationSignature}
 use Rattle.wb_program_words.specs.Asked.{Asked}
 use Rattle.wb_program_words.specs.Asked as a
 use Rattle.wb_world.specs.Shelf.{Files}
 use Rattle.wb_program.specs.Commands.Certificate.{CertificateReport}
-use Rattle.wb_program.specs.Commands.Certify.{CertifyReport}
-use Rattle.wb_program.specs.Commands.Check.{CheckReport}
+use Rattle.wb_program_texts.specs.Commands.Certify.{CertifyReport}
+use Rattle.wb_program_texts.specs.Commands.Check.{CheckReport}
 use Rattle.wb_program.specs.Commands.Compose.{ComposeReport}
-use Rattle.wb_program.specs.Commands.Edit.{EditReport, EditStops}
-use Rattle.wb_program.specs.Commands.Generate.{GenerateReport}
-use Rattle.wb_program.specs.Commands.Reading.{ReadingReport}
-use Rattle.wb_program.specs.Commands.Recheck.{RecheckReport, rechecked_reads}
-use Rattle.wb_program.specs.Commands.Run.{RunReport, RunStops}
-use Rattle.wb_program.specs.Commands.Show.{ShowReport}
-use Rattle.wb_program.specs.Stops.{certified_extension, certified_host, specification, well_defined_host, written_term}
-use Rattle.wb_program.specs.Stops.{StopsAt, StopsComposed}
-use Rattle.wb_program.specs.Commands.Tree.{TreeReport}
-use Rattle.wb_program.specs.Commands.Value.{ValueReport}
-use Rattle.wb_program.specs.declared.status.Status.{Status}
+use Rattle.wb_program_texts.specs.Commands.Edit.{EditReport, EditStops}
+use Rattle.wb_program_texts.specs.Commands.Generate.{GenerateReport}
+use Rattle.wb_program_texts.specs.Commands.Reading.{ReadingReport}
+use Rattle.wb_program_texts.specs.Commands.Recheck.{RecheckReport, rechecked_reads}
+use Rattle.wb_program_texts.specs.Commands.Run.{RunReport, RunStops}
+use Rattle.wb_program_texts.specs.Commands.Show.{ShowReport}
+use Rattle.wb_program_texts.specs.Stops.{certified_extension, certified_host, specification, well_defined_host, written_term, StopsAt}
+use Rattle.wb_program_texts.specs.SeveralStops.{StopsComposed}
+use Rattle.wb_program_texts.specs.Commands.Tree.{TreeReport}
+use Rattle.wb_program_texts.specs.Commands.Value.{ValueReport}
+use Rattle.wb_program_texts.specs.status.Status.{Status}
 
 -- the report of what is asked
 abbrev pub IsReportOf : Operations → Option Files → Status → List ℕ → Asked → Type 0

@@ -5,25 +5,15 @@ use Rattle.wb_operations.specs.Operations.{Operations}
 use Rattle.wb_program_words.specs.Asked.{Asked}
 use Rattle.wb_program_words.specs.Asked as a
 use Rattle.wb_program_words.specs.Words.{Asks}
-use Rattle.wb_program.specs.declared.status.Status.{Status}
-use Rattle.wb_report.specs.Lines.{report_of}
-use Rattle.wb_report.specs.declared.certificate_reason.CertificateReason.TheVariants as q
-use Rattle.wb_report.specs.declared.outcome.Outcome.TheVariants as o
-use Rattle.wb_report.specs.declared.refusal.Refusal.TheVariants as r
-use Rattle.wb_program.specs.declared.status.Status.TheVariants.{CertificateRefused, SpecRefused, NotCertified, WriteFault}
+use Rattle.wb_program_texts.specs.status.Status.{Status}
+use Rattle.wb_program_texts.specs.status.Status.TheVariants.{SpecRefused, NotCertified, WriteFault}
+pub use Rattle.wb_program_texts.specs.CertificateChecks.{ShowsKernel}
 use Rattle.wb_program.specs.Report.{IsReport}
 use Rattle.wb_program.specs.Written.{Wrote, WritesNothing}
 
 -- each refusal of the command has one text; the others may show any true example
 pub data HasOneRefusal : Asked → Type 0 where
   show_refuses : {file : List ℕ} → HasOneRefusal (a.show file)
-
--- the report shows one kernel of those of which a certificate lacks something
-pub record ShowsKernel (status : Status) (bytes : List ℕ) : Type 0 where
-  pub refused : status ≡ CertificateRefused
-  pub file : List ℕ
-  pub kernel : ℕ
-  pub line : bytes ≡ report_of (o.Refused file (r.Certificate (q.Missing kernel)))
 
 -- words and known files have one status at most
 abbrev pub HaveOneStatus : Type 0

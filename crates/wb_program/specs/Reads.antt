@@ -5,7 +5,7 @@ use Rattle.wb_operations.specs.Operations.{OperationSignature}
 use Rattle.wb_program_words.specs.Asked.{Asked}
 use Rattle.wb_program_words.specs.Words.{Asks}
 use Rattle.wb_program.specs.Commands.{ReadsTo}
-use Rattle.wb_program.specs.Stops.{IsMissing, IsFaulty}
+use Rattle.wb_program_texts.specs.Stops.{IsMissing, IsFaulty}
 
 -- the words ask for a command that comes to read a file that meets this
 pub record ComesTo (operations : List OperationSignature) (words : List (List ℕ)) (known : Option Files) (P : List ℕ → Type 0)

@@ -6,8 +6,8 @@ use Rattle.wb_program_words.specs.Asked.{Asked}
 use Rattle.wb_program_words.specs.Usage.{usage_line}
 use Rattle.wb_program_words.specs.Words.{Asks}
 use Rattle.wb_program.specs.Commands.{IsReportOf}
-use Rattle.wb_program.specs.declared.status.Status.{Status}
-use Rattle.wb_program.specs.declared.status.Status.TheVariants.{Usage}
+use Rattle.wb_program_texts.specs.status.Status.{Status}
+use Rattle.wb_program_texts.specs.status.Status.TheVariants.{Usage}
 
 -- the words ask for a command
 pub record InCommandSet (words : List (List ℕ)) : Type 0 where

@@ -1,8 +1,8 @@
 -- What a run writes.
 use Rattle.std.specs.Prelude.{◌≡◌, ◌<◌, ◌⊎◌, ℕ, Option, List, length, take}
 use Rattle.std.specs.Io.KnownBytes.{append_known}
-use Rattle.wb_program.specs.declared.status.Status.{Status}
-use Rattle.wb_program.specs.declared.status.Status.TheVariants.{Absent, ReadFault, WriteFault, NoMemory}
+use Rattle.wb_program_texts.specs.status.Status.{Status}
+use Rattle.wb_program_texts.specs.status.Status.TheVariants.{Absent, ReadFault, WriteFault, NoMemory}
 
 -- the first bytes of a report were written, and not all
 pub record WrotePrefix (before now : Option (List ℕ)) (report : List ℕ) : Type 0 where

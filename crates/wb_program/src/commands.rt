@@ -1,41 +1,26 @@
 //! What is the answer to a command?
 //!
-//! Each command has a file for its answer, but those that are asked of a text alone share `texts`, and those that ask for an attribute at the
-//! root of a text share `source`.
+//! What stands alone in a file is answered in `wb_program_files`, a text in `wb_program_texts`, and a host with its extensions as a whole here.
 
 ghost use Rattle.wb_operations.specs.Kept.{IsKept};
 ghost use Rattle.wb_program_words.specs.Asked.{asked_by};
 ghost use Rattle.wb_program_words.specs.Laws.{HasFewLeaves};
-ghost use Rattle.wb_program.specs.Inner.Stopped.{outside};
-ghost use Rattle.wb_program.specs.Inner.Makes.{Answers};
-ghost use Rattle.wb_program.specs.Inner.OfTexts.{IsOnText};
+ghost use Rattle.wb_program_texts.specs.Stopped.{outside};
+ghost use Rattle.wb_program_texts.specs.Makes.{Answers};
+ghost use Rattle.wb_program.specs.Inner.OnTexts.{IsOnText};
 ghost use Rattle.wb_program.specs.Commands.{IsReportOf, ReadsTo};
 
 mod certificate;
-mod certify;
-mod check;
 mod compose;
-mod edit;
-pub(crate) mod reading;
-mod recheck;
-mod show;
-pub(crate) mod tree;
-mod value;
 
-use crate::answer::Answer;
-use crate::files::ReadFailure;
-use crate::source::{Source, answer_source};
-use crate::texts::{OfText, answer_of_text};
 use certificate::answer_certificate;
-use certify::answer_certify;
-use check::answer_check;
 use compose::answer_compose;
-use edit::answer_edit;
-use recheck::answer_recheck;
-use show::answer_show;
 use std::alloc::Global;
-use value::answer_value;
 use wb_operations::{Meaning, OperationRefusal, OperationTable};
+use wb_program_texts::{
+    Answer, ReadFailure, answer_certify, answer_check, answer_edit, answer_generate,
+    answer_reading, answer_recheck, answer_run, answer_show, answer_tree, answer_value,
+};
 use wb_program_words::Command;
 use wb_values::Value;
 use wb_world::Shelf;
@@ -102,34 +87,25 @@ fn answer_on_text<S: Shelf, M: Meaning>(
             text,
             host,
             extensions,
-        } => {
-            let asked = OfText::Tree;
-            answer_of_text(alloc, shelf, asked, text, host, extensions, operations)
-        }
+        } => answer_tree(alloc, shelf, text, host, extensions, operations),
         Command::Run {
             text,
             attribute,
             steps,
             host,
             extensions,
-        } => {
-            let source = Source::File { file: text, steps };
-            answer_source(
-                alloc, shelf, source, attribute, host, extensions, operations,
-            )
-        }
+        } => answer_run(
+            alloc, shelf, text, attribute, steps, host, extensions, operations,
+        ),
         Command::Generate {
             number,
             size,
             attribute,
             host,
             extensions,
-        } => {
-            let source = Source::Number { number, size };
-            answer_source(
-                alloc, shelf, source, attribute, host, extensions, operations,
-            )
-        }
+        } => answer_generate(
+            alloc, shelf, number, size, attribute, host, extensions, operations,
+        ),
         Command::Edit {
             text,
             edits,
@@ -140,10 +116,7 @@ fn answer_on_text<S: Shelf, M: Meaning>(
             text,
             host,
             extensions,
-        } => {
-            let asked = OfText::Reading;
-            answer_of_text(alloc, shelf, asked, text, host, extensions, operations)
-        }
+        } => answer_reading(alloc, shelf, text, host, extensions, operations),
         _ => unreachable!(),
     }
 }

@@ -2,15 +2,10 @@
 //!
 //! The contract of `workbench` says that what is written is a report; these say that there is one at most. There is nothing to run.
 
-ghost use Rattle.wb_program.specs.Inner.Below.{LawsBelow};
 ghost use Rattle.wb_program.specs.Laws.{EndAsReported, HaveOneStatus, HaveOneText};
 ghost use Rattle.wb_program.specs.ShownAgain.{IsStable};
 
-use wb_compose_texts::edit_laws::one_edits_law;
-use wb_compose_texts::reading_laws::one_reading_law;
-use wb_compose_texts::tree_laws::{one_answer_law, withdrawn_law};
-use wb_compose_texts::value_laws::{one_root_law, one_value_law};
-use wb_session_edits::laws::list_law;
+use wb_program_texts::laws_below;
 
 /// Words and files have at most one status that is reported.
 pub fn one_status_law()
@@ -39,22 +34,3 @@ pub fn complete_law()
 pub fn shown_again_law()
     ensures { IsStable }
 {}
-
-// What is found of files, of unions and of their texts is one thing.
-fn laws_below()
-    ensures { LawsBelow }
-{
-    wb_certify_files::one_extension_answer_law();
-    wb_certify_files::header_law();
-    withdrawn_law();
-    one_answer_law();
-    list_law();
-    one_edits_law();
-    one_reading_law();
-    one_root_law();
-    one_value_law();
-    wb_compose_texts::generated_laws::one_text_law();
-    wb_certify_files::one_text_law();
-    wb_certify_files::one_rechecked_host_law();
-    wb_certify_files::one_rechecked_extension_law();
-}

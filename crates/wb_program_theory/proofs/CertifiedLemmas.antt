@@ -21,8 +21,8 @@ use Rattle.wb_world.specs.Shelf.{Files}
 use Rattle.wb_program.specs.Checks.{Report}
 use Rattle.wb_program.specs.Files.{KnownFile}
 use Rattle.wb_program.specs.SeveralChecks.{AreEach, EachChecks, SeveralChecks}
-use Rattle.wb_program.specs.declared.status.Status.{Status}
-use Rattle.wb_program.specs.Inner.Below.{ExcludesExtensions, ExcludesHeaders}
+use Rattle.wb_program.specs.status.Status.{Status}
+use Rattle.wb_program.specs.Excludes.{ExcludesExtensions, ExcludesHeaders}
 use Rattle.wb_program.proofs.Excludes.{not_few}
 use Rattle.wb_program.proofs.OneCheck.{on_file}
 use Rattle.wb_program.proofs.OneSeveralReport.{one_values, refused_or_all}

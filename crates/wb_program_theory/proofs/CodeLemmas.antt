@@ -10,10 +10,10 @@ use Rattle.wb_report.specs.Lines.{report_of}
 use Rattle.wb_report.specs.declared.done.Done.TheVariants as done
 use Rattle.wb_report.specs.declared.outcome.Outcome.TheVariants as o
 use Rattle.wb_world.specs.Shelf.{Files}
-use Rattle.wb_program.specs.Inner.Below.{ExcludesExtensions, ExcludesHeaders}
+use Rattle.wb_program.specs.Excludes.{ExcludesExtensions, ExcludesHeaders}
 use Rattle.wb_program.specs.Checks.{Ends}
-use Rattle.wb_program.specs.declared.status.Status.{Status}
-use Rattle.wb_program.specs.declared.status.Status.TheVariants as st
+use Rattle.wb_program.specs.status.Status.{Status}
+use Rattle.wb_program.specs.status.Status.TheVariants as st
 use Rattle.wb_program.specs.Commands.Certificate.{CertificateChecks}
 use Rattle.wb_program.specs.Commands.Generate.{GenerateChecks}
 use Rattle.wb_program.specs.Commands.Run.{RunChecks}

@@ -8,9 +8,9 @@ use Rattle.wb_eval_theory.proofs.EnoughLemmas.{more_enough, some_enough}
 use Rattle.wb_eval_theory.specs.Instances.{root, synthesized_at}
 use Rattle.wb_eval_theory.specs.Walks as walk
 use Rattle.wb_operations.specs.Operations.{Operations}
-use Rattle.wb_program.specs.Inner.Below.{ExcludesExtensions, ExcludesHeaders}
-use Rattle.wb_program.specs.declared.status.Status.{Status}
-use Rattle.wb_program.specs.declared.status.Status.TheVariants.{CertificateRefused, Done, NotCertified, SpecRefused}
+use Rattle.wb_program.specs.Excludes.{ExcludesExtensions, ExcludesHeaders}
+use Rattle.wb_program.specs.status.Status.{Status}
+use Rattle.wb_program.specs.status.Status.TheVariants.{CertificateRefused, Done, NotCertified, SpecRefused}
 use Rattle.wb_program.specs.Commands.Run.{RunChecks}
 use Rattle.wb_program.specs.Laws.{HaveOneStatus, HaveOneText, ShowsKernel}
 use Rattle.wb_program.specs.Report.{IsReport}

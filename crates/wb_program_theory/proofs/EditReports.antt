@@ -19,8 +19,8 @@ use Rattle.wb_text_parts.specs.Faults.{CanGoOn, IsFirstFault}
 use Rattle.wb_world.specs.Shelf.{Files}
 use Rattle.wb_program.specs.Commands.Edit.{EditsReport, ShownEdits, refused_line}
 use Rattle.wb_program.specs.Files.{FileIs}
-use Rattle.wb_program.specs.Inner.Below.{ExcludesExtensions, ExcludesHeaders}
-use Rattle.wb_program.specs.declared.status.Status.TheVariants.{Done, EditRefused, TextTooLong, TooLongToPrint}
+use Rattle.wb_program.specs.Excludes.{ExcludesExtensions, ExcludesHeaders}
+use Rattle.wb_program.specs.status.Status.TheVariants.{Done, EditRefused, TextTooLong, TooLongToPrint}
 use Rattle.wb_program_words.specs.Asked as a
 use Rattle.wb_program_words.specs.Words.{Asks}
 use Rattle.wb_program_theory.specs.Certified.{AreCertified, EditChecks}

@@ -21,9 +21,9 @@ use Rattle.wb_report.specs.declared.outcome.Outcome.TheVariants as o
 use Rattle.wb_scan_theory.proofs.AnswersExist.{answer_exists}
 use Rattle.wb_scan_theory.specs.Bounds.{HasNoCycle}
 use Rattle.wb_syntax_resolved.specs.declared.resolved.ResolvedParts.{ResolvedParts}
-use Rattle.wb_program.specs.Inner.Below.{ExcludesExtensions, ExcludesHeaders}
+use Rattle.wb_program.specs.Excludes.{ExcludesExtensions, ExcludesHeaders}
 use Rattle.wb_program.specs.SeveralChecks.{names_of}
-use Rattle.wb_program.specs.declared.status.Status.TheVariants as s
+use Rattle.wb_program.specs.status.Status.TheVariants as s
 use Rattle.wb_program.specs.Commands.Generate.{GenerateChecks}
 use Rattle.wb_program_words.specs.Asked as a
 use Rattle.wb_program_words.proofs.FewLeaves.{few_leaves}

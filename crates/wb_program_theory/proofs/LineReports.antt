@@ -10,9 +10,9 @@ use Rattle.wb_report.specs.declared.done.Done.TheVariants as done
 use Rattle.wb_report.specs.declared.outcome.Outcome.TheVariants as o
 use Rattle.wb_syntax_resolved.specs.declared.resolved.ResolvedParts.{ResolvedParts}
 use Rattle.wb_world.specs.Shelf.{Files}
-use Rattle.wb_program.specs.Inner.Below.{ExcludesExtensions, ExcludesHeaders}
+use Rattle.wb_program.specs.Excludes.{ExcludesExtensions, ExcludesHeaders}
 use Rattle.wb_program.specs.SeveralChecks.{AreEach, IsNextText}
-use Rattle.wb_program.specs.declared.status.Status.TheVariants.{Done, TooLongToPrint}
+use Rattle.wb_program.specs.status.Status.TheVariants.{Done, TooLongToPrint}
 use Rattle.wb_program_words.specs.Asked as a
 use Rattle.wb_program.specs.Commands.Certificate.{CertificateChecks, IsCertificateOf}
 use Rattle.wb_program.specs.Commands.Certify.{ExtensionsReport}

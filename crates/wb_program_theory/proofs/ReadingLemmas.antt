@@ -15,12 +15,12 @@ use Rattle.wb_report.specs.declared.done.Done.TheVariants as done
 use Rattle.wb_report.specs.declared.outcome.Outcome.TheVariants as o
 use Rattle.wb_syntax_resolved.specs.declared.resolved.ResolvedParts.{ResolvedParts}
 use Rattle.wb_world.specs.Shelf.{Files}
-use Rattle.wb_program.specs.Inner.Below.{ExcludesExtensions, ExcludesHeaders}
+use Rattle.wb_program.specs.Excludes.{ExcludesExtensions, ExcludesHeaders}
 use Rattle.wb_program.proofs.OneCheck.{on_file}
 use Rattle.wb_program.specs.SeveralChecks.{names_of}
 use Rattle.wb_program.specs.Texts.{IsText}
-use Rattle.wb_program.specs.declared.status.Status.{Status}
-use Rattle.wb_program.specs.declared.status.Status.TheVariants.{Done}
+use Rattle.wb_program.specs.status.Status.{Status}
+use Rattle.wb_program.specs.status.Status.TheVariants.{Done}
 use Rattle.wb_program.specs.Commands.Run.{RunChecks}
 use Rattle.wb_program.specs.Commands.Reading.{ShownReading}
 use Rattle.wb_program_theory.specs.Certified.{AreCertified, ReadingChecks, TreeChecks}

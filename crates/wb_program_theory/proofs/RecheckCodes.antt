@@ -13,9 +13,9 @@ use Rattle.wb_world.specs.Shelf.{Files}
 use Rattle.wb_program.specs.CertificateChecks.{IsPair, RefusedPair}
 use Rattle.wb_program.specs.Commands.Recheck.{ExtensionReport, RecheckReport}
 use Rattle.wb_program.specs.Files.{FileIs}
-use Rattle.wb_program.specs.Inner.Below.{ExcludesExtensions, ExcludesHeaders}
-use Rattle.wb_program.specs.declared.status.Status.{Status}
-use Rattle.wb_program.specs.declared.status.Status.TheVariants.{CertificateRefused, Done, WrongHost}
+use Rattle.wb_program.specs.Excludes.{ExcludesExtensions, ExcludesHeaders}
+use Rattle.wb_program.specs.status.Status.{Status}
+use Rattle.wb_program.specs.status.Status.TheVariants.{CertificateRefused, Done, WrongHost}
 use Rattle.wb_program_theory.specs.Codes.{IsCodeStatus}
 use Rattle.wb_program_theory.proofs.AlikeLemmas.{IsTold}
 use Rattle.wb_program_theory.proofs.FileLemmas.{file_is}

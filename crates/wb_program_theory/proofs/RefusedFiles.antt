@@ -10,15 +10,14 @@ use Rattle.wb_operations.specs.Operations.{OperationSignature}
 use Rattle.wb_report.specs.declared.refusal.Refusal.{Refusal}
 use Rattle.wb_syntax_resolved.specs.declared.resolved.ResolvedParts.{ResolvedParts}
 use Rattle.wb_world.specs.Shelf.{Files}
-use Rattle.wb_program.specs.Inner.Below.{ExcludesExtensions, ExcludesHeaders}
+use Rattle.wb_program.specs.Excludes.{ExcludesExtensions, ExcludesHeaders}
 use Rattle.wb_program.proofs.OneCheck.{on_file}
 use Rattle.wb_program.specs.Checks.{Report}
 use Rattle.wb_program.specs.Files.{FileIs}
 use Rattle.wb_program.specs.HostChecks.{CertifiedChecks}
 use Rattle.wb_program.specs.SeveralChecks.{EachChecks, IsLaterRefusal, IsNextText, RefusesEach, RefusesNext, SeveralChecks}
-use Rattle.wb_program.specs.declared.status.Status.{Status}
-use Rattle.wb_program.specs.declared.status.Status.TheVariants.{Done, DuplicateExtension, NotCertified, SpecRefused}
-use Rattle.wb_program.specs.declared.status.Status.TheVariants.{TooManyExtensions, WrongHost}
+use Rattle.wb_program.specs.status.Status.{Status}
+use Rattle.wb_program.specs.status.Status.TheVariants.{Done, DuplicateExtension, NotCertified, SpecRefused, TooManyExtensions, WrongHost}
 use Rattle.wb_program.specs.Commands.Certify.{CertifyReport, ExtensionsReport}
 use Rattle.wb_program_theory.specs.Codes.{IsCodeStatus, ShowOneCode}
 use Rattle.wb_program_theory.proofs.AlikeLemmas.{IsTold, told_alike}

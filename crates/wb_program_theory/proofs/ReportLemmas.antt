@@ -26,8 +26,8 @@ use Rattle.wb_program_theory.specs.Laws.{HaveOneOrder, IsAnswerStatus}
 use Rattle.wb_program_theory.proofs.SeveralLemmas.{RefusesNone, several_there}
 use Rattle.wb_program.specs.Checks.{Check, Report}
 use Rattle.wb_program.specs.Texts.{IsText, IsTooLongText}
-use Rattle.wb_program.specs.declared.status.Status.{Status}
-use Rattle.wb_program.specs.declared.status.Status.TheVariants.{TextTooLong}
+use Rattle.wb_program.specs.status.Status.{Status}
+use Rattle.wb_program.specs.status.Status.TheVariants.{TextTooLong}
 use Rattle.wb_program.specs.Commands.Tree.{ShownText, TextReport}
 use Rattle.wb_program_theory.proofs.UnionLemmas.{is_language_there, language_there, names, same_texts, union_there}
 

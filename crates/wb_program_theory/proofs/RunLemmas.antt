@@ -5,7 +5,7 @@ use Rattle.wb_program_theory.specs.ValueLaws.{AreInTwoOrders, HasSameRoots, HasS
 use Rattle.wb_program_theory.proofs.OrderLemmas.{roots_there, values_there}
 use Rattle.wb_syntax_resolved.specs.declared.resolved.ResolvedParts.{ResolvedParts}
 use Rattle.wb_world.specs.Shelf.{Files}
-use Rattle.wb_program.specs.declared.status.Status.{Status}
+use Rattle.wb_program.specs.status.Status.{Status}
 use Rattle.wb_program.specs.Commands.Run.{RunChecks}
 use Rattle.wb_program_theory.specs.RunLaws.{HaveOneRun, IsRunStatus}
 use Rattle.wb_program_theory.proofs.SeveralLemmas.{RefusesNone, several_there}

@@ -38,10 +38,10 @@ use Rattle.wb_terms.specs.Printed.{printed_value}
 use Rattle.wb_values.specs.Fits.{FitsTree}
 use Rattle.wb_values.specs.Tree.{Tree}
 use Rattle.wb_world.specs.Shelf.{Files}
-use Rattle.wb_program.specs.Inner.Below.{ExcludesExtensions, ExcludesHeaders}
+use Rattle.wb_program.specs.Excludes.{ExcludesExtensions, ExcludesHeaders}
 use Rattle.wb_program.specs.Files.{FileIs}
 use Rattle.wb_program.specs.SeveralChecks.{names_of}
-use Rattle.wb_program.specs.declared.status.Status.TheVariants as s
+use Rattle.wb_program.specs.status.Status.TheVariants as s
 use Rattle.wb_program.specs.Commands.Run.{RunChecks}
 use Rattle.wb_program.specs.Values.{TextValueReport}
 use Rattle.wb_program_words.specs.Asked as a

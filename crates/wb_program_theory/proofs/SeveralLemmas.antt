@@ -7,9 +7,8 @@ use Rattle.wb_syntax_resolved.specs.declared.resolved.ResolvedParts.{ResolvedPar
 use Rattle.wb_world.specs.Shelf.{Files}
 use Rattle.wb_program.specs.Checks.{Report}
 use Rattle.wb_program.specs.SeveralChecks.{RefusesEach, RefusesNext, SeveralChecks, names_of}
-use Rattle.wb_program.specs.declared.status.Status.{Status}
-use Rattle.wb_program.specs.declared.status.Status.TheVariants.{DuplicateExtension, NotCertified, SpecRefused, TooManyExtensions}
-use Rattle.wb_program.specs.declared.status.Status.TheVariants.{WrongHost}
+use Rattle.wb_program.specs.status.Status.{Status}
+use Rattle.wb_program.specs.status.Status.TheVariants.{DuplicateExtension, NotCertified, SpecRefused, TooManyExtensions, WrongHost}
 use Rattle.wb_program_theory.specs.Certified.{AreCertified}
 use Rattle.wb_program_theory.proofs.FileLemmas.{AreReordered, names_differ, no_fewer, reordered_are}
 

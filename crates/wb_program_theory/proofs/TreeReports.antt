@@ -19,8 +19,8 @@ use Rattle.wb_syntax_resolved.specs.declared.resolved.ResolvedParts.{ResolvedPar
 use Rattle.wb_terms.specs.Printed.{printed_tree}
 use Rattle.wb_values.specs.Tree.{Tree}
 use Rattle.wb_values.specs.Tree as v
-use Rattle.wb_program.specs.Inner.Below.{ExcludesExtensions, ExcludesHeaders}
-use Rattle.wb_program.specs.declared.status.Status.TheVariants.{Done, TextStopped, TooLongToPrint}
+use Rattle.wb_program.specs.Excludes.{ExcludesExtensions, ExcludesHeaders}
+use Rattle.wb_program.specs.status.Status.TheVariants.{Done, TextStopped, TooLongToPrint}
 use Rattle.wb_program_words.specs.Asked as a
 use Rattle.wb_program.specs.Commands.Tree.{TextReport}
 use Rattle.wb_program_theory.specs.Certified.{TreeChecks}

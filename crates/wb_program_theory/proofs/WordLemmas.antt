@@ -6,7 +6,7 @@ use Rattle.wb_world.specs.Shelf.{Files}
 use Rattle.wb_program_words.proofs.OneAsked.{one_asked}
 use Rattle.wb_program_words.specs.Asked.{Asked}
 use Rattle.wb_program_words.specs.Asked as a
-use Rattle.wb_program.specs.declared.status.Status.{Status}
+use Rattle.wb_program.specs.status.Status.{Status}
 use Rattle.wb_program.specs.Commands.{IsReportOf}
 use Rattle.wb_program_theory.specs.Laws.{IsAnswerStatus}
 use Rattle.wb_program_theory.specs.RunLaws.{IsRunStatus}

@@ -9,10 +9,9 @@ use Rattle.wb_program.specs.Checks.{Check, Ends, Report}
 use Rattle.wb_program.specs.Files.{KnownFile}
 use Rattle.wb_program.specs.SeveralChecks.{AreEach, names_of}
 use Rattle.wb_program.specs.Texts.{IsText, IsTooLongText}
-use Rattle.wb_program.specs.declared.status.Status.{Status}
-use Rattle.wb_program.specs.declared.status.Status.TheVariants.{Done, DuplicateExtension, NotCertified, SpecRefused, TextTooLong}
-use Rattle.wb_program.specs.declared.status.Status.TheVariants.{CertificateRefused}
-use Rattle.wb_program.specs.declared.status.Status.TheVariants.{TooManyExtensions, WrongHost}
+use Rattle.wb_program.specs.status.Status.{Status}
+use Rattle.wb_program.specs.status.Status.TheVariants.{Done, DuplicateExtension, NotCertified, SpecRefused, TextTooLong, CertificateRefused}
+use Rattle.wb_program.specs.status.Status.TheVariants.{TooManyExtensions, WrongHost}
 use Rattle.wb_program.specs.Commands.Generate.{GenerateChecks, GenerateReport}
 use Rattle.wb_program.specs.Commands.Run.{RunChecks, RunReport}
 use Rattle.wb_program.specs.Commands.Certificate.{CertificateChecks, CertificateReport}

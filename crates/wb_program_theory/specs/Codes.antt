@@ -22,8 +22,8 @@ use Rattle.wb_report.specs.declared.spec_reason.TermReason.TheVariants as t
 use Rattle.wb_report.specs.Lines.{report_of}
 use Rattle.wb_report.specs.Reasons.{refusal_text}
 use Rattle.wb_world.specs.Shelf.{Files}
-use Rattle.wb_program.specs.declared.status.Status.{Status}
-use Rattle.wb_program.specs.declared.status.Status.TheVariants.{NotCertified, SpecRefused}
+use Rattle.wb_program.specs.status.Status.{Status}
+use Rattle.wb_program.specs.status.Status.TheVariants.{NotCertified, SpecRefused}
 use Rattle.wb_program.specs.Report.{IsReport}
 
 -- the code of a rule of what is written, of names or of kinds

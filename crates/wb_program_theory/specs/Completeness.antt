@@ -24,8 +24,8 @@ use Rattle.wb_world.specs.Shelf.{Files}
 use Rattle.wb_program_words.specs.Asked as a
 use Rattle.wb_program_words.specs.Words.{Asks}
 use Rattle.wb_program.specs.Texts.{IsText}
-use Rattle.wb_program.specs.declared.status.Status.{Status}
-use Rattle.wb_program.specs.declared.status.Status.TheVariants.{Done, NotCertified, SpecRefused, WriteFault}
+use Rattle.wb_program.specs.status.Status.{Status}
+use Rattle.wb_program.specs.status.Status.TheVariants.{Done, NotCertified, SpecRefused, WriteFault}
 use Rattle.wb_program.specs.Laws.{ShowsKernel}
 use Rattle.wb_program.specs.Report.{IsReport}
 use Rattle.wb_program.specs.Written.{WritesNothing, Wrote, WrotePrefix}

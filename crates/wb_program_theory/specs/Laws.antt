@@ -3,8 +3,8 @@ use Rattle.std.specs.Prelude.{ℕ, List, Some}
 use Rattle.wb_operations.specs.Operations.{OperationSignature}
 use Rattle.wb_compose_theory_order.specs.Orders.{IsReordering}
 use Rattle.wb_world.specs.Shelf.{Files}
-use Rattle.wb_program.specs.declared.status.Status.{Status}
-use Rattle.wb_program.specs.declared.status.Status.TheVariants.{Done, TextStopped, TooLongToPrint}
+use Rattle.wb_program.specs.status.Status.{Status}
+use Rattle.wb_program.specs.status.Status.TheVariants.{Done, TextStopped, TooLongToPrint}
 use Rattle.wb_program.specs.Commands.Tree.{TreeReport}
 
 -- the status is that of a text's answer: a tree, a stop, or a tree that is too long to print

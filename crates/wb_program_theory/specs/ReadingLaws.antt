@@ -9,8 +9,8 @@ use Rattle.wb_report.specs.declared.outcome.Outcome.TheVariants as o
 use Rattle.wb_syntax_resolved.specs.declared.resolved.ResolvedParts.{ResolvedParts}
 use Rattle.wb_world.specs.Shelf.{Files}
 use Rattle.wb_program.specs.Files.{KnownFile}
-use Rattle.wb_program.specs.declared.status.Status.{Status}
-use Rattle.wb_program.specs.declared.status.Status.TheVariants.{Done}
+use Rattle.wb_program.specs.status.Status.{Status}
+use Rattle.wb_program.specs.status.Status.TheVariants.{Done}
 use Rattle.wb_program.specs.Commands.Run.{RunReport}
 use Rattle.wb_program.specs.Commands.Reading.{ReadingReport}
 use Rattle.wb_program.specs.Commands.Tree.{TreeReport}

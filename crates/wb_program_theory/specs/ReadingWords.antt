@@ -2,7 +2,7 @@
 use Rattle.std.specs.Prelude.{◌≡◌, [], ℕ, List, Some}
 use Rattle.wb_operations.specs.Operations.{Operations}
 use Rattle.wb_world.specs.Shelf.{Files}
-use Rattle.wb_program.specs.declared.status.Status.{Status}
+use Rattle.wb_program.specs.status.Status.{Status}
 use Rattle.wb_program_words.specs.Asked.{Asked}
 use Rattle.wb_program_words.specs.Asked as a
 use Rattle.wb_program_words.specs.Words.{Asks}

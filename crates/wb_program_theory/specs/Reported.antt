@@ -14,8 +14,8 @@ use Rattle.wb_program.specs.CertificateChecks.{IsPair}
 use Rattle.wb_program.specs.Checks.{Report}
 use Rattle.wb_program.specs.Files.{KnownFile}
 use Rattle.wb_program.specs.Texts.{IsText}
-use Rattle.wb_program.specs.declared.status.Status.{Status}
-use Rattle.wb_program.specs.declared.status.Status.TheVariants.{Done, EditRefused, TooLongToPrint}
+use Rattle.wb_program.specs.status.Status.{Status}
+use Rattle.wb_program.specs.status.Status.TheVariants.{Done, EditRefused, TooLongToPrint}
 use Rattle.wb_program.specs.Report.{IsReport}
 use Rattle.wb_program_theory.specs.Certified.{AreCertified}
 use Rattle.wb_program_theory.specs.Laws.{IsAnswerStatus}

@@ -3,10 +3,9 @@ use Rattle.std.specs.Prelude.{ℕ, List, Some}
 use Rattle.wb_operations.specs.Operations.{Operations}
 use Rattle.wb_compose_theory_order.specs.Orders.{IsReordering}
 use Rattle.wb_world.specs.Shelf.{Files}
-use Rattle.wb_program.specs.declared.status.Status.{Status}
-use Rattle.wb_program.specs.declared.status.Status.TheVariants.{Done, MoreSteps, OperationFault, TextStopped, TextTooLong}
-use Rattle.wb_program.specs.declared.status.Status.TheVariants.{TooLongToPrint}
-use Rattle.wb_program.specs.declared.status.Status.TheVariants.{UnknownAttribute}
+use Rattle.wb_program.specs.status.Status.{Status}
+use Rattle.wb_program.specs.status.Status.TheVariants.{Done, MoreSteps, OperationFault, TextStopped, TextTooLong, TooLongToPrint}
+use Rattle.wb_program.specs.status.Status.TheVariants.{UnknownAttribute}
 use Rattle.wb_program.specs.Commands.Run.{RunReport}
 
 -- the status is that of what comes of a text and an attribute: a value, a stop, a fault, more steps, or a value that is too long to print;

@@ -4,8 +4,8 @@ use Rattle.std.specs.Io.KnownBytes.{append_known}
 use Rattle.wb_explain_lines.specs.Page.{PageView}
 use Rattle.wb_explain_lines.specs.Written.{WrotePart}
 use Rattle.wb_explain.specs.Explained.{BeginsWith, ShowsAfter, ShowsInstead}
-use Rattle.wb_program.specs.declared.status.Status.{Status}
-use Rattle.wb_program.specs.declared.status.Status.TheVariants.{Done, WriteFault, NoMemory}
+use Rattle.wb_program.specs.status.Status.{Status}
+use Rattle.wb_program.specs.status.Status.TheVariants.{Done, WriteFault, NoMemory}
 
 -- no write to the page has failed, and something is added, or where the run comes to its end, this is shown
 pub record Adds (Shows : List ℕ → List ℕ → Type 0) (status : Status) (before now : PageView) : Type 0 where

@@ -5,13 +5,14 @@ use Rattle.wb_syntax_resolved.specs.declared.resolved.ResolvedParts.{ResolvedPar
 use Rattle.wb_world.specs.Shelf.{Files}
 use Rattle.wb_program_words.specs.Asked as a
 use Rattle.wb_program.specs.Commands.Certificate.{CertificateChecks, CertificateReport, IsCertificateOf}
-use Rattle.wb_program.specs.Inner.Below.{LawsBelow}
-use Rattle.wb_program.specs.declared.status.Status.{Status}
-use Rattle.wb_program.proofs.OneCheck.{AreOne}
-use Rattle.wb_program.proofs.OneHostChecks.{AreAlike, are_alike}
-use Rattle.wb_program.proofs.OneSeveralReport.{one_several_report}
+use Rattle.wb_program_texts.specs.Below.{LawsBelow}
+use Rattle.wb_program_texts.specs.status.Status.{Status}
+use Rattle.wb_program_texts.proofs.OneCheck.{AreOne}
+use Rattle.wb_program_texts.proofs.OneHostChecks.{AreAlike, are_alike}
+use Rattle.wb_program_texts.proofs.OneSeveralReport.{one_several_report}
 use Rattle.wb_program.proofs.ReportLaws.{HasLaws, when_alike}
-use Rattle.wb_program.proofs.WrittenWhole.{IsReported, several_reported}
+use Rattle.wb_program_texts.proofs.WrittenWhole.{IsReported}
+use Rattle.wb_program_texts.proofs.SeveralWritten.{several_reported}
 
 -- a text isn't both too long to print and short enough
 not_both : (text : List ℕ) → 16777216 < length text → length text ≤ 16777216 → ⊥

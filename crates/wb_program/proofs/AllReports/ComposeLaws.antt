@@ -7,16 +7,17 @@ use Rattle.wb_report.specs.declared.outcome.Outcome.TheVariants as o
 use Rattle.wb_syntax_resolved.specs.declared.resolved.ResolvedParts.{ResolvedParts}
 use Rattle.wb_world.specs.Shelf.{Files}
 use Rattle.wb_program_words.specs.Asked as a
-use Rattle.wb_program.specs.Checks.{Ends}
+use Rattle.wb_program_texts.specs.Checks.{Ends}
 use Rattle.wb_program.specs.Commands.Compose.{ComposeReport, ComposedLines}
-use Rattle.wb_program.specs.Inner.Below.{LawsBelow}
-use Rattle.wb_program.specs.declared.status.Status.{Status}
-use Rattle.wb_program.specs.declared.status.Status.TheVariants.{Done}
-use Rattle.wb_program.proofs.OneCheck.{AreOne}
-use Rattle.wb_program.proofs.OneHostChecks.{AreAlike, are_alike}
-use Rattle.wb_program.proofs.OneSeveralReport.{one_several_report}
+use Rattle.wb_program_texts.specs.Below.{LawsBelow}
+use Rattle.wb_program_texts.specs.status.Status.{Status}
+use Rattle.wb_program_texts.specs.status.Status.TheVariants.{Done}
+use Rattle.wb_program_texts.proofs.OneCheck.{AreOne}
+use Rattle.wb_program_texts.proofs.OneHostChecks.{AreAlike, are_alike}
+use Rattle.wb_program_texts.proofs.OneSeveralReport.{one_several_report}
 use Rattle.wb_program.proofs.ReportLaws.{HasLaws, when_alike}
-use Rattle.wb_program.proofs.WrittenWhole.{IsReported, by_end, several_reported}
+use Rattle.wb_program_texts.proofs.WrittenWhole.{IsReported, by_end}
+use Rattle.wb_program_texts.proofs.SeveralWritten.{several_reported}
 
 module _ (below : LawsBelow) (operations : List OperationSignature) (r : ResolvedParts) (values : List ResolvedParts)
     (s t : Status) (bytes others : List ℕ) where

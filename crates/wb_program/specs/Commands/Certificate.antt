@@ -1,14 +1,14 @@
 -- What `certificate HOST [EXT]` reports.
 use Rattle.std.specs.Prelude.{◌≡◌, ◌<◌, ◌≤◌, ◌⊎◌, ℕ, Option, List, [], ◌∷◌, length}
 use Rattle.wb_operations.specs.Operations.{OperationSignature}
-use Rattle.wb_certify_files.specs.CertificateTexts.{IsExtensionCertificate, IsHostCertificate}
+use Rattle.wb_program_texts.specs.CertificateTexts.{IsExtensionCertificate, IsHostCertificate}
 use Rattle.wb_report.specs.Lines.{report_of}
 use Rattle.wb_report.specs.declared.outcome.Outcome.TheVariants as o
 use Rattle.wb_syntax_resolved.specs.declared.resolved.ResolvedParts.{ResolvedParts}
 use Rattle.wb_world.specs.Shelf.{Files}
-use Rattle.wb_program.specs.Checks.{Report, Ends}
-use Rattle.wb_program.specs.SeveralChecks.{SeveralChecks}
-use Rattle.wb_program.specs.declared.status.Status.TheVariants.{Done, TooLongToPrint}
+use Rattle.wb_program_texts.specs.Checks.{Report, Ends}
+use Rattle.wb_program_texts.specs.SeveralChecks.{SeveralChecks}
+use Rattle.wb_program_texts.specs.status.Status.TheVariants.{Done, TooLongToPrint}
 
 -- the text is the certificate of the host, or where there is an extension, of that, which is given by the host with it
 abbrev pub IsCertificateOf : ResolvedParts → List ResolvedParts → List ℕ → Type 0

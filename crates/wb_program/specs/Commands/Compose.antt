@@ -5,11 +5,11 @@ use Rattle.wb_report.specs.Lines.{report_of}
 use Rattle.wb_report.specs.declared.done.Done.TheVariants as done
 use Rattle.wb_report.specs.declared.outcome.Outcome.TheVariants as o
 use Rattle.wb_syntax_resolved.specs.declared.resolved.ResolvedParts.{ResolvedParts}
-use Rattle.wb_compose_texts.specs.Withdrawn.{AreWithdrawnNames}
+use Rattle.wb_program_texts.specs.Withdrawn.{AreWithdrawnNames}
 use Rattle.wb_world.specs.Shelf.{Files}
-use Rattle.wb_program.specs.Checks.{Report, Ends}
-use Rattle.wb_program.specs.SeveralChecks.{SeveralChecks}
-use Rattle.wb_program.specs.declared.status.Status.TheVariants.{Done}
+use Rattle.wb_program_texts.specs.Checks.{Report, Ends}
+use Rattle.wb_program_texts.specs.SeveralChecks.{SeveralChecks}
+use Rattle.wb_program_texts.specs.status.Status.TheVariants.{Done}
 
 -- the host with its extensions has these markers without a bare form, and the lines say so
 pub record ComposedLines (operations : List OperationSignature) (host : ResolvedParts) (extensions : List ResolvedParts) (bytes : List ℕ)

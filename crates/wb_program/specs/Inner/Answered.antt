@@ -2,8 +2,8 @@
 use Rattle.std.specs.Prelude.{◌≡◌, ◌≢◌, List, ℕ, Option}
 use Rattle.wb_world.specs.Shelf.{Files}
 use Rattle.wb_operations.specs.Operations.{Operations}
-use Rattle.wb_program.specs.declared.answer.Answer.{Answer}
-use Rattle.wb_program.specs.declared.status.Status.TheVariants.{Usage, WriteFault}
+use Rattle.wb_program_texts.specs.answer.Answer.{Answer}
+use Rattle.wb_program_texts.specs.status.Status.TheVariants.{Usage, WriteFault}
 use Rattle.wb_program.specs.Report.{InCommandSet, IsReport}
 use Rattle.wb_program.specs.Written.{WritesNothing}
 

@@ -2,8 +2,8 @@
 use Rattle.std.specs.Prelude.{◌≡◌, ◌<◌, ◌≤◌, ℕ, List, Option, Some, None, MatchOption, length}
 use Rattle.wb_report.specs.Lines.{report_of}
 use Rattle.wb_report.specs.declared.outcome.Outcome.TheVariants as o
-use Rattle.wb_program.specs.Checks.{Report, Ends}
-use Rattle.wb_program.specs.declared.status.Status.TheVariants.{Done, TooLongToPrint}
+use Rattle.wb_program_texts.specs.Checks.{Report, Ends}
+use Rattle.wb_program_texts.specs.status.Status.TheVariants.{Done, TooLongToPrint}
 
 -- a text that is such a certificate and isn't too long to print, or none where each is too long
 abbrev pub IsTextOrTooLong : (List ℕ → Type 0) → Option (List ℕ) → Type 0

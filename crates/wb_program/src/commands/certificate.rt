@@ -3,25 +3,21 @@
 //! The host and the extension come first, by the checks of `composable`, and then the certificate that `wb_recheck` writes.
 
 ghost use Rattle.std.specs.Prelude.{IfOk};
-ghost use Rattle.wb_compose_texts.specs.Unions.{all_resolved};
+ghost use Rattle.wb_program_texts.specs.Unions.{all_resolved};
 ghost use Rattle.wb_program_words.specs.Asked.{texts};
-ghost use Rattle.wb_program.specs.Stops.{StopsComposed};
-ghost use Rattle.wb_program.specs.Inner.Stopped.{outside};
-ghost use Rattle.wb_program.specs.Inner.Makes.{Answers};
+ghost use Rattle.wb_program_texts.specs.SeveralStops.{StopsComposed};
+ghost use Rattle.wb_program_texts.specs.Stopped.{outside};
+ghost use Rattle.wb_program_texts.specs.Makes.{Answers};
 ghost use Rattle.wb_program.specs.Inner.Certificates.{IsTextOrTooLong, ShownCertificate};
 ghost use Rattle.wb_program.specs.Commands.Certificate.{CertificateChecks, CertificateReport, IsCertificateOf};
 
-use crate::answer::{Answer, reported};
-use crate::composable::read_composable;
-use crate::files::ReadFailure;
-use crate::pairs::MOST_BYTES;
-use crate::status::Status;
 use std::alloc::{AllocError, Global};
 use wb_base::Bytes;
-use wb_certify_files::{
-    CertifiedExtension, CertifiedHost, extension_certificate, host_certificate,
-};
 use wb_operations::{Meaning, OperationTable};
+use wb_program_texts::{
+    Answer, CertifiedExtension, CertifiedHost, MOST_BYTES, ReadFailure, Status,
+    extension_certificate, host_certificate, read_composable, reported,
+};
 use wb_report::Outcome;
 use wb_world::Shelf;
 

@@ -3,25 +3,23 @@
 //! The host and the extensions come first, by the checks of `composable`, and then the language that `wb_compose` composes of them.
 
 ghost use Rattle.std.specs.Prelude.{IfOk};
-ghost use Rattle.wb_compose_texts.specs.Composed.{IsComposed};
-ghost use Rattle.wb_compose_texts.specs.Unions.{all_resolved};
+ghost use Rattle.wb_program_texts.specs.Composed.{IsComposed};
+ghost use Rattle.wb_program_texts.specs.Unions.{all_resolved};
 ghost use Rattle.wb_program_words.specs.Asked.{texts};
-ghost use Rattle.wb_program.specs.Checks.{Ends};
-ghost use Rattle.wb_program.specs.ExtensionChecks.{AreApart};
-ghost use Rattle.wb_program.specs.Stops.{StopsComposed};
-ghost use Rattle.wb_program.specs.Inner.Stopped.{outside};
-ghost use Rattle.wb_program.specs.Inner.Makes.{Answers};
+ghost use Rattle.wb_program_texts.specs.Checks.{Ends};
+ghost use Rattle.wb_program_texts.specs.Composable.{AreApart};
+ghost use Rattle.wb_program_texts.specs.SeveralStops.{StopsComposed};
+ghost use Rattle.wb_program_texts.specs.Stopped.{outside};
+ghost use Rattle.wb_program_texts.specs.Makes.{Answers};
 ghost use Rattle.wb_program.specs.Commands.Compose.{ComposeReport, ComposedLines};
 
-use crate::answer::{Answer, reported};
-use crate::composable::read_composable;
-use crate::files::ReadFailure;
-use crate::status::Status;
 use std::alloc::{AllocError, Global};
 use wb_base::Bytes;
-use wb_certify_files::{CertifiedExtension, CertifiedHost};
-use wb_compose_texts::{Composed, compose, withdrawn_names};
 use wb_operations::{Meaning, OperationTable};
+use wb_program_texts::{
+    Answer, CertifiedExtension, CertifiedHost, Composed, ReadFailure, Status, compose,
+    read_composable, reported, withdrawn_names,
+};
 use wb_report::{Done, Outcome};
 use wb_world::Shelf;
 

@@ -3,7 +3,7 @@ use Rattle.std.proofs.Common.{◌≡◌}
 use Rattle.wb_operations.specs.Operations.{Operations}
 use Rattle.wb_program_words.specs.Asked.{texts}
 use Rattle.wb_program.specs.Report.{IsReport}
-use Rattle.wb_program.specs.declared.status.Status.TheVariants.{Usage, Absent, ReadFault}
+use Rattle.wb_program.specs.status.Status.TheVariants.{Usage, Absent, ReadFault}
 use Rattle.wb_explain_lines.specs.Outside.{outside}
 use Rattle.wb_explain_lines.proofs.KeepLemmas.{keeps_twice}
 use Rattle.wb_explain.specs.Inner.Ends.{shown_as}

@@ -8,22 +8,22 @@ use Rattle.wb_program.proofs.commands.answer_on_text.Goals as goal
 pub returns-in-Tree : goal.returns-in-Tree
 returns-in-Tree g c =
     let operations : Operations = record { signatures = c.args.operations.now.signatures; meaning = g.M.Meaning.meaning } in
-    of_command operations c.answer_of_text.result c.args.command c.in-Tree.is c.answer_of_text.ensures
+    of_command operations c.answer_tree.result c.args.command c.in-Tree.is c.answer_tree.ensures
 
 pub returns-in-Run : goal.returns-in-Run
 returns-in-Run g c =
     let operations : Operations = record { signatures = c.args.operations.now.signatures; meaning = g.M.Meaning.meaning } in
-    of_command operations c.answer_source.result c.args.command c.in-Run.is c.answer_source.ensures
+    of_command operations c.answer_run.result c.args.command c.in-Run.is c.answer_run.ensures
 
-pub answer_source-requires-in-Generate-clause-size : goal.answer_source-requires-in-Generate-clause-size
-answer_source-requires-in-Generate-clause-size g c =
+pub answer_generate-requires-clause-size : goal.answer_generate-requires-clause-size
+answer_generate-requires-clause-size g c =
     let x = c.in-Generate in
     c.requires.leaves x.number x.size x.attribute.now x.host.now (texts x.extensions.now) (ap asked_by x.is)
 
 pub returns-in-Generate : goal.returns-in-Generate
 returns-in-Generate g c =
     let operations : Operations = record { signatures = c.args.operations.now.signatures; meaning = g.M.Meaning.meaning } in
-    of_command operations c.answer_source-in-Generate.result c.args.command c.in-Generate.is c.answer_source-in-Generate.ensures
+    of_command operations c.answer_generate.result c.args.command c.in-Generate.is c.answer_generate.ensures
 
 pub returns-in-Edit : goal.returns-in-Edit
 returns-in-Edit g c =
@@ -33,4 +33,4 @@ returns-in-Edit g c =
 pub returns-in-Reading : goal.returns-in-Reading
 returns-in-Reading g c =
     let operations : Operations = record { signatures = c.args.operations.now.signatures; meaning = g.M.Meaning.meaning } in
-    of_command operations c.answer_of_text-in-Reading.result c.args.command c.in-Reading.is c.answer_of_text-in-Reading.ensures
+    of_command operations c.answer_reading.result c.args.command c.in-Reading.is c.answer_reading.ensures

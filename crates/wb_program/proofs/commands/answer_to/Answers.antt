@@ -1,7 +1,8 @@
 -- Each command's answer is the report of what it asks.
 use Rattle.std.proofs.Common.{inl}
 use Rattle.wb_operations.specs.Operations.{Operations}
-use Rattle.wb_program.proofs.Answering.{made_so, of_command}
+use Rattle.wb_program_texts.proofs.MakesLemmas.{made_so}
+use Rattle.wb_program.proofs.Answering.{of_command}
 use Rattle.wb_program.proofs.commands.answer_to.Goals as goal
 
 pub returns-in-Value : goal.returns-in-Value

@@ -4,13 +4,12 @@ use Rattle.wb_operations.specs.Operations.{Operations}
 use Rattle.wb_program_words.specs.Asked.{asked_by, texts}
 use Rattle.wb_program_words.specs.Words.{Asks}
 use Rattle.wb_program_words.proofs.FewLeaves.{few_leaves}
-use Rattle.wb_program.specs.Inner.Stopped.{outside, Stopped}
-use Rattle.wb_program.specs.declared.files.ReadFailure.TheVariants.{NoMemory}
-use Rattle.wb_program.proofs.StopLemmas.{goes_on_here, on_err}
+use Rattle.wb_program_texts.specs.Stopped.{outside, Stopped}
+use Rattle.wb_program_texts.specs.files.ReadFailure.TheVariants.{NoMemory}
+use Rattle.wb_program_texts.proofs.StopLemmas.{goes_on_here, on_err}
 use Rattle.wb_program.specs.Commands.{ReadsTo}
 use Rattle.wb_program.specs.Report.{InCommandSet}
-use Rattle.wb_program.proofs.MakesLemmas.{answered, exhausted}
-use Rattle.wb_program.proofs.Answering.{made_so}
+use Rattle.wb_program_texts.proofs.MakesLemmas.{answered, exhausted, made_so}
 use Rattle.wb_program.proofs.AnswerLemmas.{replies, replies_usage}
 use Rattle.wb_program.proofs.CauseLemmas.{comes_to, stopped_asked}
 use Rattle.wb_program.proofs.program.answer.Goals as goal

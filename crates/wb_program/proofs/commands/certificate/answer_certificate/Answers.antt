@@ -1,13 +1,13 @@
 -- The certificate comes after the checks of the host and the extension.
 use Rattle.std.proofs.Common.{List, subst}
-use Rattle.wb_certify_files.specs.Kept.{ExtensionView}
-use Rattle.wb_compose_texts.specs.Unions.{all_resolved}
+use Rattle.wb_program_texts.specs.Kept.{ExtensionView}
+use Rattle.wb_program_texts.specs.Unions.{all_resolved}
 use Rattle.wb_program_words.specs.Asked.{texts}
 use Rattle.wb_program.specs.Commands.Certificate.{CertificateChecks}
-use Rattle.wb_program.specs.Inner.Composable.{AreRead, RefusesAny}
-use Rattle.wb_program.proofs.ComposeLemmas.{several_ended, several_read}
-use Rattle.wb_program.proofs.MakesLemmas.{answered, handed, exhausted}
-use Rattle.wb_program.proofs.StopLemmas.{err_of, ok_of}
+use Rattle.wb_program_texts.specs.Composable.{AreRead, RefusesAny}
+use Rattle.wb_program_texts.proofs.ComposeLemmas.{several_ended, several_read}
+use Rattle.wb_program_texts.proofs.MakesLemmas.{answered, handed, exhausted}
+use Rattle.wb_program_texts.proofs.StopLemmas.{err_of, ok_of}
 use Rattle.wb_program.proofs.commands.certificate.answer_certificate.Goals as goal
 
 pub returns-in_ok-answer-in-Ok : goal.returns-in_ok-answer-in-Ok

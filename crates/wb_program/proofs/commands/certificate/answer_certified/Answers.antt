@@ -1,7 +1,7 @@
 -- The certificate is shown.
-use Rattle.wb_compose_texts.specs.Unions.{all_resolved}
+use Rattle.wb_program_texts.specs.Unions.{all_resolved}
 use Rattle.wb_program.proofs.CertificateLemmas.{shown_checks}
-use Rattle.wb_program.proofs.StopLemmas.{on_ok}
+use Rattle.wb_program_texts.proofs.StopLemmas.{on_ok}
 use Rattle.wb_program.specs.Commands.Certificate.{CertificateChecks}
 use Rattle.wb_program.specs.Inner.Certificates.{ShownCertificate}
 use Rattle.wb_program.proofs.commands.certificate.answer_certified.Goals as goal

@@ -1,11 +1,11 @@
 -- The certificate is the host's where there is no extension, and else that of the first.
 use Rattle.std.proofs.Common.{List, Option, ℕ, arith}
-use Rattle.wb_compose_texts.specs.Unions.{all_resolved}
-use Rattle.wb_certify_files.specs.CertificateTexts.{IsExtensionCertificate, IsHostCertificate}
+use Rattle.wb_program_texts.specs.Unions.{all_resolved}
+use Rattle.wb_program_texts.specs.CertificateTexts.{IsExtensionCertificate, IsHostCertificate}
 use Rattle.wb_program.specs.Commands.Certificate.{IsCertificateOf}
 use Rattle.wb_program.specs.Inner.Certificates.{IsTextOrTooLong}
 use Rattle.wb_program.proofs.CertificateLemmas.{of_extension, of_host}
-use Rattle.wb_program.proofs.StopLemmas.{on_ok}
+use Rattle.wb_program_texts.proofs.StopLemmas.{on_ok}
 use Rattle.wb_program.proofs.commands.certificate.certificate_of.Goals as goal
 
 pub returns-in-empty : goal.returns-in-empty

@@ -1,17 +1,17 @@
 -- What is composed of a host and extensions comes after the checks of them.
 use Rattle.std.proofs.Common.{List, subst}
-use Rattle.wb_certify_files.specs.Kept.{ExtensionView}
+use Rattle.wb_program_texts.specs.Kept.{ExtensionView}
 use Rattle.wb_operations.specs.Operations.{OperationSignature}
 use Rattle.wb_syntax_resolved.specs.declared.resolved.ResolvedParts.{ResolvedParts}
-use Rattle.wb_compose_texts.specs.Unions.{all_resolved}
+use Rattle.wb_program_texts.specs.Unions.{all_resolved}
 use Rattle.wb_program_words.specs.Asked.{texts}
-use Rattle.wb_program.specs.Checks.{Report, Ends}
-use Rattle.wb_program.specs.Inner.Composable.{AreRead, RefusesAny}
-use Rattle.wb_program.specs.declared.status.Status.TheVariants.{Done}
-use Rattle.wb_program.proofs.ComposeLemmas.{several_ended, several_read}
-use Rattle.wb_program.proofs.StopLemmas.{err_of, ok_of}
+use Rattle.wb_program_texts.specs.Checks.{Report, Ends}
+use Rattle.wb_program_texts.specs.Composable.{AreRead, RefusesAny}
+use Rattle.wb_program_texts.specs.status.Status.TheVariants.{Done}
+use Rattle.wb_program_texts.proofs.ComposeLemmas.{several_ended, several_read}
+use Rattle.wb_program_texts.proofs.StopLemmas.{err_of, ok_of}
 use Rattle.wb_program.specs.Commands.Compose.{ComposedLines}
-use Rattle.wb_program.proofs.MakesLemmas.{answered, handed, exhausted}
+use Rattle.wb_program_texts.proofs.MakesLemmas.{answered, handed, exhausted}
 use Rattle.wb_program.proofs.commands.compose.answer_compose.Goals as goal
 
 pub returns-in_ok-answer-in-Ok : goal.returns-in_ok-answer-in-Ok

@@ -1,14 +1,14 @@
 -- The lines show the host, how many extensions there are, and the markers without a bare form.
 use Rattle.std.proofs.Common.{◌≡◌, ◌∙◌, ℕ, List, length, ap, sym}
 use Rattle.std.proofs.lemmas.List.{length-map}
-use Rattle.wb_certify_files.specs.Kept.{ExtensionView}
+use Rattle.wb_program_texts.specs.Kept.{ExtensionView}
 use Rattle.wb_report.specs.Lines.{report_of}
 use Rattle.wb_report.specs.declared.done.Done.TheVariants as done
 use Rattle.wb_report.specs.declared.outcome.Outcome.TheVariants as o
-use Rattle.wb_compose_texts.specs.Unions.{all_resolved}
-use Rattle.wb_program.specs.Checks.{Ends}
-use Rattle.wb_program.specs.declared.status.Status.TheVariants.{Done}
-use Rattle.wb_program.proofs.StopLemmas.{on_both_ok}
+use Rattle.wb_program_texts.specs.Unions.{all_resolved}
+use Rattle.wb_program_texts.specs.Checks.{Ends}
+use Rattle.wb_program_texts.specs.status.Status.TheVariants.{Done}
+use Rattle.wb_program_texts.proofs.StopLemmas.{on_both_ok}
 use Rattle.wb_program.specs.Commands.Compose.{ComposedLines}
 use Rattle.wb_program.proofs.commands.compose.composed_lines.Goals as goal
 

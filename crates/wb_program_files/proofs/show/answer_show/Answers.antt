@@ -1,0 +1,20 @@
+-- The report of what was read is that of the file.
+use Rattle.wb_program_files.proofs.MakesLemmas.{answered, handed, exhausted}
+use Rattle.wb_program_files.proofs.ShowLemmas.{show_checks}
+use Rattle.wb_program_files.proofs.show.answer_show.Goals as goal
+
+pub returns : goal.returns
+returns g c =
+    let answer = c.in_ok-answer_contents.field-0 in
+    answered answer (show_checks (g.S.Shelf.files c.args.shelf.now) c.args.file.now c.in_ok-contents.contents answer.status
+    answer.report.items c.in_ok-contents.ensures.ok c.in_ok-answer_contents.ensures) c.read_file.ensures.goes_on
+
+pub returns-in_err-answer_contents : goal.returns-in_err-answer_contents
+returns-in_err-answer_contents g c =
+    exhausted c.from_residual-in_err-answer_contents.result c.from_residual-in_err-answer_contents.ensures.1
+    c.read_file.ensures.goes_on
+
+pub returns-in_err-contents : goal.returns-in_err-contents
+returns-in_err-contents g c =
+    handed c.from_residual.result c.in_err-contents.field-0.0 c.from_residual.ensures.1 c.in_err-contents.ensures.stopped
+    c.read_file.ensures.goes_on
