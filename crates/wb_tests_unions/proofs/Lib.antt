@@ -1,0 +1,4 @@
+pub mod ZipLemmas
+pub mod FitLemmas
+pub mod UnionLemmas
+pub mod WalkLemmas
