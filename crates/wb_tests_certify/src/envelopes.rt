@@ -7,7 +7,7 @@ use crate::extensions::extensions_get;
 use crate::files::{ALIKE, TWO_EXTENSIBLE};
 
 // After P, and after Q, each of A and B has what the other has there.
-static CROSSED: &str = "format 1; host h; \
+pub(crate) static CROSSED: &str = "format 1; host h; \
     terminal P /p/; terminal Q /q/; terminal R /r/; terminal C /c/; terminal X /x/; terminal Y /y/; terminal Z /z/; \
     nonterminal S; nonterminal A; nonterminal B; nonterminal D; nonterminal F; nonterminal G; start S; extensible G; \
     concrete pa : S ::= p : P a : A x : X { } \
@@ -24,7 +24,7 @@ static CROSSED: &str = "format 1; host h; \
     concrete gz : G ::= z : Z { }";
 
 // After P the terminal U follows A, and after Q the terminal V does.
-static SHARED: &str = "format 1; host h; \
+pub(crate) static SHARED: &str = "format 1; host h; \
     terminal P /p/; terminal Q /q/; terminal R /r/; terminal C /c/; terminal U /u/; terminal V /[uv]/; terminal Z /z/; \
     nonterminal S; nonterminal A; nonterminal D; nonterminal F; nonterminal G; start S; extensible G; \
     concrete pa : S ::= p : P a : A u : U { } \
@@ -38,7 +38,7 @@ static SHARED: &str = "format 1; host h; \
     concrete gz : G ::= z : Z { }";
 
 // Extensions of a host with two extensible nonterminals. The first lets one of them follow N, and its hole is no lookahead of the host.
-static OF_TWO_EXTENSIBLE: [Row; 2] = [
+pub(crate) static OF_TWO_EXTENSIBLE: [Row; 2] = [
     (
         "format 1; extension first for adj; marking M /m/; concrete mg : G ::= m : M n : N h : H { forwards to gy(\"y\"); }",
         ("E5", "hole:H", "na", ""),
@@ -55,7 +55,7 @@ fn what_follows_a_host_nonterminal_stays(rt: HostRuntime) {
 }
 
 // Extensions that know which of two sentences is read. One lets Y follow where the host has X.
-static OF_ALIKE: [Row; 2] = [
+pub(crate) static OF_ALIKE: [Row; 2] = [
     (
         "format 1; extension fit for pq; marking M /m/; concrete mg : G ::= m : M a : A x : X { forwards to gz(\"z\"); }",
         ("ok", "", "", ""),
@@ -72,7 +72,7 @@ fn new_kernels_have_lookaheads_of_the_host(rt: HostRuntime) {
 }
 
 // A kernel that only the extension has, where the lookaheads that the host allows conflict; and one for A alone.
-static OF_CROSSED: [Row; 2] = [
+pub(crate) static OF_CROSSED: [Row; 2] = [
     (
         "format 1; extension e for h; \
             marking M /m/; nonterminal N; \
@@ -93,7 +93,7 @@ fn new_kernels_have_no_conflict_in_what_the_host_allows(rt: HostRuntime) {
 }
 
 // A kernel that only the extension has, where terminals that the host allows share a text; and extensions with that of D or none.
-static OF_SHARED: [Row; 3] = [
+pub(crate) static OF_SHARED: [Row; 3] = [
     (
         "format 1; extension e for h; marking M /m/; concrete mg : G ::= m : M a : A u : U { forwards to gz(\"z\"); }",
         ("E6 clash", "U", "V", "u"),

@@ -184,7 +184,7 @@ fn is_refused(
 }
 
 // Extensions of the language with statements.
-static OF_STATEMENTS: [Row; 6] = [
+pub(crate) static OF_STATEMENTS: [Row; 6] = [
     (
         "format 1; extension a for mini; \
             marking Sum /sum/; prefer Sum over Id; \
@@ -235,7 +235,7 @@ fn extensions_of_a_language_with_statements(rt: HostRuntime) {
 }
 
 // Extensions of sums that are certified.
-static OF_SUMS: [Row; 4] = [
+pub(crate) static OF_SUMS: [Row; 4] = [
     ("format 1; extension e for tiny;", ("ok", "", "", "")),
     (
         "format 1; extension count for tiny; \

@@ -7,7 +7,7 @@ use crate::extensions::extensions_get;
 use crate::files::{FORWARD_NEEDS, TWO_INHERITED};
 
 // A nonterminal that inherits two attributes. Its forward may need none of them.
-static NOT_LOOKING: &str = "format 1; host h; \
+pub(crate) static NOT_LOOKING: &str = "format 1; host h; \
     terminal X /x/; \
     nonterminal P; nonterminal N; start P; extensible N; \
     inh env : bool; inh store : bool; syn value : bool; \
@@ -16,7 +16,7 @@ static NOT_LOOKING: &str = "format 1; host h; \
     concrete leaf : N ::= x : X { top.value = top.env; }";
 
 // The same. Its forward may need one of them.
-static LOOKING: &str = "format 1; host h; \
+pub(crate) static LOOKING: &str = "format 1; host h; \
     terminal X /x/; \
     nonterminal P; nonterminal N; start P; extensible N; \
     inh env : bool; inh store : bool; syn value : bool; \
@@ -26,7 +26,7 @@ static LOOKING: &str = "format 1; host h; \
     concrete leaf : N ::= x : X { top.value = top.env; }";
 
 // The same nonterminal, closed.
-static CLOSED: &str = "format 2; host h; \
+pub(crate) static CLOSED: &str = "format 2; host h; \
     terminal X /x/; \
     nonterminal P; nonterminal N; start P; extensible N; closed N; \
     inh env : bool; inh store : bool; syn value : bool; \
@@ -58,7 +58,7 @@ fn equations_for_a_forwarded_tree_may_need_what_its_flow_type_has(rt: HostRuntim
 
 // Extensions `f` are right alone. With one of them, a refused `e` would need what isn't there: one `e` swaps what its forwarded tree
 // inherits, one doesn't forward, and one needs an attribute to choose its forwarded tree.
-static OF_NOT_LOOKING: [Row; 7] = [
+pub(crate) static OF_NOT_LOOKING: [Row; 7] = [
     (
         "format 1; extension e for h; marking M /m/; concrete p : N ::= m : M n : N { forwards to n; forward.env = top.store; }",
         ("E8", "p", "env", "store"),
@@ -95,7 +95,7 @@ fn an_extension_is_right_with_any_other(rt: HostRuntime) {
 }
 
 // The first is right. So the second is refused, whose attribute doesn't need what a forward may need.
-static OF_LOOKING: [Row; 4] = [
+pub(crate) static OF_LOOKING: [Row; 4] = [
     (
         "format 1; extension e for h; marking M /m/; concrete p : N ::= m : M n : N { forwards to if top.env then n else n; }",
         ("ok", "", "", ""),
@@ -120,7 +120,7 @@ fn attributes_need_what_forwards_look_at(rt: HostRuntime) {
 }
 
 // A production on it needn't forward, and is else as all are; an attribute of an extension is on P alone.
-static OF_CLOSED: [Row; 9] = [
+pub(crate) static OF_CLOSED: [Row; 9] = [
     (
         "format 1; extension e for h; marking M /m/; concrete p : N ::= m : M { top.value = true; }",
         ("ok", "", "", ""),

@@ -6,6 +6,8 @@
 #[cfg(test)]
 mod answers;
 #[cfg(test)]
+mod compose_kernels;
+#[cfg(test)]
 mod envelopes;
 #[cfg(test)]
 mod extensions;

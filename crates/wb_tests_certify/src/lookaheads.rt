@@ -74,7 +74,7 @@ fn are_equal(one: &TermSet, other: &TermSet) -> bool {
 }
 
 // A grammar that is LALR(1) and not SLR(1).
-static ASSIGNMENTS: &str =
+pub(crate) static ASSIGNMENTS: &str =
     "format 1; host ptr; terminal Star /\\*/; terminal Eq /=/; terminal Id /[a-z]+/; \
     nonterminal S; nonterminal L; nonterminal R; start S; \
     concrete assign : S ::= l : L e : Eq r : R { } \
@@ -84,14 +84,15 @@ static ASSIGNMENTS: &str =
     concrete ofl : R ::= l : L { }";
 
 // A word that is a keyword where one can come.
-static KEYWORDS: &str =
+pub(crate) static KEYWORDS: &str =
     "format 1; host kw; ignore Space /[ ]+/; terminal If /if/; terminal Id /[a-z]+/; prefer If over Id; \
     nonterminal S; start S; \
     concrete one : S ::= k : If x : Id { } \
     concrete two : S ::= x : Id { }";
 
 // A list that may be empty.
-static LISTS: &str = "format 1; host list; ignore Space /[ \\n]+/; terminal Num /[0-9]+/; \
+pub(crate) static LISTS: &str =
+    "format 1; host list; ignore Space /[ \\n]+/; terminal Num /[0-9]+/; \
     nonterminal L; start L; \
     concrete none : L ::= { } \
     concrete more : L ::= a : L n : Num { }";

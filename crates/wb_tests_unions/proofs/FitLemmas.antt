@@ -35,7 +35,7 @@ use Rattle.wb_operations.specs.Operations.{OperationSignature}
 use Rattle.wb_syntax_resolved.specs.declared.resolved.ResolvedParts.{ResolvedParts}
 use Rattle.wb_tests_unions.specs.declared.found.Both.{Both}
 use Rattle.wb_tests_unions.specs.declared.found.Own.{Own}
-use Rattle.wb_tests_unions.specs.Found.{AreBoth, AreFor, FitsBeside, IsOwn, extensible_in, kernels_in}
+use Rattle.wb_tests_unions.specs.Inner.Found.{AreBoth, AreFor, FitsBeside, IsOwn, extensible_in, kernels_in}
 
 -- an extension that was certified with the host, in the host's words
 pub both_with : (host : CertifiedView) (e : ExtensionView) (h g : GrammarView) → IsWith host e → host.resolved.grammar ≡ Some h

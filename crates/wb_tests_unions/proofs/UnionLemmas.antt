@@ -40,9 +40,9 @@ use Rattle.wb_syntax_resolved.specs.declared.resolved.ResolvedParts.{ResolvedPar
 use Rattle.wb_tests_unions.specs.declared.found.Found.{Found}
 use Rattle.wb_tests_unions.specs.declared.found.Own.{Own}
 use Rattle.wb_tests_unions.specs.declared.lent.Lent.{Lent}
-use Rattle.wb_tests_unions.specs.Found.{FitsBeside, IsFoundBeside, IsFoundBy, IsOwn, extensible_in, kernels_in}
-use Rattle.wb_tests_unions.specs.Lent.{AreSetsFor, IsAdded, IsLentBeside, IsLentFrom, IsPartBeside, IsPartFrom, IsReady, IsUnion, grammar_of}
-use Rattle.wb_tests_unions.specs.Lent.{grammar_or}
+use Rattle.wb_tests_unions.specs.Inner.Found.{FitsBeside, IsFoundBeside, IsFoundBy, IsOwn, extensible_in, kernels_in}
+use Rattle.wb_tests_unions.specs.Inner.Lent.{AreSetsFor, IsAdded, IsLentBeside, IsLentFrom, IsPartBeside, IsPartFrom, IsReady, IsUnion, grammar_of}
+use Rattle.wb_tests_unions.specs.Inner.Lent.{grammar_or}
 
 -- what is lent of what was found of an extension
 pub lent_beside : (own : Own) (e : ExtensionView) (found : Found) (lent : Lent) → IsFoundBeside own e found → IsLentFrom own found lent

@@ -1,8 +1,4 @@
 -- words of `wb_compose` that callers speak of
 pub use Rattle.wb_compose.specs.Composed
--- what is found of a certified extension
-pub mod Found
--- the same as it is lent to a union, and the union's grammar
-pub mod Lent
--- kernels with their lookaheads and tables
-pub mod Made
+-- words of private functions
+pub mod Inner

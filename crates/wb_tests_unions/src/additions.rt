@@ -3,7 +3,7 @@
 ghost use Rattle.std.specs.Prelude.{All, IfOk};
 ghost use Rattle.std.specs.List.{AllZip};
 ghost use Rattle.wb_compose_theory_grammar.specs.Pieces.{Extends};
-ghost use Rattle.wb_tests_unions.specs.Lent.{IsAdded, IsUnion, grammar_of};
+ghost use Rattle.wb_tests_unions.specs.Inner.Lent.{IsAdded, IsUnion, grammar_of};
 
 use crate::found::Own;
 use std::alloc::{AllocError, Global};

@@ -5,7 +5,7 @@ ghost use Rattle.std.specs.List.{AllZip};
 ghost use Rattle.wb_compose.specs.Composed.{IsWith};
 ghost use Rattle.wb_compose_kernels.specs.Lent.{numbers_of};
 ghost use Rattle.wb_determinism_kernels.specs.NewKernels.{AreNewKernels};
-ghost use Rattle.wb_tests_unions.specs.Found.{AreBoth, AreFor, IsFoundBeside, IsFoundIn, IsOwn, kernels_in};
+ghost use Rattle.wb_tests_unions.specs.Inner.Found.{AreBoth, AreFor, IsFoundBeside, IsFoundIn, IsOwn, kernels_in};
 
 use crate::images::images_of;
 use std::alloc::{AllocError, Global};

@@ -3,8 +3,8 @@
 ghost use Rattle.std.specs.Prelude.{◌≡◌, All, IfOk};
 ghost use Rattle.std.specs.List.{AllZip};
 ghost use Rattle.wb_grammar.specs.Facts.{AreFacts};
-ghost use Rattle.wb_tests_unions.specs.Found.{IsOwn};
-ghost use Rattle.wb_tests_unions.specs.Lent.{AreSetsFor, IsLentFrom, IsPartFrom, IsReady};
+ghost use Rattle.wb_tests_unions.specs.Inner.Found.{IsOwn};
+ghost use Rattle.wb_tests_unions.specs.Inner.Lent.{AreSetsFor, IsLentFrom, IsPartFrom, IsReady};
 
 use crate::found::{Found, Own};
 use std::alloc::{AllocError, Global};

@@ -6,9 +6,9 @@ ghost use Rattle.wb_compose.specs.Composed.{IsWith};
 ghost use Rattle.wb_compose_kernels.specs.Lent.{AreSetsOf, AreSpliceable};
 ghost use Rattle.wb_grammar.specs.Facts.{AreFacts};
 ghost use Rattle.wb_items.specs.LookaheadSets.{AreLookaheads};
-ghost use Rattle.wb_tests_unions.specs.Found.{IsFoundBeside, IsOwn};
-ghost use Rattle.wb_tests_unions.specs.Lent.{AreSetsFor, IsLentBeside, IsPartBeside};
-ghost use Rattle.wb_tests_unions.specs.Made.{IsMade};
+ghost use Rattle.wb_tests_unions.specs.Inner.Found.{IsFoundBeside, IsOwn};
+ghost use Rattle.wb_tests_unions.specs.Inner.Lent.{AreSetsFor, IsLentBeside, IsPartBeside};
+ghost use Rattle.wb_tests_unions.specs.Inner.Made.{IsMade};
 
 use crate::additions::union_of;
 use crate::found::{Found, Own, founds_of};

@@ -5,7 +5,7 @@
 ghost use Rattle.std.specs.Prelude.{◌≡◌, ◌<◌, length};
 ghost use Rattle.wb_items.specs.Kernels.{count_of};
 ghost use Rattle.wb_lookahead.specs.Contents.{size_of};
-ghost use Rattle.wb_tests_unions.specs.Made.{IsMade};
+ghost use Rattle.wb_tests_unions.specs.Inner.Made.{IsMade};
 
 use crate::made::Made;
 use std::alloc::{AllocError, Global};

@@ -1,7 +1,7 @@
 use Rattle.std.proofs.Common.{◌+◌, subst, sym, take}
 use Rattle.std.specs.List.{AllZip}
 use Rattle.wb_names_rows.proofs.ZipLemmas.{zip_more}
-use Rattle.wb_tests_unions.specs.Lent.{IsAdded}
+use Rattle.wb_tests_unions.specs.Inner.Lent.{IsAdded}
 use Rattle.wb_tests_unions.proofs.additions.additions_of.Goals as goal
 
 pub extensions-preserved : goal.extensions-preserved

@@ -1,6 +1,6 @@
 use Rattle.std.proofs.Common.{take}
 use Rattle.std.specs.List.{AllZip}
-use Rattle.wb_tests_unions.specs.Lent.{IsAdded}
+use Rattle.wb_tests_unions.specs.Inner.Lent.{IsAdded}
 use Rattle.wb_tests_unions.proofs.additions.additions_of.Given as goal
 
 abbrev pub invariant-extensions : goal.invariant-extensions

@@ -8,7 +8,7 @@ use Rattle.wb_compose_language.specs.declared.addition.Addition.{Addition}
 use Rattle.wb_compose_language.specs.Additions.{grammar_in}
 use Rattle.wb_compose_theory_grammar.specs.Pieces.{Extends}
 use Rattle.wb_compose_theory_grammar.specs.Unions.{union_of}
-use Rattle.wb_tests_unions.specs.Lent.{IsAdded, IsUnion}
+use Rattle.wb_tests_unions.specs.Inner.Lent.{IsAdded, IsUnion}
 use Rattle.wb_tests_unions.proofs.UnionLemmas.{additions_extend, union_is}
 use Rattle.wb_tests_unions.proofs.additions.union_of.Goals as goal
 

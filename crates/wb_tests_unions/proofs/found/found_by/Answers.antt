@@ -4,7 +4,7 @@ use Rattle.std.specs.Prelude.{IsSome}
 use Rattle.wb_base.specs.Grammar.{GrammarView}
 use Rattle.wb_determinism_kernels.specs.NewKernels.{AreNewKernels}
 use Rattle.wb_syntax_resolved.specs.declared.resolved.ResolvedParts.{ResolvedParts}
-use Rattle.wb_tests_unions.specs.Found.{AreFor, kernels_in}
+use Rattle.wb_tests_unions.specs.Inner.Found.{AreFor, kernels_in}
 use Rattle.wb_tests_unions.proofs.FitLemmas.{are_for, fits_is, made_is, nonterminals_within, productions_within, terminals_within}
 use Rattle.wb_tests_unions.proofs.found.found_by.Goals as goal
 

@@ -4,7 +4,7 @@ use Rattle.std.proofs.lemmas.Result.{IfOk-weaker}
 use Rattle.wb_certify.specs.Kept.{AreCertifiedBoth}
 use Rattle.wb_syntax_resolved.specs.declared.resolved.ResolvedParts.{ResolvedParts}
 use Rattle.wb_tests_unions.specs.declared.found.Found.{Found}
-use Rattle.wb_tests_unions.specs.Found.{IsFoundBeside, IsFoundIn}
+use Rattle.wb_tests_unions.specs.Inner.Found.{IsFoundBeside, IsFoundIn}
 use Rattle.wb_tests_unions.proofs.FitLemmas.{both_with}
 use Rattle.wb_tests_unions.proofs.found.found_of.Goals as goal
 

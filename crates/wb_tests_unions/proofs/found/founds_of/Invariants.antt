@@ -1,6 +1,6 @@
 use Rattle.std.proofs.Common.{take}
 use Rattle.std.specs.List.{AllZip}
-use Rattle.wb_tests_unions.specs.Found.{IsFoundBeside}
+use Rattle.wb_tests_unions.specs.Inner.Found.{IsFoundBeside}
 use Rattle.wb_tests_unions.proofs.found.founds_of.Given as goal
 
 abbrev pub invariant-extensions : goal.invariant-extensions

@@ -4,7 +4,7 @@ use Rattle.std.proofs.lemmas.Result.{IfOk-weaker}
 use Rattle.wb_determinism_host.specs.declared.parts.HostParts.{HostParts}
 use Rattle.wb_determinism_kernels.specs.Given.{IsGiven}
 use Rattle.wb_determinism_kernels.specs.NewKernels.{AreNewKernels, NewKernelsView}
-use Rattle.wb_tests_unions.specs.Found.{kernels_in}
+use Rattle.wb_tests_unions.specs.Inner.Found.{kernels_in}
 use Rattle.wb_tests_unions.proofs.FitLemmas.{given_is, host_own}
 use Rattle.wb_tests_unions.proofs.found.new_of.Goals as goal
 

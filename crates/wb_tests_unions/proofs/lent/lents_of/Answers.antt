@@ -1,7 +1,7 @@
 use Rattle.std.proofs.Common.{◌+◌, subst, sym, take}
 use Rattle.std.specs.List.{AllZip}
 use Rattle.wb_names_rows.proofs.ZipLemmas.{zip_more}
-use Rattle.wb_tests_unions.specs.Lent.{IsLentFrom}
+use Rattle.wb_tests_unions.specs.Inner.Lent.{IsLentFrom}
 use Rattle.wb_tests_unions.proofs.lent.lents_of.Goals as goal
 
 pub founds-preserved : goal.founds-preserved

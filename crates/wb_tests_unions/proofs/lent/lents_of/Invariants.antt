@@ -1,6 +1,6 @@
 use Rattle.std.proofs.Common.{take}
 use Rattle.std.specs.List.{AllZip}
-use Rattle.wb_tests_unions.specs.Lent.{IsLentFrom}
+use Rattle.wb_tests_unions.specs.Inner.Lent.{IsLentFrom}
 use Rattle.wb_tests_unions.proofs.lent.lents_of.Given as goal
 
 abbrev pub invariant-founds : goal.invariant-founds

@@ -1,6 +1,6 @@
 use Rattle.std.proofs.Common.{take}
 use Rattle.std.specs.List.{AllZip}
-use Rattle.wb_tests_unions.specs.Lent.{IsPartFrom}
+use Rattle.wb_tests_unions.specs.Inner.Lent.{IsPartFrom}
 use Rattle.wb_tests_unions.proofs.lent.parts_of.Given as goal
 
 abbrev pub invariant-lents : goal.invariant-lents

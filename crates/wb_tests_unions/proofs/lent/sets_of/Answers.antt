@@ -1,7 +1,7 @@
 use Rattle.std.proofs.Common.{◌+◌, subst, sym, take}
 use Rattle.std.specs.List.{AllZip}
 use Rattle.wb_names_rows.proofs.ZipLemmas.{zip_more}
-use Rattle.wb_tests_unions.specs.Lent.{AreSetsFor}
+use Rattle.wb_tests_unions.specs.Inner.Lent.{AreSetsFor}
 use Rattle.wb_tests_unions.proofs.lent.sets_of.Goals as goal
 
 pub parts-preserved : goal.parts-preserved

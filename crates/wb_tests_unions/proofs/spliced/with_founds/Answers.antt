@@ -1,8 +1,8 @@
 -- What is lent is of the extensions.
 use Rattle.std.proofs.Common.{sym, subst}
 use Rattle.std.specs.List.{AllZip}
-use Rattle.wb_tests_unions.specs.Found.{IsFoundBeside}
-use Rattle.wb_tests_unions.specs.Lent.{IsLentBeside, IsLentFrom}
+use Rattle.wb_tests_unions.specs.Inner.Found.{IsFoundBeside}
+use Rattle.wb_tests_unions.specs.Inner.Lent.{IsLentBeside, IsLentFrom}
 use Rattle.wb_tests_unions.proofs.UnionLemmas.{lent_beside}
 use Rattle.wb_tests_unions.proofs.ZipLemmas.{zip_through}
 use Rattle.wb_tests_unions.proofs.spliced.with_founds.Goals as goal

@@ -1,7 +1,7 @@
 -- What is taken is of the extensions.
 use Rattle.std.proofs.Common.{sym, subst}
 use Rattle.std.specs.List.{AllZip}
-use Rattle.wb_tests_unions.specs.Lent.{IsLentBeside, IsPartBeside, IsPartFrom}
+use Rattle.wb_tests_unions.specs.Inner.Lent.{IsLentBeside, IsPartBeside, IsPartFrom}
 use Rattle.wb_tests_unions.proofs.UnionLemmas.{part_beside}
 use Rattle.wb_tests_unions.proofs.ZipLemmas.{zip_through}
 use Rattle.wb_tests_unions.proofs.spliced.with_lents.Goals as goal

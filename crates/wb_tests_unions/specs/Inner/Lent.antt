@@ -12,7 +12,7 @@ use Rattle.wb_determinism_lookaheads.specs.NewLookaheads.{AreHolesAlone, AreNewL
 use Rattle.wb_tests_unions.specs.declared.found.Found.{Found}
 use Rattle.wb_tests_unions.specs.declared.found.Own.{Own}
 use Rattle.wb_tests_unions.specs.declared.lent.Lent.{Lent}
-use Rattle.wb_tests_unions.specs.Found.{IsFoundBy, kernels_in}
+use Rattle.wb_tests_unions.specs.Inner.Found.{IsFoundBy, kernels_in}
 
 -- this is lent of what was found
 pub record IsLentFrom (own : Own) (found : Found) (lent : Lent) : Type 0 where
