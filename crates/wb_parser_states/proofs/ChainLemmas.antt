@@ -1,5 +1,5 @@
 -- Chains of reductions of one symbol each, and what they make of states.
-use Rattle.std.proofs.Common.{◌≡◌, ◌<◌, ◌≤◌, ◌-◌, ◌+◌, ◌⊎◌, ℕ, List, [], ◌∷◌, ◌++◌, length, take, refl, sym, ◌∙◌, ap, subst, inl, inr, arith, length-append}
+use Rattle.std.proofs.Common.{◌≡◌, ◌<◌, ◌≤◌, ◌-◌, ◌⊎◌, ℕ, List, [], ◌∷◌, ◌++◌, length, take, refl, sym, ◌∙◌, ap, subst, inl, inr, arith, length-append}
 use Rattle.std.specs.Prelude.{Some, slice_get}
 use Rattle.std.proofs.lemmas.Option.{same_Some}
 use Rattle.wb_lemmas.proofs.Parts.{take_append}
@@ -25,7 +25,7 @@ use Rattle.wb_parser_states.specs.Inner.Coded.{IsCodedEnd}
 use Rattle.wb_parser_states.specs.Inner.Followed.{IsChainEnd, IsChainOf, IsKey}
 use Rattle.wb_parser_states.specs.Rules.{IsRule}
 use Rattle.wb_parser_states.specs.Stacks.{IsMoved, last_or}
-use Rattle.wb_parser_states.specs.Inner.Carried.{CarryOver}
+use Rattle.wb_parser_states.specs.Steps.{CarryOver}
 use Rattle.wb_parser_states.proofs.StateLemmas.{top_pushed}
 use Rattle.wb_parser_states.proofs.StepLemmas.{goto_there, reduce_case}
 use Rattle.wb_parser_states.proofs.TableLemmas.{IsActionBelow, action_below, goto_below}

@@ -2,7 +2,7 @@
 use Rattle.std.proofs.Common.{◌≡◌, ℕ, List, [], ◌∷◌, ◌++◌, refl, sym, ◌∙◌, ap, subst}
 use Rattle.wb_base.specs.declared.symbol.Symbol.{Symbol}
 use Rattle.wb_base.specs.declared.symbol.Symbol.TheVariants.{Terminal}
-use Rattle.wb_grammar_theory.specs.Trees.{Forest, Leaf, leaves, nothing, leaf, symbols}
+use Rattle.wb_grammar_theory.specs.Trees.{Forest, Leaf, nothing, leaf, symbols}
 use Rattle.wb_scan_theory.specs.Tokens.{Next, NextToken, token}
 use Rattle.wb_scan_theory.specs.Facts.{IsLanguage}
 use Rattle.wb_scan_theory.specs.Parts.{AreTablesOf, IsPrefixOf}

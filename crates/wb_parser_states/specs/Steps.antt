@@ -1,10 +1,11 @@
 -- What states stand for on a text, and what can be done on the terminal that is next.
-use Rattle.std.specs.Prelude.{◌≡◌, ◌<◌, ◌++◌, ◌∷◌, ℕ, List, []}
+use Rattle.std.specs.Prelude.{◌≡◌, ◌<◌, ◌≤◌, ◌++◌, ◌∷◌, ℕ, List, [], All, length, take}
 use Rattle.wb_base.specs.declared.symbol.Symbol.{Symbol}
 use Rattle.wb_base.specs.declared.symbol.Symbol.TheVariants.{Terminal, Nonterminal}
 use Rattle.wb_grammar_theory.specs.Productions.{end_of}
 use Rattle.wb_grammar_theory.specs.Trees.{Forest, Leaf, leaves, symbols}
 use Rattle.wb_grammar_theory.specs.Lookaheads.{CanShift, CanReduce}
+use Rattle.wb_lookahead.specs.Contents.{size_of}
 use Rattle.wb_scan_theory.specs.Tokens.{Next, NextToken}
 use Rattle.wb_scan_theory.specs.Readings.{Gives}
 use Rattle.wb_scan_theory.specs.Parts.{IsPrefixOf}
@@ -12,6 +13,8 @@ use Rattle.wb_scan_theory.specs.Machine.{Keeps}
 use Rattle.wb_scan.specs.Views.{LanguageParts}
 use Rattle.wb_parser_states.specs.declared.outcome.Outcome.{Outcome}
 use Rattle.wb_parser_states.specs.declared.outcome.Outcome.TheVariants.{Shifts, Accepts, Stops}
+use Rattle.wb_parser_states.specs.declared.within.Reached.{Reached}
+use Rattle.wb_parser_states.specs.declared.within.Reached.TheVariants as reached
 use Rattle.wb_parser_states.specs.Stacks.{AreStates}
 
 -- the states are those of a stack of trees over these leaves, which the machine keeps up to a prefix and a place of the text
@@ -62,3 +65,21 @@ abbrev pub ShiftsBelow : ℕ → Outcome → Type 0
 ShiftsBelow count (Shifts target) = target < count
 ShiftsBelow count Accepts = Unit {0}
 ShiftsBelow count Stops = Unit {0}
+
+-- on each text on which the one states were at a place, with the terminal next there, the others are at it too, over the same leaves
+abbrev pub CarryOver : LanguageParts → ℕ → List ℕ → List ℕ → Type 0
+CarryOver parts t states states' =
+    (text : List ℕ) (read : List Leaf) (prefix : List Symbol) (at place : ℕ) (next : Next) → NextToken parts.language text prefix at next →
+    Gives parts.language.grammar next t place → AreAt parts text states read prefix at → AreAt parts text states' read prefix at
+
+-- so many of the others are there, which are states of the tables, and they carry over what the one states stood for
+pub record AreReached (parts : LanguageParts) (t : ℕ) (states states' : List ℕ) (kept : ℕ) : Type 0 where
+  pub within : kept ≤ length states'
+  pub below : All (λ s. s < size_of parts.tables) (take kept states')
+  pub carries : CarryOver parts t states (take kept states')
+
+-- what is reached says of the first of the others: the terminal can be shifted, to a state of the tables; or nothing more
+abbrev pub IsReached : LanguageParts → ℕ → List ℕ → List ℕ → Reached → Type 0
+IsReached parts t states states' (reached.Shifts kept target) =
+    AreReached parts t states states' kept × (target < size_of parts.tables) × HasOutcome parts t states (take kept states') (Shifts target)
+IsReached parts t states states' (reached.Asks kept) = AreReached parts t states states' kept

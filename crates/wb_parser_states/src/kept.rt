@@ -35,12 +35,13 @@ pub(crate) struct CodedEnd {
     pub(crate) code: u32,
 }
 
-// The place for a key. Keys that differ in their terminal alone are side by side, as those that are used in turn often do.
+// The place for a key. Keys that differ in their terminal alone are side by side, as those that are used in turn often do. The factors are
+// small, since each reduction waits for its place, and odd, so that each bit of a number tells.
 #[inline]
 pub(crate) fn place_of(key: Key) -> usize {
-    let below = key.below.wrapping_mul(2_654_435_761);
-    let from = key.from.wrapping_mul(2_246_822_519);
-    (below.wrapping_add(from) >> 18).wrapping_add(key.terminal) % PLACES
+    let below = key.below.wrapping_mul(769);
+    let from = key.from.wrapping_mul(4_001);
+    below.wrapping_add(from).wrapping_add(key.terminal) % PLACES
 }
 
 // A key as a number, where its numbers fit.

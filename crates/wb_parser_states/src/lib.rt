@@ -13,10 +13,12 @@ mod reductions;
 mod rules;
 mod stack;
 mod step;
+mod within;
 
 pub use moves::move_states;
 pub use outcome::Outcome;
 pub use reductions::{Reductions, reductions_of};
 pub use rules::{Rule, rules_of};
-pub use stack::top;
+pub use stack::{put_at, top};
 pub use step::reduce_states;
+pub use within::{Reached, reduce_within};

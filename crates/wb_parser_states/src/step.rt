@@ -11,8 +11,7 @@ ghost use Rattle.wb_parser_states.specs.Chains.{IsRuleAction};
 ghost use Rattle.wb_parser_states.specs.Codes.{IsCodeOf};
 ghost use Rattle.wb_parser_states.specs.Kept.{AreReductions};
 ghost use Rattle.wb_parser_states.specs.Stacks.{last_or};
-ghost use Rattle.wb_parser_states.specs.Steps.{HasOutcome, ShiftsBelow};
-ghost use Rattle.wb_parser_states.specs.Inner.Carried.{CarryOver};
+ghost use Rattle.wb_parser_states.specs.Steps.{CarryOver, HasOutcome, ShiftsBelow};
 
 use crate::Outcome;
 use crate::chains::{Key, RuleAction};

@@ -1,7 +1,6 @@
 -- What follows of what was found, for a language with attributes that is extended.
 use Rattle.std.proofs.Common.{Bool, List, ℕ, Result, Ok, Err}
 use Rattle.std.specs.Prelude.{IfOk}
-use Rattle.wb_compose_theory_attributes.specs.Numbers.{NumberMap}
 use Rattle.wb_reading_theory.proofs.ReadingLemmas.{same_reading}
 use Rattle.wb_scan_theory.specs.Facts.{IsLanguage}
 use Rattle.wb_scan_theory.specs.Languages.{LanguageView}

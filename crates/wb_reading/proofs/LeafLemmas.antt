@@ -1,6 +1,8 @@
 -- What becomes of a leaf: what was scanned is next after leaves without markers, and is read, a marker, or the end of the walk.
-use Rattle.std.proofs.Common.{◌≡◌, ◌<◌, ◌≤◌, ℕ, Bool, List, [], ◌∷◌, ◌++◌, length, refl, sym, ◌∙◌, subst, arith, slice_range}
+use Rattle.std.proofs.Common.{◌≡◌, ◌<◌, ◌≤◌, ℕ, Bool, List, [], ◌∷◌, ◌++◌, length, take, refl, sym, ◌∙◌, ap, subst, arith, slice_range}
 use Rattle.std.specs.Prelude.{All}
+use Rattle.std.proofs.Math.Seq.{take-append_seam}
+use Rattle.std.proofs.lemmas.List.{take_all}
 use Rattle.std.proofs.lemmas.List.Elements.{All-push}
 use Rattle.wb_base.specs.declared.symbol.Symbol.{Symbol}
 use Rattle.wb_termset.specs.Sets.{IsMember}
@@ -18,7 +20,7 @@ use Rattle.wb_scan.specs.declared.scanned.Scanned.TheVariants.{Token, End, NoTok
 use Rattle.wb_parser_states.specs.declared.outcome.Outcome.{Outcome}
 use Rattle.wb_parser_states.specs.declared.outcome.Outcome.TheVariants.{Shifts, Accepts, Stops}
 use Rattle.wb_parser_states.specs.Stacks.{last_or}
-use Rattle.wb_parser_states.specs.Steps.{AreAt, HasOutcome, IsOutcome}
+use Rattle.wb_parser_states.specs.Steps.{AreAt, AreReached, HasOutcome, IsOutcome}
 use Rattle.wb_parser_states.proofs.ReadyLemmas.{first_ready, scanned, shifted}
 use Rattle.wb_parser_states.proofs.StateLemmas.{top_pushed}
 use Rattle.wb_reading_theory.specs.Markers.{HasNoMarker, IsMarkerAt, IsPlain}
@@ -26,7 +28,9 @@ use Rattle.wb_reading_theory.proofs.EndLemmas.{stack_marker}
 use Rattle.wb_reading_theory.proofs.TreeLemmas.{plain_joined}
 use Rattle.wb_reading.specs.declared.ahead.Ahead.TheVariants.{Marker, Leaf as OtherLeaf, NoLeaf}
 use Rattle.wb_reading.specs.declared.leaf.Round.TheVariants.{Goes}
-use Rattle.wb_reading.specs.Inner.Walks.{AreSound, HasRead, IsAhead, StaysSound}
+use Rattle.wb_reading.specs.declared.leaf.Stop.{Stop}
+use Rattle.wb_reading.specs.declared.leaf.Stop.TheVariants.{Asks, Done}
+use Rattle.wb_reading.specs.Inner.Walks.{AreSound, HasRead, IsAhead, IsAsked, StaysSound, StopsSound}
 use Rattle.wb_reading.proofs.WalkLemmas.{ended_plain, stuck_plain}
 
 -- leaves without markers were read up to the place, and this is next
@@ -151,20 +155,87 @@ module _ (parts : LanguageParts) (markers : List Bool) (text : List ℕ) where
         (subst (HasNoMarker markers) (sym stuck.are.leaves_are) n.plain) begin t lexeme after n.is_next unmarked stuck.no_shift
         stuck.no_reduction
 
-  -- where a leaf was shifted, the states are those of the tables, and the text goes on further, at the state on top
-  pub stays_sound : (states states' pushed : List ℕ) (at : ℕ) (answer : Scanned) (t end target state : ℕ) → AreSound parts states →
-      All (λ s. s < size_of parts.tables) states' → pushed ≡ states' ++ target ∷ [] → target < size_of parts.tables →
+  -- a leaf that is ahead is asked for at the states that are reached
+  pub leaf_asked : (states others : List ℕ) (at kept : ℕ) (answer : Scanned) (t end : ℕ) →
+      IsNext parts markers text states at (next_in text answer) → IsAhead markers answer (OtherLeaf t end) →
+      AreReached parts t states others kept → IsAsked parts markers text (take kept others) t end
+  leaf_asked states others at kept answer t end n is reached =
+      let leaf = leaf_ahead markers text answer t end is in
+      let next = subst (IsNext parts markers text states at) leaf.is n in
+      record {
+        read = next.read;
+        plain = next.plain;
+        prefix = next.prefix;
+        at = at;
+        are = reached.carries text next.read next.prefix at leaf.begin (token leaf.begin t leaf.lexeme end) next.is_next (refl, refl) next.are;
+        begin = leaf.begin;
+        lexeme = leaf.lexeme;
+        is_next = next.is_next;
+        unmarked = leaf.unmarked;
+      }
+
+  -- and it is of the grammar, and ends further on
+  pub stops_sound : (states others : List ℕ) (at kept : ℕ) (answer : Scanned) (t end : ℕ) → AreSound parts states →
       IsInside parts.language.grammar.terminals (length text) at answer → IsAhead markers answer (OtherLeaf t end) →
-      state ≡ target → StaysSound parts (length text) at pushed (Goes end state)
-  stays_sound states states' pushed at answer t end target state sound below pushed_is lt inside is state_is =
-      let bounds = leaf_inside markers text answer parts.language.grammar.terminals (length text) at t end inside is in (
-        record {
-          language = sound.language;
-          tables_of = sound.tables_of;
-          states_below = subst (All (λ s. s < size_of parts.tables)) (sym pushed_is)
-              (All-push (λ s. s < size_of parts.tables) states' target below lt);
-        },
+      AreReached parts t states others kept → StopsSound parts (length text) at others (Asks kept t end)
+  stops_sound states others at kept answer t end sound inside is reached =
+      let bounds = leaf_inside markers text answer parts.language.grammar.terminals (length text) at t end inside is in
+      let below : t < parts.language.grammar.terminals = bounds.below in (
+        record { language = sound.language; tables_of = sound.tables_of; states_below = reached.below },
         bounds.on,
         bounds.within,
-        state_is ∙ top_pushed states' pushed target pushed_is,
+        omega (arith, below),
       )
+
+  -- what is asked for is next
+  pub asked_next : (states : List ℕ) (t after : ℕ) (asked : IsAsked parts markers text states t after) →
+      IsNext parts markers text states asked.at (token asked.begin t asked.lexeme after)
+  asked_next states t after asked = record {
+    read = asked.read;
+    plain = asked.plain;
+    prefix = asked.prefix;
+    are = asked.are;
+    is_next = asked.is_next;
+  }
+
+  -- with one state of the tables more, the states are those of the tables
+  pub sound_pushed : (states states' pushed : List ℕ) (target : ℕ) → AreSound parts states → All (λ s. s < size_of parts.tables) states' →
+      pushed ≡ states' ++ target ∷ [] → target < size_of parts.tables → AreSound parts pushed
+  sound_pushed states states' pushed target sound below pushed_is lt = record {
+    language = sound.language;
+    tables_of = sound.tables_of;
+    states_below = subst (All (λ s. s < size_of parts.tables)) (sym pushed_is) (All-push (λ s. s < size_of parts.tables) states' target below lt);
+  }
+
+  -- where a leaf was shifted, the first states are those of the tables, and the text goes on further, at the last of them
+  pub stays_sound : (states states' new : List ℕ) (count at : ℕ) (answer : Scanned) (t end target state : ℕ) → AreSound parts states →
+      All (λ s. s < size_of parts.tables) states' → take count new ≡ states' ++ target ∷ [] → count ≤ length new →
+      target < size_of parts.tables → IsInside parts.language.grammar.terminals (length text) at answer →
+      IsAhead markers answer (OtherLeaf t end) → state ≡ target → StaysSound parts (length text) at new (Goes end state count)
+  stays_sound states states' new count at answer t end target state sound below new_is count_le lt inside is state_is =
+      let bounds = leaf_inside markers text answer parts.language.grammar.terminals (length text) at t end inside is in (
+        sound_pushed states states' (take count new) target sound below new_is lt,
+        bounds.on,
+        bounds.within,
+        state_is ∙ top_pushed states' (take count new) target new_is,
+        count_le,
+      )
+
+-- what ends further on than a place does so than one before it
+pub stops_from : (parts : LanguageParts) (size from at : ℕ) (states : List ℕ) (stop : Stop) → from ≤ at → StopsSound parts size at states stop →
+    StopsSound parts size from states stop
+stops_from parts size from at states (Asks kept t end) le (sound, on, within, below) = (sound, omega (arith, on, le), within, below)
+stops_from parts size from at states (Done found) le sound = tt
+
+-- a list that was made longer begins with what it had
+pub begins_so : (old longer slice after : List ℕ) (count size : ℕ) → count ≡ length old → count ≤ size → longer ≡ take size old ++ after →
+    slice ≡ longer → take count slice ≡ old
+begins_so old longer slice after count size count_is le longer_is slice_is =
+    ap (take count) (slice_is ∙ (longer_is ∙ ap (λ z. z ++ after) (take_all size old (omega (arith, count_is, le))))) ∙
+    (ap (λ k. take k (old ++ after)) count_is ∙ take-append_seam old after)
+
+-- the first of what came into the place of a whole list
+pub first_of : (new after shorter : List ℕ) (size kept : ℕ) → length new ≡ size → shorter ≡ take kept (take size (new ++ after)) →
+    shorter ≡ take kept new
+first_of new after shorter size kept size_is is =
+    is ∙ ap (take kept) (ap (λ k. take k (new ++ after)) (sym size_is) ∙ take-append_seam new after)

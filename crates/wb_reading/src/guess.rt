@@ -37,13 +37,22 @@ pub(crate) fn guess_at(guesses: &[u32], place: usize) -> usize {
 }
 
 // The state to which a leaf led, as the guess where that was right. Where it wasn't, the state is the next guess.
-#[inline]
+#[inline(always)]
 pub(crate) fn confirmed(guesses: &mut [u32], place: usize, guess: usize, target: usize) -> usize
     ensures { result ≡ target }
 {
     if guess == target {
         return guess;
     }
+    corrected(guesses, place, target)
+}
+
+// The same where the guess was wrong. Out of line, since a compiler that sees that the answer is the target either way hands on the target,
+// and then the next leaf waits for the reductions.
+#[inline(never)]
+fn corrected(guesses: &mut [u32], place: usize, target: usize) -> usize
+    ensures { result ≡ target }
+{
     if place < guesses.len() && target < LIMIT {
         guesses[place] = target as u32;
     }

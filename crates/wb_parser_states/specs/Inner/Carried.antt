@@ -1,14 +1,13 @@
--- What states keep while reductions are made.
-use Rattle.std.specs.Prelude.{ℕ, List}
-use Rattle.wb_base.specs.declared.symbol.Symbol.{Symbol}
-use Rattle.wb_grammar_theory.specs.Trees.{Leaf}
-use Rattle.wb_scan_theory.specs.Tokens.{Next, NextToken}
-use Rattle.wb_scan_theory.specs.Readings.{Gives}
+-- What states keep while reductions are made in place.
+use Rattle.std.specs.Prelude.{ℕ, List, take}
+use Rattle.wb_lookahead.specs.Contents.{action_of}
 use Rattle.wb_scan.specs.Views.{LanguageParts}
-use Rattle.wb_parser_states.specs.Steps.{AreAt}
+use Rattle.wb_parser_states.specs.declared.within.Left.{Left}
+use Rattle.wb_parser_states.specs.Codes.{IsCodeOf}
+use Rattle.wb_parser_states.specs.Stacks.{last_or}
+use Rattle.wb_parser_states.specs.Steps.{AreReached}
 
--- on each text on which the one states were at a place, with the terminal next there, the others are at it too, over the same leaves
-abbrev pub CarryOver : LanguageParts → ℕ → List ℕ → List ℕ → Type 0
-CarryOver parts t states states' =
-    (text : List ℕ) (read : List Leaf) (prefix : List Symbol) (at place : ℕ) (next : Next) → NextToken parts.language text prefix at next →
-    Gives parts.language.grammar next t place → AreAt parts text states read prefix at → AreAt parts text states' read prefix at
+-- so many of the others are reached, and the code is that of the action at the last of them
+pub record AreLeft (parts : LanguageParts) (t : ℕ) (states states' : List ℕ) (left : Left) : Type 0 where
+  pub reached : AreReached parts t states states' left.kept
+  pub code : IsCodeOf parts.language.grammar (action_of parts.tables (last_or 0 (take left.kept states')) t) left.code

@@ -1,4 +1,4 @@
-use Rattle.std.proofs.Common.{◌<◌, length, refl, rules}
+use Rattle.std.proofs.Common.{◌<◌, length, rules}
 use Rattle.wb_parser_states.proofs.RuleLemmas.{no_rule, rule_within}
 use Rattle.wb_parser_states.proofs.chains.with_rule.Goals as goal
 

@@ -1,4 +1,4 @@
-use Rattle.std.proofs.Common.{◌≡◌, ◌∙◌, [], rules, ap, subst, sym}
+use Rattle.std.proofs.Common.{◌≡◌, [], rules, subst}
 use Rattle.std.specs.Prelude.{Some, slice_get}
 use Rattle.wb_parser_states.proofs.ChainLemmas.{all_more, none_more}
 use Rattle.wb_parser_states.proofs.kept.filled.Goals as goal

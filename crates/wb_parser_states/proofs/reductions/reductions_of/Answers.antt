@@ -1,4 +1,4 @@
-use Rattle.std.proofs.Common.{◌≡◌, ◌∙◌, [], rules, subst, sym, ap}
+use Rattle.std.proofs.Common.{◌≡◌, [], rules, subst}
 use Rattle.wb_parser_states.specs.Rules.{AreRules}
 use Rattle.wb_parser_states.proofs.ChainLemmas.{none_more}
 use Rattle.wb_parser_states.proofs.reductions.reductions_of.Goals as goal

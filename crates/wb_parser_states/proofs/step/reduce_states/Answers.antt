@@ -1,9 +1,7 @@
-use Rattle.std.proofs.Common.{◌<◌, ◌∙◌, ap, arith, subst, sym}
-use Rattle.std.specs.Prelude.{All}
+use Rattle.std.proofs.Common.{◌∙◌, ap, arith, subst}
 use Rattle.std.proofs.lemmas.Result.{IfOk-weaker}
-use Rattle.wb_lookahead.specs.Contents.{action_of, size_of}
+use Rattle.wb_lookahead.specs.Contents.{action_of}
 use Rattle.wb_lookahead.specs.declared.action.Action.TheVariants.{Shift}
-use Rattle.wb_parser_states.specs.Chains.{IsRuleAction}
 use Rattle.wb_parser_states.specs.Codes.{IsCodeOf}
 use Rattle.wb_parser_states.specs.Stacks.{last_or}
 use Rattle.wb_parser_states.specs.Steps.{HasOutcome}

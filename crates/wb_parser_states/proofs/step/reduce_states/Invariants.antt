@@ -4,7 +4,7 @@ use Rattle.wb_lookahead.specs.Contents.{action_of, size_of}
 use Rattle.wb_parser_states.specs.Codes.{IsCodeOf}
 use Rattle.wb_parser_states.specs.Kept.{AreReductions}
 use Rattle.wb_parser_states.specs.Stacks.{last_or}
-use Rattle.wb_parser_states.specs.Inner.Carried.{CarryOver}
+use Rattle.wb_parser_states.specs.Steps.{CarryOver}
 use Rattle.wb_parser_states.proofs.step.reduce_states.Given as goal
 
 abbrev pub invariant-reductions : goal.invariant-reductions

@@ -2,7 +2,7 @@ use Rattle.std.proofs.Common.{rules, ◌≡◌, ◌-◌, ◌++◌, ◌∷◌, []
 use Rattle.wb_lookahead.specs.Contents.{action_of, size_of}
 use Rattle.wb_parser_states.specs.Codes.{IsCodeOf}
 use Rattle.wb_parser_states.specs.Stacks.{last_or}
-use Rattle.wb_parser_states.specs.Inner.Carried.{CarryOver}
+use Rattle.wb_parser_states.specs.Steps.{CarryOver}
 use Rattle.wb_parser_states.proofs.ChainLemmas.{move_carries}
 use Rattle.wb_parser_states.proofs.StateLemmas.{pushed_below, top_below, top_pushed}
 use Rattle.wb_parser_states.proofs.TableLemmas.{zero_below}
