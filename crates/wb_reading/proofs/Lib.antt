@@ -1,4 +1,5 @@
 pub mod WalkLemmas
+pub mod HeldLemmas
 pub mod LeafLemmas
 pub mod AnswerLemmas
 -- lemmas of `wb_reading_theory` that callers cite

@@ -2,7 +2,7 @@
 
 ghost use Rattle.std.specs.Prelude.{◌↔◌, IsTrue};
 ghost use Rattle.wb_termset.specs.Sets.{IsMember};
-ghost use Rattle.wb_reading.specs.Inner.Walks.{IsAhead};
+ghost use Rattle.wb_reading.specs.Inner.Walks.{HasNoneBelow, IsAhead};
 
 use wb_scan::Scanned;
 use wb_termset::TermSet;
@@ -18,8 +18,19 @@ pub(crate) enum Ahead {
     NoLeaf,
 }
 
-// What is ahead, where this was scanned.
-pub(crate) fn ahead_of(markers: &TermSet, found: Scanned) -> Ahead
+// A number below which there is no marker, so that most leaves are told from markers by one comparison.
+pub(crate) fn least_of(markers: &TermSet) -> usize
+    ensures { HasNoneBelow markers.now result }
+{
+    match markers.next_member(0) {
+        Some(least) => least,
+        None => markers.count(),
+    }
+}
+
+// What is ahead, where this was scanned. No marker is below the least one.
+pub(crate) fn ahead_of(markers: &TermSet, least: usize, found: Scanned) -> Ahead
+    requires { HasNoneBelow markers.now least }
     ensures { IsAhead markers.now found result }
 {
     let Scanned::Token {
@@ -31,7 +42,7 @@ pub(crate) fn ahead_of(markers: &TermSet, found: Scanned) -> Ahead
     else {
         return Ahead::NoLeaf;
     };
-    if is_marker(markers, terminal) {
+    if is_marker(markers, least, terminal) {
         Ahead::Marker { at, terminal }
     } else {
         Ahead::Leaf { terminal, end }
@@ -39,8 +50,9 @@ pub(crate) fn ahead_of(markers: &TermSet, found: Scanned) -> Ahead
 }
 
 // Whether a terminal is one of these markers. A number that is too large for the set isn't.
-fn is_marker(markers: &TermSet, terminal: usize) -> bool
+fn is_marker(markers: &TermSet, least: usize, terminal: usize) -> bool
+    requires { HasNoneBelow markers.now least }
     ensures { IsTrue result ↔ IsMember markers.now terminal }
 {
-    terminal < markers.count() && markers.contains(terminal)
+    terminal >= least && terminal < markers.count() && markers.contains(terminal)
 }

@@ -6,12 +6,13 @@
 ghost use Rattle.std.specs.Prelude.{◌≡◌, ◌≤◌, length, take};
 ghost use Rattle.wb_parser_states.specs.Kept.{AreReductions};
 ghost use Rattle.wb_parser_states.specs.Stacks.{last_or};
-ghost use Rattle.wb_reading.specs.Inner.Walks.{AreSound, HasRead, IsRound, StaysSound};
+ghost use Rattle.wb_reading.specs.Inner.Walks.{AreSound, HasNoneBelow, HasRead, IsRound, StaysSound};
 
 use crate::HostReading;
 use crate::ahead::{Ahead, ahead_of};
 use crate::guess::{confirmed, guess_at, place_of};
-use wb_parser_states::{Reached, Reductions, put_at, reduce_within};
+use crate::held::reduce_at;
+use wb_parser_states::{Reached, Reductions, put_at};
 use wb_scan::{Language, scan_inline};
 use wb_termset::TermSet;
 
@@ -47,6 +48,7 @@ pub(crate) fn take_leaf(
     language: &Language,
     reductions: &mut Reductions,
     markers: &TermSet,
+    least: usize,
     text: &[u8],
     guesses: &mut [u32],
     states: &mut [usize],
@@ -54,6 +56,7 @@ pub(crate) fn take_leaf(
     state: usize,
     at: usize,
 ) -> Round
+    requires least { HasNoneBelow markers.now least }
     requires reductions { AreReductions language.now.language.grammar language.now.tables reductions.old }
     requires at { at ≤ length text.now }
     requires count { count ≤ length states.old }
@@ -65,7 +68,7 @@ pub(crate) fn take_leaf(
     ensures length { length states.new ≡ length states.old }
     ensures reductions { AreReductions language.now.language.grammar language.now.tables reductions.new }
 {
-    match ahead_of(markers, scan_inline(language, state, text, at)) {
+    match ahead_of(markers, least, scan_inline(language, state, text, at)) {
         Ahead::Marker {
             at: place,
             terminal,
@@ -79,7 +82,7 @@ pub(crate) fn take_leaf(
         Ahead::Leaf { terminal, end } => {
             let place = place_of(state, terminal);
             let guess = guess_at(guesses, place);
-            match reduce_within(language, reductions, states, count, terminal) {
+            match reduce_at(language, reductions, states, count, state, terminal) {
                 Reached::Asks { kept } => Round::Stops(Stop::Asks {
                     kept,
                     terminal,

@@ -6,6 +6,7 @@
 
 mod ahead;
 mod guess;
+mod held;
 mod leaf;
 mod reading;
 mod walk;

@@ -4,9 +4,10 @@ ghost use Rattle.std.specs.Prelude.{◌≡◌, ◌≤◌, [], IfOk, length, take
 ghost use Rattle.wb_parser_states.specs.Kept.{AreReductions};
 ghost use Rattle.wb_scan_theory.specs.Facts.{IsLanguage};
 ghost use Rattle.wb_reading.specs.Answers.{IsFirstMarker};
-ghost use Rattle.wb_reading.specs.Inner.Walks.{AreSound, HasRead, IsStop, IsTurn, StopsSound, TurnsSound};
+ghost use Rattle.wb_reading.specs.Inner.Walks.{AreSound, HasNoneBelow, HasRead, IsStop, IsTurn, StopsSound, TurnsSound};
 
 use crate::HostReading;
+use crate::ahead::least_of;
 use crate::guess::guesses_of;
 use crate::leaf::{Round, Stop, take_leaf};
 use std::alloc::{AllocError, Global};
@@ -62,9 +63,12 @@ fn read_all(
     ensures language { IsLanguage language.now.language }
 {
     let _tables = language.tables();
+    let least = least_of(markers);
     let mut at = 0;
     'turns: loop {
-        match take_turn(language, reductions, markers, text, guesses, states, at)? {
+        match take_turn(
+            language, reductions, markers, least, text, guesses, states, at,
+        )? {
             Turn::Goes(after) => at = after,
             Turn::Done(found) => return Ok(found),
         }
@@ -85,11 +89,13 @@ fn take_turn(
     language: &Language,
     reductions: &mut Reductions,
     markers: &TermSet,
+    least: usize,
     text: &[u8],
     guesses: &mut [u32],
     states: &mut Vec<usize>,
     at: usize,
 ) -> Result<Turn, AllocError>
+    requires least { HasNoneBelow markers.now least }
     requires reductions { AreReductions language.now.language.grammar language.now.tables reductions.old }
     requires at { at ≤ length text.now }
     requires sound { AreSound language.now states.old.items }
@@ -101,7 +107,7 @@ fn take_turn(
     let count = states.len();
     states.resize(count.saturating_add(ROOM), 0)?;
     match read_on(
-        language, reductions, markers, text, guesses, states, count, at,
+        language, reductions, markers, least, text, guesses, states, count, at,
     ) {
         Stop::Done(found) => Ok(Turn::Done(found)),
         Stop::Asks {
@@ -127,12 +133,14 @@ fn read_on(
     language: &Language,
     reductions: &mut Reductions,
     markers: &TermSet,
+    least: usize,
     text: &[u8],
     guesses: &mut [u32],
     states: &mut [usize],
     first: usize,
     from: usize,
 ) -> Stop
+    requires least { HasNoneBelow markers.now least }
     requires reductions { AreReductions language.now.language.grammar language.now.tables reductions.old }
     requires from { from ≤ length text.now }
     requires first { first ≤ length states.old }
@@ -148,7 +156,7 @@ fn read_on(
     let mut state = top(&states[..first]);
     'leaves: loop {
         match take_leaf(
-            language, reductions, markers, text, guesses, states, count, state, at,
+            language, reductions, markers, least, text, guesses, states, count, state, at,
         ) {
             Round::Goes {
                 after,

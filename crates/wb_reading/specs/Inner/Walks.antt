@@ -24,6 +24,10 @@ use Rattle.wb_reading.specs.declared.walk.Turn.{Turn}
 use Rattle.wb_reading.specs.declared.walk.Turn.TheVariants as turn
 use Rattle.wb_reading.specs.Answers.{IsFirstMarker}
 
+-- no number below is a marker
+abbrev pub HasNoneBelow : List Bool → ℕ → Type 0
+HasNoneBelow markers least = (n : ℕ) → n < least → ¬ IsMember markers n
+
 -- a token that was scanned is ahead: a marker with its place, or another leaf with the place after it
 abbrev pub IsTokenAhead : List Bool → ℕ → ℕ → ℕ → Ahead → Type 0
 IsTokenAhead markers t begin after (Marker at terminal) = IsMember markers t × (at ≡ begin) × (terminal ≡ t)
