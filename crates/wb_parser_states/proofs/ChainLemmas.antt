@@ -20,7 +20,7 @@ use Rattle.wb_parser_states.specs.declared.kept.CodedEnd.{CodedEnd}
 use Rattle.wb_parser_states.specs.declared.kept.Kept.{Kept}
 use Rattle.wb_parser_states.specs.declared.rules.Rule.{Rule}
 use Rattle.wb_parser_states.specs.Chains.{IsChain, IsMoveEnd, IsRuleAction, link, nothing}
-use Rattle.wb_parser_states.specs.Kept.{AreKept, end_of, key_of}
+use Rattle.wb_parser_states.specs.Kept.{AreKept, FitKeys, end_of, key_of}
 use Rattle.wb_parser_states.specs.Inner.Coded.{IsCodedEnd}
 use Rattle.wb_parser_states.specs.Inner.Followed.{IsChainEnd, IsChainOf, IsKey}
 use Rattle.wb_parser_states.specs.Rules.{IsRule}
@@ -150,12 +150,14 @@ move_ends g tables start target end leads is = record {
 -- so what is kept are ends of chains after that too
 pub kept_after : (g : GrammarView) (tables : TablesView) (old new : List Kept) (key : Key) (end : ChainEnd) →
     ((place : ℕ) (kept : Kept) → slice_get new place ≡ Some kept →
-    (slice_get old place ≡ Some kept) ⊎ ((key_of kept ≡ key) × (end_of kept ≡ end))) → AreKept g tables old → IsMoveEnd g tables key end →
-    AreKept g tables new
-kept_after g tables old new key end each are is place kept at = elim (each place kept at) [
+    (slice_get old place ≡ Some kept) ⊎ ((key_of kept ≡ key) × (end_of kept ≡ end))) → AreKept g tables old → FitKeys g tables →
+    IsMoveEnd g tables key end → AreKept g tables new
+kept_after g tables old new key end each are fit is place kept at = elim (each place kept at) [
   | inl before ↦ are place kept before
-  | inr (key_is, end_is) ↦
-      subst (λ z. IsMoveEnd g tables z (end_of kept)) (sym key_is) (subst (λ z. IsMoveEnd g tables key z) (sym end_is) is)
+  | inr (key_is, end_is) ↦ (
+    fit,
+    subst (λ z. IsMoveEnd g tables z (end_of kept)) (sym key_is) (subst (λ z. IsMoveEnd g tables key z) (sym end_is) is),
+  )
 ]
 
 -- nothing is at a place of an empty list

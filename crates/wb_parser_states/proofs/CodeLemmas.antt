@@ -100,4 +100,4 @@ module _ (g : GrammarView) (tables : TablesView) where
       IsCodedEnd g tables key end
   kept_found list place kept key end are at key_is end_is =
       subst (IsCodedEnd g tables key) (sym end_is) (end_coded key (end_of kept) (record { target = kept.target; code = kept.action })
-      (subst (λ z. IsMoveEnd g tables z (end_of kept)) key_is (are place kept at)) refl (λ some. refl))
+      (subst (λ z. IsMoveEnd g tables z (end_of kept)) key_is (are place kept at).1) refl (λ some. refl))

@@ -1,7 +1,7 @@
 -- What is kept of chains of reductions and of actions, with what reductions are made by.
-use Rattle.std.specs.Prelude.{◌≡◌, ◌/◌, ◌%◌, ℕ, List, Some, slice_get}
+use Rattle.std.specs.Prelude.{◌≡◌, ◌<◌, ◌≤◌, ◌/◌, ◌%◌, ℕ, List, Some, slice_get}
 use Rattle.wb_base.specs.Grammar.{GrammarView}
-use Rattle.wb_lookahead.specs.Contents.{TablesView}
+use Rattle.wb_lookahead.specs.Contents.{TablesView, size_of}
 use Rattle.wb_parser_states.specs.declared.chains.ChainEnd.{ChainEnd}
 use Rattle.wb_parser_states.specs.declared.chains.Key.{Key}
 use Rattle.wb_parser_states.specs.declared.kept.Kept.{Kept}
@@ -23,9 +23,16 @@ key_of kept = key_in kept.key
 abbrev pub end_of : Kept → ChainEnd
 end_of kept = record { target = kept.target; action = action_in kept.action }
 
--- each end that is kept is that of the chain from the state after the left side of its key
+-- there are so few states, nonterminals and terminals that each key has a number
+pub record FitKeys (g : GrammarView) (tables : TablesView) : Type 0 where
+  pub states : size_of tables ≤ 1048576
+  pub nonterminals : g.nonterminals ≤ 1048576
+  pub terminals : g.terminals < 16777216
+
+-- where an end is kept, keys have numbers, and it is that of the chain from the state after the left side of its key
 abbrev pub AreKept : GrammarView → TablesView → List Kept → Type 0
-AreKept g tables list = (place : ℕ) (kept : Kept) → slice_get list place ≡ Some kept → IsMoveEnd g tables (key_of kept) (end_of kept)
+AreKept g tables list = (place : ℕ) (kept : Kept) → slice_get list place ≡ Some kept →
+    FitKeys g tables × IsMoveEnd g tables (key_of kept) (end_of kept)
 
 -- the left sides and widths are those of the grammar's productions, and the ends of chains and the codes of actions those of its tables
 pub record AreReductions (g : GrammarView) (tables : TablesView) (reductions : Reductions) : Type 0 where

@@ -2,7 +2,7 @@
 //!
 //! Ends at which the text is accepted or stops aren't kept: a text comes to one of them at most.
 
-ghost use Rattle.std.specs.Prelude.{◌≡◌, ◌≢◌, ◌<◌, ◌%◌, ◌/◌, ℕ, IfSome, IsTrue, Some, slice_get};
+ghost use Rattle.std.specs.Prelude.{◌≡◌, ◌≢◌, ◌<◌, ◌≤◌, ◌%◌, ◌/◌, ℕ, IfSome, IsTrue, Some, slice_get};
 ghost use Rattle.wb_parser_states.specs.Codes.{action_in};
 ghost use Rattle.wb_parser_states.specs.Kept.{end_of, key_in, key_of};
 
@@ -14,10 +14,10 @@ use wb_base::push;
 // How many places there are for kept ends.
 const PLACES: usize = 16_384;
 
-// States and left sides from here on aren't kept.
+// Where there are more states or nonterminals than this, none is kept.
 const LIMIT: usize = 1_048_576;
 
-// Nor are terminals from here on.
+// Nor where there are as many terminals as this.
 const TERMINALS: usize = 16_777_216;
 
 // A key with its end, both as numbers.
@@ -44,16 +44,23 @@ pub(crate) fn place_of(key: Key) -> usize {
     below.wrapping_add(from).wrapping_add(key.terminal) % PLACES
 }
 
-// A key as a number, where its numbers fit.
-#[inline]
-pub(crate) fn number_of(key: Key) -> Option<u64>
-    ensures { IfSome result (λ number. key_in number ≡ key) }
+// Whether keys of so many states, nonterminals and terminals fit in a number. The end of a text is numbered after all terminals.
+pub(crate) fn fit_keys(states: usize, nonterminals: usize, terminals: usize) -> bool
+    ensures { IsTrue result → (states ≤ 1048576) × (nonterminals ≤ 1048576) × (terminals < 16777216) }
 {
-    if key.below >= LIMIT || key.from >= LIMIT || key.terminal >= TERMINALS {
-        return None;
-    }
+    states <= LIMIT && nonterminals <= LIMIT && terminals < TERMINALS
+}
+
+// A key as a number. Where keys fit is asked before an end is kept, and not when it is looked for.
+#[inline(always)]
+pub(crate) fn number_of(key: Key) -> u64
+    requires below { key.below < 1048576 }
+    requires from { key.from < 1048576 }
+    requires terminal { key.terminal < 16777216 }
+    ensures { key_in result ≡ key }
+{
     let rest = joined(key.from as u64, key.terminal as u64);
-    Some(joined(key.below as u64, rest))
+    joined(key.below as u64, rest)
 }
 
 // One number of two, of which the first is below 2^20 and the other below 2^44.
@@ -69,14 +76,14 @@ fn joined(low: u64, high: u64) -> u64
 }
 
 // Whether this is the key that is kept.
-#[inline]
+#[inline(always)]
 pub(crate) fn is_kept(kept: &Kept, key: Key) -> bool
+    requires below { key.below < 1048576 }
+    requires from { key.from < 1048576 }
+    requires terminal { key.terminal < 16777216 }
     ensures { IsTrue result → key_of kept.now ≡ key }
 {
-    match number_of(key) {
-        Some(number) => kept.key == number,
-        None => false,
-    }
+    kept.key == number_of(key)
 }
 
 // The end that is kept.
@@ -123,13 +130,16 @@ pub(crate) fn rule_in(code: u32) -> Rule
     }
 }
 
-// An end to be kept by its key, where it has a code and its numbers fit.
+// An end to be kept by its key, where it has a code and its target fits.
 pub(crate) fn kept_of(key: Key, end: ChainEnd) -> Option<Kept>
+    requires below { key.below < 1048576 }
+    requires from { key.from < 1048576 }
+    requires terminal { key.terminal < 16777216 }
     ensures key { IfSome result (λ kept. key_of kept ≡ key) }
     ensures end { IfSome result (λ kept. end_of kept ≡ end) }
 {
     Some(Kept {
-        key: number_of(key)?,
+        key: number_of(key),
         target: narrow(end.target)?,
         action: code_of(end.action)?,
     })

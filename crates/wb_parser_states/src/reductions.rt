@@ -5,14 +5,16 @@
 
 ghost use Rattle.std.specs.Prelude.{◌≡◌, ◌<◌, ◌≤◌, ◌⊎◌, ℕ, IfOk, Some, slice_get};
 ghost use Rattle.wb_lookahead.specs.Contents.{action_of, size_of};
-ghost use Rattle.wb_parser_states.specs.Chains.{IsRuleAction};
+ghost use Rattle.wb_parser_states.specs.Chains.{IsMoveEnd, IsRuleAction};
 ghost use Rattle.wb_parser_states.specs.Inner.Coded.{IsCodedEnd};
 ghost use Rattle.wb_parser_states.specs.Inner.Followed.{IsMoveKey};
-ghost use Rattle.wb_parser_states.specs.Kept.{AreReductions, end_of, key_of};
+ghost use Rattle.wb_parser_states.specs.Kept.{AreKept, AreReductions, end_of, key_of};
 
 use crate::chains::{ChainEnd, Key, RuleAction, action_at, move_end};
 use crate::codes::{Codes, codes_of};
-use crate::kept::{CodedEnd, Kept, code_or_zero, end_in, filled, is_kept, kept_of, place_of};
+use crate::kept::{
+    CodedEnd, Kept, code_or_zero, end_in, filled, fit_keys, is_kept, kept_of, place_of,
+};
 use crate::rules::{Rule, rules_of};
 use std::alloc::{AllocError, Global};
 use wb_scan::Language;
@@ -86,15 +88,33 @@ fn new_end(
         terminal,
     };
     let end = move_end(language, &reductions.rules, key);
-    keep(&mut reductions.ends, key, end);
+    keep_end(language, &mut reductions.ends, key, end);
     CodedEnd {
         target: end.target,
         code: code_or_zero(end.action),
     }
 }
 
+// Keeps the end of a chain where keys have numbers.
+fn keep_end(language: &Language, list: &mut Vec<Kept>, key: Key, end: ChainEnd)
+    requires key { IsMoveKey language.now.language.grammar language.now.tables key }
+    requires end { IsMoveEnd language.now.language.grammar language.now.tables key end }
+    requires kept { AreKept language.now.language.grammar language.now.tables list.old.items }
+    ensures { AreKept language.now.language.grammar language.now.tables list.new.items }
+{
+    let grammar = language.grammar();
+    let states = language.tables().count();
+    if !fit_keys(states, grammar.nonterminals(), grammar.terminals()) {
+        return;
+    }
+    keep(list, key, end);
+}
+
 // Keeps an end at the place of its key, where there is one and the end can be kept. The first is kept at all places.
 fn keep(list: &mut Vec<Kept>, key: Key, end: ChainEnd)
+    requires below { key.below < 1048576 }
+    requires from { key.from < 1048576 }
+    requires terminal { key.terminal < 16777216 }
     ensures { (place : ℕ) (kept : Kept) → slice_get list.new.items place ≡ Some kept → (slice_get list.old.items place ≡ Some kept) ⊎ ((key_of kept ≡ key) × (end_of kept ≡ end)) }
 {
     let Some(kept) = kept_of(key, end) else {

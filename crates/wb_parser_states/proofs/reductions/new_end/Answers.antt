@@ -1,6 +1,5 @@
 use Rattle.std.proofs.Common.{refl, subst, sym}
 use Rattle.wb_parser_states.specs.Rules.{AreRules}
-use Rattle.wb_parser_states.proofs.ChainLemmas.{kept_after}
 use Rattle.wb_parser_states.proofs.CodeLemmas.{end_coded}
 use Rattle.wb_parser_states.proofs.reductions.new_end.Goals as goal
 
@@ -11,8 +10,7 @@ move_end-end-requires-clause-rules c =
 pub returns-clause-reductions : goal.returns-clause-reductions
 returns-clause-reductions c = record {
   rules = c.requires.reductions.rules;
-  ends = kept_after c.args.language.now.language.grammar c.args.language.now.tables c.args.reductions.now.ends.items _ (record { below = c.args.below; from = c.args.from; terminal = c.args.terminal })
-      c.move_end-end.result c.keep.ensures c.requires.reductions.ends c.move_end-end.ensures;
+  ends = c.keep_end.ensures;
   codes = c.requires.reductions.codes;
 }
 
