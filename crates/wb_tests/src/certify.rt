@@ -34,7 +34,7 @@ const CTX: &str = "format 1; host ctx; \
     concrete root : P ::= n : N { n.env = 1; n.store = 2; top.value = n.value; } \
     concrete leaf : N ::= x : X { top.value = @add(top.env, top.store); }";
 
-static ROWS: [Row; 21] = [
+pub(crate) static ROWS: [Row; 21] = [
     (
         "workbench certify h t",
         &[

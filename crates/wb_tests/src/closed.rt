@@ -43,7 +43,7 @@ const CTXC: &str = "format 2; host ctxc; \
     concrete root : P ::= n : N { n.env = 1; n.store = 2; top.value = n.value; } \
     concrete leaf : N ::= x : X { top.value = @add(top.env, top.store); }";
 
-static CERTIFIED: [Row; 13] = [
+pub(crate) static CERTIFIED: [Row; 13] = [
     (
         "workbench check h",
         &[TINYC],
@@ -311,7 +311,7 @@ fn what_is_closed_is_shown_in_files_of_format_2(rt: HostRuntime) {
     each_ends_so(&rt, &SHOWN);
 }
 
-static RUNS: [Row; 13] = [
+pub(crate) static RUNS: [Row; 13] = [
     (
         "workbench run --text v --attr value h t u",
         &[TINYC, LONEC, DUPC, "d l+4"],

@@ -6,7 +6,7 @@ use crate::expected::each_ends_so;
 use wb_program::Status;
 use wb_tests_runs::{A, B, DUP, LIST, MINI, MINUS, Row, TINY};
 
-static COMPOSED: [Row; 12] = [
+pub(crate) static COMPOSED: [Row; 12] = [
     (
         "workbench compose h t u",
         &[MINI, A, B, ""],
@@ -86,7 +86,7 @@ fn each_choice_of_extensions_has_its_report(rt: HostRuntime) {
     each_ends_so(&rt, &COMPOSED);
 }
 
-static TREES: [Row; 10] = [
+pub(crate) static TREES: [Row; 10] = [
     (
         "workbench tree --text v h t",
         &[TINY, DUP, "", "d 3+4"],

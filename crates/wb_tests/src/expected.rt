@@ -6,8 +6,8 @@ use std::alloc::AllocError;
 use std::process::Abort;
 use wb_program::Status;
 use wb_tests_runs::{
-    Faults, LongRow, Row, any_ends_so, ends_with_faults, first_uncut, first_wrong_line,
-    first_wrong_long, first_wrong_row, has_reads,
+    Faults, LongRow, Row, any_ends_so, ends_with_faults, files_of_unions, first_uncut,
+    first_wrong_line, first_wrong_long, first_wrong_row, has_reads,
 };
 
 /// Fails unless this holds.
@@ -47,6 +47,12 @@ pub fn one_ends_so<R: Abort + AllocGlobal>(rt: &R, rows: &[Row]) {
 /// Fails at the first row over long files that doesn't end as it says, and shows its number, counted from 0.
 pub fn each_long_ends_so<R: Abort + AllocGlobal>(rt: &R, rows: &[LongRow]) {
     expect_none(rt, first_wrong_long(rt.alloc(), rows));
+}
+
+/// Fails unless all unions of the rows are the same both ways, and have this number of files together.
+pub fn unions_agree<R: Abort + AllocGlobal>(rt: &R, rows: &[Row], files: usize) {
+    let found = files_of_unions(rt.alloc(), rows).unwrap_or(0);
+    assert!(rt; found == files, "{found}");
 }
 
 /// Fails unless the run has at least this number of reads, and each of them that fails ends the run without a report.

@@ -32,4 +32,6 @@ mod swapped;
 #[cfg(test)]
 mod syntax;
 #[cfg(test)]
+mod unions;
+#[cfg(test)]
 mod value;

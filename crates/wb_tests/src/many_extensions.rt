@@ -4,12 +4,13 @@
 
 ghost use Rattle.std.specs.Prelude.{None};
 
-use crate::expected::expect_none;
+use crate::expected::{expect, expect_none};
 use std::alloc::{AllocError, Global};
 use std::process::Abort;
+use wb_base::push;
 use wb_operations::standard_table;
 use wb_program::{Status, workbench};
-use wb_tests_runs::{TINY, fits, words_of};
+use wb_tests_runs::{TINY, agree_on_texts, fits, words_of};
 use wb_world::{Got, MemorySink, Shelf};
 
 // A host, a text, and an extension of the host for each other name.
@@ -161,4 +162,50 @@ fn status_on(alloc: Global, line: &str, sink: &mut MemorySink) -> Result<Status,
     let operations = standard_table(alloc)?;
     let words = words_of(alloc, line)?;
     Ok(workbench(alloc, &words, &mut Extensions, sink, &operations))
+}
+
+// The file of this name.
+fn file_of(alloc: Global, name: &str) -> Result<Vec<u8>, AllocError> {
+    let mut file = Vec::new(alloc);
+    for place in 0..1_000 {
+        match byte_at(name, place) {
+            Some(byte) => push(&mut file, byte)?,
+            None => return Ok(file),
+        }
+    }
+    Ok(file)
+}
+
+// Adds the extension of this number to others.
+fn add_extension(
+    alloc: Global,
+    number: usize,
+    extensions: &mut Vec<Vec<u8>>,
+) -> Result<(), AllocError> {
+    let name = format!(in alloc; "e{number}")?;
+    let extension = file_of(alloc, name.as_str());
+    drop(name);
+    push(extensions, extension?)
+}
+
+// The first 64 extensions.
+fn extensions_of(alloc: Global) -> Result<Vec<Vec<u8>>, AllocError> {
+    let mut extensions = Vec::new(alloc);
+    for number in 0..64 {
+        add_extension(alloc, number, &mut extensions)?;
+    }
+    Ok(extensions)
+}
+
+// Whether all of them are certified, and their union is the same both ways.
+fn agree(alloc: Global) -> Result<bool, AllocError> {
+    let extensions = extensions_of(alloc)?;
+    let agree = agree_on_texts(alloc, TINY, &extensions);
+    drop(extensions);
+    Ok(agree? == Some(true))
+}
+
+#[test]
+fn a_union_of_64_extensions_is_the_same_both_ways(rt: HostRuntime) {
+    expect(&rt, agree(rt.alloc()));
 }

@@ -79,7 +79,7 @@ aspect both { top.margin = if @less(a.margin, b.margin) then a.margin else b.mar
 aspect answered { top.margin = if answer then 0 else -1; }
 "#;
 
-static ROWS: [Row; 5] = [
+pub(crate) static ROWS: [Row; 5] = [
     (
         "workbench tree --text v h t u",
         &[LIMITS, LENGTHS, RANGES, "2 km + 300 m between (2000, 2500)"],

@@ -28,4 +28,6 @@ mod stops;
 #[cfg(test)]
 mod trees;
 #[cfg(test)]
+mod unions;
+#[cfg(test)]
 mod values;

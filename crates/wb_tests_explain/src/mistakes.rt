@@ -155,7 +155,7 @@ static WRITTEN: [Row; 16] = [
     ),
 ];
 
-static ANALYSED: [Row; 12] = [
+pub(crate) static ANALYSED: [Row; 12] = [
     // an equation for what is handed down that is missing
     (
         "explain check h",

@@ -12,7 +12,7 @@ const FAULT: &str =
 const ENDLESS: &str =
     "format 1; host h; nonterminal S; syn v : int; occurs v on S; abstract go : S ::= { forwards to go(); }";
 
-static ROWS: [Row; 12] = [
+pub(crate) static ROWS: [Row; 12] = [
     (
         "explain check h",
         &[HOST],

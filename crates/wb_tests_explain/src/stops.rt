@@ -12,7 +12,7 @@ const WHERE: &str =
 const PASCAL: &str =
     "format 1; host calc;\nignore Space /[ \\n]+/;\nterminal Name /[a-z]+/; terminal Open /\\(/; terminal Close /\\)/;\nnonterminal Sum; nonterminal Factor;\nstart Sum; extensible Factor;\nconcrete factor : Sum ::= a : Factor { }\nconcrete name : Factor ::= n : Name { }\nconcrete group : Factor ::= o : Open inner : Sum c : Close { }\n";
 
-static ROWS: [Row; 6] = [
+pub(crate) static ROWS: [Row; 6] = [
     // the end of the text comes too early
     (
         "explain tree --text t h",

@@ -12,7 +12,7 @@ const WORDS: &str =
 const EMPTY: &str =
     "format 1; host h; terminal X /x/; nonterminal S; nonterminal T; start S; concrete s : S ::= t : T x : X { } concrete t : T ::= { }";
 
-static ROWS: [Row; 9] = [
+pub(crate) static ROWS: [Row; 9] = [
     (
         "explain tree --text t h",
         &[SUMS, "1+2"],

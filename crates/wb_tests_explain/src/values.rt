@@ -12,7 +12,7 @@ const HELD: &str =
 const ENDLESS: &str =
     "format 1; host h; nonterminal S; syn v : int; occurs v on S;\nabstract go : S ::= { forwards to go(); }";
 
-static ROWS: [Row; 4] = [
+pub(crate) static ROWS: [Row; 4] = [
     (
         "explain run --text t --attr v h",
         &[QUOTIENT, "x/x/x"],

@@ -7,6 +7,7 @@ mod failing_runs;
 mod long_runs;
 mod runs;
 mod specifications;
+mod unions;
 
 pub use failing_runs::{Faults, ends_with_faults, first_uncut, has_reads};
 pub use long_runs::{LongRow, Piece, first_wrong_long, text_of};
@@ -18,3 +19,5 @@ pub use specifications::{
     A, ALL, AMB, B, CALC, CALC0, COUNT, CTX2, CYC, DBL, DIVS, DUP, KW, KW0, LIST, LOOP, MINI,
     MINUS, POWER, PTR, REPEAT, SWAP, TINY, TWINS,
 };
+pub use unions::files_of_unions;
+pub use wb_tests_unions::agree_on_texts;

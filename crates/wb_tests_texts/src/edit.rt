@@ -6,7 +6,7 @@ use crate::expected::{each_ends_so, each_long_ends_so, each_read_may_fail, each_
 use wb_program::Status;
 use wb_tests_runs::{A, DUP, KW, LIST, LongRow, MINI, Row, TINY};
 
-static ROWS: [Row; 11] = [
+pub(crate) static ROWS: [Row; 11] = [
     (
         "workbench edit --text t --edits u h",
         &[TINY, "3+4", "1 2 \"+5+\"\n5 5 \"+\"\n"],

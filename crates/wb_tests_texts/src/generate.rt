@@ -9,7 +9,7 @@ use wb_world::MemorySink;
 const USAGE: &str =
     "usage: workbench value|show|check|certify|compose|tree|run|generate|certificate|recheck|edit|reading ARGUMENTS\n";
 
-static ROWS: [Row; 9] = [
+pub(crate) static ROWS: [Row; 9] = [
     (
         "workbench generate --number 0 --size 3 --attr value h",
         &[TINY],

@@ -23,3 +23,5 @@ mod reading_texts;
 mod run;
 #[cfg(test)]
 mod tree;
+#[cfg(test)]
+mod unions;

@@ -37,7 +37,7 @@ const EVEN: &str = "format 2; extension even for tiny; marking V /e/; ignore Ski
 const CALM: &str = "format 2; extension calm for tiny; marking C /c/; ignore Line /-+/; \
     concrete same : T ::= m : C t : T { forwards to t; }";
 
-static CERTIFIED: [Row; 9] = [
+pub(crate) static CERTIFIED: [Row; 9] = [
     (
         "workbench certify h t",
         &[TINY, DASH],
@@ -114,7 +114,7 @@ fn own_layout_is_certified_where_it_is_considered(rt: HostRuntime) {
     each_ends_so(&rt, &CERTIFIED);
 }
 
-static COMPOSED: [Row; 4] = [
+pub(crate) static COMPOSED: [Row; 4] = [
     (
         "workbench compose h t u",
         &[TINY, DASH, MINUS],
@@ -146,7 +146,7 @@ fn a_marker_makes_way_for_layout_of_another_extension(rt: HostRuntime) {
     each_ends_so(&rt, &COMPOSED);
 }
 
-static RUNS: [Row; 14] = [
+pub(crate) static RUNS: [Row; 14] = [
     (
         "workbench run --text u --attr value h t",
         &[TINY, DASH, "d--3+4"],

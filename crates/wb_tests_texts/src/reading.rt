@@ -6,7 +6,7 @@ use crate::expected::{each_ends_so, each_long_ends_so, each_read_may_fail, each_
 use wb_program::Status;
 use wb_tests_runs::{A, B, DUP, KW, KW0, LIST, LongRow, MINI, POWER, REPEAT, Row, TINY};
 
-static ROWS: [Row; 14] = [
+pub(crate) static ROWS: [Row; 14] = [
     (
         "workbench reading --text t h u v",
         &[MINI, "print 2;", POWER, REPEAT],

@@ -9,7 +9,7 @@ use wb_tests_runs::{A, B, COUNT, CTX2, DUP, LOOP, MINI, MINUS, POWER, REPEAT, Ro
 // Statements with squares and repetitions.
 const STATEMENTS: &str = "let x = 2 + 3;\nprint square(x) * 2;\ntwice { print x; }\n";
 
-static VALUES: [Row; 11] = [
+pub(crate) static VALUES: [Row; 11] = [
     (
         "workbench run --text v --attr out h t u",
         &[MINI, POWER, REPEAT, STATEMENTS],
@@ -89,7 +89,7 @@ fn root_attributes_of_texts_have_their_values(rt: HostRuntime) {
 }
 
 // More instances are needed than the limit of steps.
-static MORE_STEPS: [Row; 5] = [
+pub(crate) static MORE_STEPS: [Row; 5] = [
     (
         "workbench run --text v --attr value --steps 6 h t",
         &[CTX2, SWAP, "", "m x"],
@@ -128,7 +128,7 @@ fn more_needed_instances_than_steps_are_more_steps(rt: HostRuntime) {
 }
 
 // Runs that end without a value. The first check that fails determines the outcome.
-static OTHERS: [Row; 14] = [
+pub(crate) static OTHERS: [Row; 14] = [
     (
         "workbench run --text x --attr size h",
         &[TINY],

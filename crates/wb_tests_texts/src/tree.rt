@@ -6,7 +6,7 @@ use crate::expected::{each_ends_so, each_long_ends_so};
 use wb_program::Status;
 use wb_tests_runs::{KW, KW0, LIST, LongRow, PTR, Row};
 
-static ROWS: [Row; 11] = [
+pub(crate) static ROWS: [Row; 11] = [
     (
         "workbench tree --text t h",
         &[KW, "if if"],

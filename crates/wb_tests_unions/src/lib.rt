@@ -8,11 +8,17 @@ mod certified;
 mod found;
 mod images;
 mod lent;
+mod lines;
 mod made;
+#[cfg(test)]
+mod many;
 #[cfg(test)]
 mod random;
 mod spliced;
+mod texts;
 mod walk;
 
 pub use certified::add_certified;
+pub use lines::files_united;
 pub use spliced::agree_on_union;
+pub use texts::agree_on_texts;

@@ -1,6 +1,6 @@
 //! Are unions of random extensions the same, whichever way they are made?
 //!
-//! For each choice a generator writes extensions of a host until enough of them are certified.
+//! For each choice a generator writes extensions of a host until enough of them are certified. A union of 64 is in `many`.
 
 ghost use Rattle.std.specs.Prelude.{◌≡◌, ◌<◌, All};
 ghost use Rattle.wb_compose.specs.Composed.{IsWith};
@@ -44,15 +44,15 @@ impl Generator {
 }
 
 // A host, its name, its symbols of which extensions are made, the nonterminals on which these begin, and terms to which they forward.
-struct Host {
-    text: &'static str,
+pub(crate) struct Host {
+    pub(crate) text: &'static str,
     name: &'static str,
     terminals: &'static [&'static str],
     nonterminals: &'static [&'static str],
     extensible: &'static [(&'static str, &'static str)],
 }
 
-static HOSTS: [Host; 3] = [
+pub(crate) static HOSTS: [Host; 3] = [
     // Sums.
     Host {
         text: "format 1; host sums; ignore Space /[ ]+/; terminal Num /[0-9]+/; terminal Plus /\\+/; \
@@ -113,7 +113,7 @@ struct Own {
 }
 
 // A digit, of a number below ten.
-fn digit(number: usize) -> &'static str {
+pub(crate) fn digit(number: usize) -> &'static str {
     if number < DIGITS.len() {
         DIGITS[number]
     } else {
@@ -122,7 +122,7 @@ fn digit(number: usize) -> &'static str {
 }
 
 // Adds pieces to a text.
-fn add(text: &mut Vec<u8>, pieces: &[&str]) -> Result<(), AllocError> {
+pub(crate) fn add(text: &mut Vec<u8>, pieces: &[&str]) -> Result<(), AllocError> {
     for piece in pieces {
         text.extend_from_slice(piece.as_bytes())?;
     }
