@@ -17,8 +17,8 @@ fn unions_agree<R: Abort + AllocGlobal>(rt: &R, rows: &[Row], files: usize) {
 // How many files the unions of these rows have together, up to the first that isn't the same both ways.
 fn files_of_unions(alloc: Global, rows: &[Row]) -> Result<usize, AllocError> {
     let mut count: usize = 0;
-    for (line, files, _status, _begin, _end) in rows {
-        match files_united(alloc, *line, *files)? {
+    for row in rows {
+        match files_united(alloc, row.0, row.1)? {
             Some(more) => count = count.saturating_add(more),
             None => return Ok(count),
         }

@@ -7,8 +7,8 @@ use wb_tests_unions::files_united;
 /// How many files the unions of these rows have together, up to the first that isn't the same both ways.
 pub fn files_of_unions(alloc: Global, rows: &[Row]) -> Result<usize, AllocError> {
     let mut count: usize = 0;
-    for (line, files, _status, _report) in rows {
-        match files_united(alloc, *line, *files)? {
+    for row in rows {
+        match files_united(alloc, row.0, row.1)? {
             Some(more) => count = count.saturating_add(more),
             None => return Ok(count),
         }
