@@ -3,7 +3,12 @@
 //! Each table is given with the number of files of its unions, so that none is left out. A file that a row names twice counts twice, and
 //! a row of which a file isn't certified has no union.
 
+use crate::mistakes::ANALYSED;
 use crate::runs::Row;
+use crate::statuses::ROWS as STATUSES;
+use crate::stops::ROWS as STOPS;
+use crate::trees::ROWS as TREES;
+use crate::values::ROWS as VALUES;
 use std::alloc::{AllocError, Global};
 use std::process::Abort;
 use wb_tests_unions::files_united;
@@ -28,9 +33,9 @@ fn files_of_unions(alloc: Global, rows: &[Row]) -> Result<usize, AllocError> {
 
 #[test]
 fn unions_that_rows_compose_are_the_same_both_ways(rt: HostRuntime) {
-    unions_agree(&rt, &crate::stops::ROWS, 10);
-    unions_agree(&rt, &crate::mistakes::ANALYSED, 3);
-    unions_agree(&rt, &crate::statuses::ROWS, 11);
-    unions_agree(&rt, &crate::trees::ROWS, 9);
-    unions_agree(&rt, &crate::values::ROWS, 3);
+    unions_agree(&rt, &STOPS, 10);
+    unions_agree(&rt, &ANALYSED, 3);
+    unions_agree(&rt, &STATUSES, 11);
+    unions_agree(&rt, &TREES, 9);
+    unions_agree(&rt, &VALUES, 3);
 }
