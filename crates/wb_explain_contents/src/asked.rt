@@ -30,20 +30,20 @@ pub(crate) fn named_by(words: &[String]) -> Option<Named<'_>> {
             term,
             attribute,
         } => Some(of_term(host, term, attribute, words)),
-        Command::Run {
-            text,
-            attribute,
-            steps,
-            host,
-            extensions,
-        } => Some(of_run(host, extensions, text, attribute, steps)),
-        Command::Generate {
-            number: _,
-            size: _,
-            attribute,
-            host,
-            extensions,
-        } => Some(of_run(host, extensions, "", attribute, STEPS)),
+        Command::Run(run) => Some(of_run(
+            run.of.host,
+            run.of.extensions,
+            run.text,
+            run.of.attribute,
+            run.steps,
+        )),
+        Command::Generate(made) => Some(of_run(
+            made.of.host,
+            made.of.extensions,
+            "",
+            made.of.attribute,
+            STEPS,
+        )),
         command => Some(without_attribute(command, words)),
     }
 }
@@ -61,22 +61,9 @@ fn without_attribute<'w>(command: Command<'w>, words: &'w [String]) -> Named<'w>
             certificate: _,
             extension,
         } => of_text(host, first_of(extension), ""),
-        Command::Tree {
-            text,
-            host,
-            extensions,
-        } => of_text(host, extensions, text),
-        Command::Reading {
-            text,
-            host,
-            extensions,
-        } => of_text(host, extensions, text),
-        Command::Edit {
-            text,
-            edits: _,
-            host,
-            extensions,
-        } => of_text(host, extensions, text),
+        Command::Tree(of) => of_text(of.host, of.extensions, of.text),
+        Command::Reading(of) => of_text(of.host, of.extensions, of.text),
+        Command::Edit(edit) => of_text(edit.of.host, edit.of.extensions, edit.of.text),
         _ => of_text("", none_of(words), ""),
     }
 }

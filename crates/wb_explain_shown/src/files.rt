@@ -8,7 +8,7 @@ ghost use Rattle.wb_program_words.specs.Asked.{texts};
 use std::alloc::{AllocError, Global};
 use wb_base::{Bytes, push};
 use wb_explain_lines::contents_of;
-use wb_program_words::{Command, command_of};
+use wb_program_words::{Command, TextWords, command_of};
 use wb_world::Shelf;
 
 // What is in the files of a host and of extensions, and in a text.
@@ -51,31 +51,15 @@ pub(crate) fn read_contents<S: Shelf>(
     }
 }
 
-// What words of `tree` name.
-#[derive(Clone, Copy)]
-struct Named<'w> {
-    text: &'w str,
-    host: &'w str,
-    extensions: &'w [String],
-}
-
 // What the words name, where they ask for a tree.
-fn named_by(words: &[String]) -> Option<Named<'_>>
+fn named_by(words: &[String]) -> Option<TextWords<'_>>
     ensures { IfSome result (λ named. AsksTree (texts words.now)) }
 {
     let Some(command) = command_of(words) else {
         return None;
     };
     match command {
-        Command::Tree {
-            text,
-            host,
-            extensions,
-        } => Some(Named {
-            text,
-            host,
-            extensions,
-        }),
+        Command::Tree(named) => Some(named),
         _ => None,
     }
 }
@@ -84,7 +68,7 @@ fn named_by(words: &[String]) -> Option<Named<'_>>
 fn read_named<S: Shelf>(
     alloc: Global,
     shelf: &mut S,
-    named: Named<'_>,
+    named: TextWords<'_>,
     contents: &mut Contents,
 ) -> Result<(), AllocError>
     ensures { Keeps (outside (S.files shelf.old) (S.absences shelf.old) (S.faults shelf.old))

@@ -2,24 +2,12 @@
 use Rattle.std.proofs.Common.{◌≡◌, ℕ, List, Option, refl}
 use Rattle.wb_world.specs.Shelf.{Files}
 use Rattle.wb_operations.specs.Operations.{OperationSignature}
-use Rattle.wb_program_words.specs.Asked.{Asked}
-use Rattle.wb_program_words.specs.Words.{Asks}
 use Rattle.wb_program_texts.specs.Stops.{IsMissing, IsFaulty}
 use Rattle.wb_program_texts.specs.Stopped.{Outside, Stopped}
 use Rattle.wb_program_texts.specs.files.ReadFailure.{ReadFailure}
 use Rattle.wb_program_texts.specs.files.ReadFailure.TheVariants.{Absent, ReadFault, NoMemory}
-use Rattle.wb_program.specs.Commands.{ReadsTo}
 use Rattle.wb_program.specs.Reads.{ComesTo}
 use Rattle.wb_program.specs.Report.{InCommandSet}
-use Rattle.wb_program_texts.proofs.StopLemmas.{weaker_stop}
-
--- a run of a command that the words ask for stops at a file that they name
-pub comes_to : (operations : List OperationSignature) (before now : Outside) (words : List (List ℕ)) (asked : Asked)
-    (failure : ReadFailure) → Asks words asked → Stopped before now (ReadsTo operations before.files asked) failure
-    → Stopped before now (ComesTo operations words before.files) failure
-comes_to operations before now words asked failure asks =
-    weaker_stop before now (ReadsTo operations before.files asked) (ComesTo operations words before.files) failure
-    (λ P comes. record { asked = asked; asks = asks; comes = comes })
 
 -- words that come to read a file are in the command set
 are_asked : (operations : List OperationSignature) (words : List (List ℕ)) (known : Option Files) (P : List ℕ → Type 0)

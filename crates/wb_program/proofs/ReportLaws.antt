@@ -11,6 +11,7 @@ use Rattle.wb_program_texts.specs.status.Status.{Status}
 use Rattle.wb_program_texts.specs.status.Status.TheVariants.{SpecRefused, NotCertified}
 use Rattle.wb_program_texts.proofs.OneCheck.{AreOne}
 use Rattle.wb_program_texts.proofs.OneHostChecks.{AreAlike}
+use Rattle.wb_program_texts.proofs.ReportLaws.{IsLawful}
 use Rattle.wb_program_texts.proofs.WrittenWhole.{IsReported}
 
 -- two reports: one status, and one text unless they are a refusal that may choose its example
@@ -42,3 +43,11 @@ pub when_alike : (asked : Asked) (s t : Status) (bytes others : List ℕ) → Is
     → AreOneOf asked s t bytes others
 when_alike asked s t bytes others is alike =
     (alike.0, λ chosen. elim chosen [ inl differ ↦ alike.1 differ.0 differ.1 | inr once ↦ absurd (may_differ asked is once) ])
+
+-- a report that has the laws of one
+pub has_lawful : (operations : Operations) (asked : Asked) → IsOther asked
+    → IsLawful (λ known s bytes. IsReportOf operations known s bytes asked) → HasLaws operations asked
+has_lawful operations asked is laws = record {
+  whole = laws.whole;
+  one = λ below files s t bytes others x y. when_alike asked s t bytes others is (laws.one below files s t bytes others x y);
+}

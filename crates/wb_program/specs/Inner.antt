@@ -1,4 +1,3 @@
--- Words of private functions: what the answer to words is; what is reported of a certificate; which commands are on texts.
+-- Words of private functions: what the answer to words is; what is reported of a certificate.
 pub mod Answered
 pub mod Certificates
-pub mod OnTexts

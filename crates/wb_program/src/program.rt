@@ -2,24 +2,19 @@
 //!
 //! The report is made before anything is written, so that a fault leaves a prefix of it. The answers to commands are in `commands`.
 
-ghost use Rattle.std.specs.Prelude.{◌≡◌, ◌⊎◌, ◌≤◌, IfOk, IfErr};
+ghost use Rattle.std.specs.Prelude.{◌≡◌, ◌⊎◌, ◌≤◌};
 ghost use Rattle.wb_world.specs.Cause.{NeverFalls, Rose};
 ghost use Rattle.wb_operations.specs.Kept.{IsKept};
 ghost use Rattle.wb_program_words.specs.Asked.{texts};
-ghost use Rattle.wb_program_words.specs.Usage.{usage_line};
-ghost use Rattle.wb_program_texts.specs.Stopped.{outside};
-ghost use Rattle.wb_program_texts.specs.Makes.{Makes};
-ghost use Rattle.wb_program.specs.Reads.{AbsentCause, FaultCause, ComesTo};
+ghost use Rattle.wb_program.specs.Reads.{AbsentCause, FaultCause};
 ghost use Rattle.wb_program.specs.Report.{InCommandSet, IsReport};
 ghost use Rattle.wb_program.specs.Written.{Wrote};
-ghost use Rattle.wb_program.specs.Inner.Answered.{Replies};
 
 use crate::commands::answer_to;
 use crate::writing::write_report;
-use std::alloc::{AllocError, Global};
+use std::alloc::Global;
 use wb_operations::{Meaning, OperationRefusal, OperationTable};
-use wb_program_texts::{Answer, ReadFailure, Status};
-use wb_program_words::{command_of, usage_line};
+use wb_program_texts::{ReadFailure, Status};
 use wb_values::Value;
 use wb_world::{Shelf, Sink};
 
@@ -60,7 +55,7 @@ pub fn workbench<S: Shelf, K: Sink, M: Meaning>(
     ensures written { Wrote (IsReport (record { signatures = operations.now.signatures; meaning = M.meaning }) (texts words.now) (S.files shelf.old)) (K.written sink.old) (K.written sink.new) result }
     ensures files { S.files shelf.new ≡ S.files shelf.old }
 {
-    match answer(alloc, words, shelf, operations) {
+    match answer_to(alloc, words, shelf, operations) {
         Ok(answer) => match write_report(sink, &answer.report) {
             Ok(()) => answer.status,
             Err(_) => Status::WriteFault,
@@ -69,36 +64,4 @@ pub fn workbench<S: Shelf, K: Sink, M: Meaning>(
         Err(ReadFailure::ReadFault) => Status::ReadFault,
         Err(ReadFailure::NoMemory) => Status::NoMemory,
     }
-}
-
-// The answer to the words, before anything is written.
-fn answer<S: Shelf, M: Meaning>(
-    alloc: Global,
-    words: &[String],
-    shelf: &mut S,
-    operations: &OperationTable<M>,
-) -> Result<Answer, ReadFailure>
-    requires kept { IsKept operations.now.signatures operations.now.built_in operations.now.runs.items M.meaning
-        (λ run vs. ⟦<Box<dyn Fn(&[Value]) -> Result<Value, OperationRefusal>> as Fn(&[Value]) -> Result<Value, OperationRefusal>>⟧.pre run vs)
-        (λ run vs r. ⟦<Box<dyn Fn(&[Value]) -> Result<Value, OperationRefusal>> as Fn(&[Value]) -> Result<Value, OperationRefusal>>⟧.post run vs r) }
-    ensures replies { Makes (outside (S.files shelf.old) (S.absences shelf.old) (S.faults shelf.old)) (outside (S.files shelf.new) (S.absences shelf.new) (S.faults shelf.new))
-        result (Replies (record { signatures = operations.now.signatures; meaning = M.meaning }) (texts words.now) (S.files shelf.old))
-        (ComesTo operations.now.signatures (texts words.now) (S.files shelf.old)) }
-    ensures asked { IfErr result (λ failure. ¬ InCommandSet (texts words.now) → failure ≡ ReadFailure.NoMemory) }
-{
-    match command_of(words) {
-        Some(command) => answer_to(alloc, shelf, command, operations),
-        None => Ok(usage(alloc)?),
-    }
-}
-
-// The answer for words that are no command.
-fn usage(alloc: Global) -> Result<Answer, AllocError>
-    ensures status { IfOk result (λ answer. answer.status ≡ Status.Usage) }
-    ensures report { IfOk result (λ answer. answer.report.items ≡ usage_line) }
-{
-    Ok(Answer {
-        status: Status::Usage,
-        report: Vec::from_slice(alloc, usage_line().as_bytes())?,
-    })
 }

@@ -89,14 +89,22 @@ then_first operations before now r all End failure =
     failure (λ P is. inl is)
 
 module _ (operations : List OperationSignature) (host : List ℕ) (extensions : List (List ℕ)) where
+  -- a report whose rest says more
+  pub several_so : (known : Option Files) (rest more : ResolvedParts → List ResolvedParts → Report) (status : Status) (bytes : List ℕ)
+      → ((r : ResolvedParts) (values : List ResolvedParts) → rest r values status bytes → more r values status bytes)
+      → SeveralChecks operations known host extensions rest status bytes → SeveralChecks operations known host extensions more status bytes
+  several_so known rest more status bytes so (inl many) = inl many
+  several_so known rest more status bytes so (inr (few, inl refused)) = inr (few, inl refused)
+  several_so known rest more status bytes so (inr (few, inr (inl refused))) = inr (few, inr (inl refused))
+  several_so known rest more status bytes so (inr (few, inr (inr (r, is, inl refused)))) = inr (few, inr (inr (r, is, inl refused)))
+  several_so known rest more status bytes so (inr (few, inr (inr (r, is, inr (values, each, report))))) =
+      inr (few, inr (inr (r, is, inr (values, each, so r values report))))
+
   -- a run that ends before the rest has its report, whatever the rest is
   pub several_ended : (known : Option Files) (rest : ResolvedParts → List ResolvedParts → Report) (status : Status) (bytes : List ℕ)
       → RefusesAny operations known host extensions status bytes → SeveralChecks operations known host extensions rest status bytes
-  several_ended known rest status bytes (inl many) = inl many
-  several_ended known rest status bytes (inr (few, inl refused)) = inr (few, inl refused)
-  several_ended known rest status bytes (inr (few, inr (inl refused))) = inr (few, inr (inl refused))
-  several_ended known rest status bytes (inr (few, inr (inr (r, is, inl refused)))) = inr (few, inr (inr (r, is, inl refused)))
-  several_ended known rest status bytes (inr (few, inr (inr (r, is, inr (values, each, none))))) = absurd none
+  several_ended known rest status bytes =
+      several_so known (λ r values s others. ⊥) rest status bytes (λ r values none. absurd none)
 
   -- a certified host and extensions with it are read
   pub are_read : (known : Option Files) (certified : CertifiedView) (all : Composable) → length extensions ≤ 64
@@ -120,20 +128,30 @@ module _ (operations : List OperationSignature) (host : List ℕ) (extensions : 
   several_read known rest all status bytes are report =
       inr (are.few, inr (inr (all.host.resolved, are.is_host, inr (all_resolved all.extensions.items, are.each, report))))
 
-  -- what stops at one of them
-  stops_ended : (known : Option Files) (P : List ℕ → Type 0) (End : ResolvedParts → List ResolvedParts → Type 0)
-      → StopsComposed operations known host extensions P (λ r values. ⊥) → StopsComposed operations known host extensions P End
-  stops_ended known P End (few, inl is) = (few, inl is)
-  stops_ended known P End (few, inr (r, is, inl each)) = (few, inr (r, is, inl each))
-  stops_ended known P End (few, inr (r, is, inr (values, each, none))) = absurd none
+  -- what stops at one of them, or after them
+  stops_so : (known : Option Files) (P : List ℕ → Type 0) (End More : ResolvedParts → List ResolvedParts → Type 0)
+      → ((r : ResolvedParts) (values : List ResolvedParts) → End r values → More r values)
+      → StopsComposed operations known host extensions P End → StopsComposed operations known host extensions P More
+  stops_so known P End More so (few, inl is) = (few, inl is)
+  stops_so known P End More so (few, inr (r, is, inl each)) = (few, inr (r, is, inl each))
+  stops_so known P End More so (few, inr (r, is, inr (values, each, last))) = (few, inr (r, is, inr (values, each, so r values last)))
+
+  -- a run that stops at one of them, or after them
+  pub composed_so : (before now : Outside) (End More : (List ℕ → Type 0) → ResolvedParts → List ResolvedParts → Type 0)
+      (failure : ReadFailure) → ((P : List ℕ → Type 0) (r : ResolvedParts) (values : List ResolvedParts) → End P r values → More P r values)
+      → Stopped before now (λ P. StopsComposed operations before.files host extensions P (End P)) failure
+      → Stopped before now (λ P. StopsComposed operations before.files host extensions P (More P)) failure
+  composed_so before now End More failure so =
+      weaker_stop before now (λ P. StopsComposed operations before.files host extensions P (End P))
+      (λ P. StopsComposed operations before.files host extensions P (More P)) failure
+      (λ P. stops_so before.files P (End P) (More P) (so P))
 
   -- a run that stops at one of them
   pub composed_ended : (before now : Outside) (End : (List ℕ → Type 0) → ResolvedParts → List ResolvedParts → Type 0)
       (failure : ReadFailure) → Stopped before now (λ P. StopsComposed operations before.files host extensions P (λ r values. ⊥)) failure
       → Stopped before now (λ P. StopsComposed operations before.files host extensions P (End P)) failure
   composed_ended before now End failure =
-      weaker_stop before now (λ P. StopsComposed operations before.files host extensions P (λ r values. ⊥))
-      (λ P. StopsComposed operations before.files host extensions P (End P)) failure (λ P. stops_ended before.files P (End P))
+      composed_so before now (λ P r values. ⊥) End failure (λ P r values none. absurd none)
 
   -- a run that stops after all of them
   pub composed_last : (before between now : Outside) (End : (List ℕ → Type 0) → ResolvedParts → List ResolvedParts → Type 0)

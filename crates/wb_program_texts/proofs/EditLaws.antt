@@ -19,6 +19,7 @@ use Rattle.wb_program_files.proofs.OneCheck.{AreOne, on_file, one_check}
 use Rattle.wb_program_files.proofs.OneHostChecks.{AreAlike, are_alike, one_short_report}
 use Rattle.wb_program_texts.proofs.OneSeveralReport.{one_several_report}
 use Rattle.wb_program_files.proofs.WrittenWhole.{IsReported, by_check, by_text}
+use Rattle.wb_program_texts.proofs.ReportLaws.{IsLawful}
 use Rattle.wb_program_texts.proofs.SeveralWritten.{several_reported}
 
 -- what becomes of a text has one report
@@ -84,7 +85,7 @@ module _ (below : LawsBelow) (files : Files) (file : List ℕ) where
         (λ all listed. one_answered text all)
 
 -- two reports of `edit`
-pub one_edit_report : LawsBelow → (operations : List OperationSignature) (files : Files) (file list host : List ℕ) (all : List (List ℕ))
+one_edit_report : LawsBelow → (operations : List OperationSignature) (files : Files) (file list host : List ℕ) (all : List (List ℕ))
     (s t : Status) (bytes others : List ℕ) → EditReport operations (Some files) file list host all s bytes
     → EditReport operations (Some files) file list host all t others → AreAlike s t bytes others
 one_edit_report below operations files file list host all s t bytes others =
@@ -103,7 +104,7 @@ edits_shown file (edits.OutOfRange number) s bytes (same, line) = subst IsReport
 edits_shown file (edits.TextTooLong number) s bytes (same, line) = subst IsReported (sym same) tt
 
 -- a report of `edit`
-pub edit_reported : (operations : List OperationSignature) (known : Option Files) (file list host : List ℕ) (all : List (List ℕ)) (s : Status)
+edit_reported : (operations : List OperationSignature) (known : Option Files) (file list host : List ℕ) (all : List (List ℕ)) (s : Status)
     (bytes : List ℕ) → EditReport operations known file list host all s bytes → IsReported s
 edit_reported operations known file list host all s bytes =
     several_reported operations known all s bytes host (λ r values. Check TextTooLong (IsTooLongText known file) (IsText known file)
@@ -112,3 +113,11 @@ edit_reported operations known file list host all s bytes =
     (λ contents. by_check EditRefused s bytes (IsNoList known list) (IsListFile known list)
     (λ (edits : List Edit). TextEditsReport operations r values list contents edits) tt
     (λ edits report. edits_shown list report.answer s bytes report.shown)))
+
+-- so it has the laws of a report
+pub edit_laws : (operations : List OperationSignature) (file list host : List ℕ) (all : List (List ℕ))
+    → IsLawful (λ known. EditReport operations known file list host all)
+edit_laws operations file list host all = record {
+  whole = λ known. edit_reported operations known file list host all;
+  one = λ below files. one_edit_report below operations files file list host all;
+}

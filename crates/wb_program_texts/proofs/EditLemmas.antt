@@ -1,56 +1,70 @@
--- What is made of a text and of a file of its edits is the report of their checks.
-use Rattle.std.proofs.Common.{◌≡◌, ◌<◌, ◌≤◌, ◌⊎◌, inl, inr, ℕ, List, Option, Some, None, length, sym, refl, subst}
-use Rattle.wb_report.specs.declared.edits_reason.EditsReason.TheVariants as u
+-- What is found in a file of edits that was read is found in the file, and a run that stops at it comes to it after the text.
+use Rattle.std.proofs.Common.{◌≡◌, ◌≤◌, ◌⊎◌, inl, inr, ℕ, List, Option, Result, length}
+use Rattle.wb_compose_texts.specs.Unions.{all_resolved}
+use Rattle.wb_operations.specs.Operations.{OperationSignature}
 use Rattle.wb_session_edits.specs.Edits.{IsList, IsListOf}
 use Rattle.wb_session_edits.specs.declared.edit.Edit.{Edit}
 use Rattle.wb_text_parts.specs.Faults.{IsFirstFault}
 use Rattle.wb_world.specs.Shelf.{Files}
-use Rattle.wb_program_files.specs.Checks.{Report, Check}
-use Rattle.wb_program_texts.specs.Commands.Edit.{IsListFile, IsNoList, refused_line}
-use Rattle.wb_program_files.specs.Files.{KnownFile}
-use Rattle.wb_program_files.specs.Contents.{ContentsAre, KnownIs}
-use Rattle.wb_program_texts.specs.Inner.EditFiles.{ReadList, ShownList}
-use Rattle.wb_program_files.specs.Stopped.{Outside, Stopped}
-use Rattle.wb_program_files.specs.Texts.{IsText}
+use Rattle.wb_program_files.specs.Checks.{Ends}
+use Rattle.wb_program_files.specs.Contents.{ContentsAre}
+use Rattle.wb_program_files.specs.Stopped.{GoesOn, Outside, Stopped}
+use Rattle.wb_program_files.specs.declared.answer.Answer.{Answer}
 use Rattle.wb_program_files.specs.declared.files.Contents.{Contents}
 use Rattle.wb_program_files.specs.declared.files.Contents.TheVariants.{Whole, TooLong}
 use Rattle.wb_program_files.specs.declared.files.ReadFailure.{ReadFailure}
 use Rattle.wb_program_files.specs.declared.status.Status.{Status}
 use Rattle.wb_program_files.specs.declared.status.Status.TheVariants.{EditRefused}
 use Rattle.wb_program_files.proofs.FileLemmas.{known_is}
-use Rattle.wb_program_files.proofs.StopLemmas.{weaker_stop}
+use Rattle.wb_program_files.proofs.StopLemmas.{reason_since}
+use Rattle.wb_program_texts.specs.Commands.Edit.{EditStops, IsListFile, IsNoList}
+use Rattle.wb_program_texts.specs.Inner.EditFiles.{IsListRead, IsNoListRead}
+use Rattle.wb_program_texts.specs.Inner.Steps.{IsStep}
+use Rattle.wb_program_texts.specs.Inner.WithTexts.{AreReadWith}
+use Rattle.wb_program_texts.specs.declared.text.WithText.{WithText}
+use Rattle.wb_program_texts.proofs.StepLemmas.{step_so}
 
-module _ (known : Option Files) (file : List ℕ) (rest : List Edit → Report) (status : Status) (bytes : List ℕ) where
-  -- the report of its bytes is that of the file
-  shown_checks : (contents : List ℕ) → ((P : List ℕ → Type 0) → P contents → KnownFile known file P) → length contents ≤ 1048576 →
-      ShownList file rest contents status bytes → Check EditRefused (IsNoList known file) (IsListFile known file) rest status bytes
-  shown_checks contents there short (inl (at, fault, is)) =
-      inl (is.0, inr (at, there (λ text. (length text ≤ 1048576) × IsFirstFault IsList text at) (short, fault), is.1))
-  shown_checks contents there short (inr (edits, list, report)) =
-      inr (edits, there (λ text. (length text ≤ 1048576) × IsListOf text edits) (short, list), report)
+module _ (known : Option Files) (file : List ℕ) where
+  -- a list that was read is that of the file
+  list_found : (contents : Contents) (edits : List Edit) → ContentsAre 1048576 known file contents → IsListRead contents edits
+      → IsListFile known file edits
+  list_found (Whole text) edits are is =
+      known_is known file text.items (λ contents. (length contents ≤ 1048576) × IsListOf contents edits) are.0 (are.1, is)
+  list_found TooLong edits are is = absurd is
 
-  -- the report of what was read is that of the file
-  pub list_checks : (contents : Contents) → ContentsAre 1048576 known file contents → ReadList file rest contents status bytes →
-      Check EditRefused (IsNoList known file) (IsListFile known file) rest status bytes
-  list_checks (Whole text) are report =
-      shown_checks text.items (λ P holds. known_is known file text.items P are.0 holds) are.1 report
-  list_checks TooLong are (ends, line) = inl (ends, inl (are, line))
+  -- where none was read the file is none
+  none_found : (contents : Contents) (status : Status) (bytes : List ℕ) → ContentsAre 1048576 known file contents
+      → IsNoListRead file contents status bytes → Ends EditRefused (IsNoList known file) status bytes
+  none_found (Whole text) status bytes are (at, fault, is) = (
+    is.0,
+    inr (
+      at,
+      known_is known file text.items (λ contents. (length contents ≤ 1048576) × IsFirstFault IsList contents at) are.0 (are.1, fault),
+      is.1,
+    ),
+  )
+  none_found TooLong status bytes are is = (is.0, inl (are, is.1))
 
--- where the later part comes to the text or its edits, so does the whole, since files stay
-pub comes_since : (known between : Option Files) (file list : List ℕ) → between ≡ known → (P Q : List ℕ → Type 0) →
-    ((name : List ℕ) → P name → Q name) → P file ⊎ (((text : List ℕ) × IsText between file text) × P list) →
-    Q file ⊎ (((text : List ℕ) × IsText known file text) × Q list)
-comes_since known between file list same P Q weaker (inl meets) = inl (weaker file meets)
-comes_since known between file list same P Q weaker (inr ((text, is), meets)) =
-    inr ((text, subst (λ (told : Option Files). IsText told file text) same is), weaker list meets)
+  -- what is made of what was read is made of the file
+  pub list_step : (contents : Contents) (made : Result (List Edit) Answer) → ContentsAre 1048576 known file contents
+      → IsStep made (IsListRead contents) (IsNoListRead file contents)
+      → IsStep made (IsListFile known file) (Ends EditRefused (IsNoList known file))
+  list_step contents made are =
+      step_so made (IsListFile known file) (Ends EditRefused (IsNoList known file)) (IsListRead contents) (IsNoListRead file contents)
+      (λ edits. list_found contents edits are) (λ status bytes. none_found contents status bytes are)
 
--- what was read whole is a text
-pub text_read : (known : Option Files) (file text : List ℕ) → KnownIs known file text → length text ≤ 1048576 → IsText known file text
-text_read known file text is short = (known_is known file text (λ contents. contents ≡ text) is refl, short)
-
--- where the text stops the run, it comes to the text or its edits
-pub stops_at_text : (before now : Outside) (file list : List ℕ) (failure : ReadFailure) → Stopped before now (λ P. P file) failure →
-    Stopped before now (λ P. P file ⊎ (((text : List ℕ) × IsText before.files file text) × P list)) failure
-stops_at_text before now file list failure =
-    weaker_stop before now (λ P. P file) (λ P. P file ⊎ (((text : List ℕ) × IsText before.files file text) × P list)) failure
-    (λ P meets. inl meets)
+-- a run that stops at the edits, after the host, the extensions and the text
+pub stops_at_list : (operations : List OperationSignature) (before between now : Outside) (file list host : List ℕ)
+    (extensions : List (List ℕ)) (read : WithText) (failure : ReadFailure)
+    → AreReadWith operations before.files file host extensions read → GoesOn before between → Stopped between now (λ P. P list) failure
+    → Stopped before now (EditStops operations before.files file list host extensions) failure
+stops_at_list operations before between now file list host extensions read failure is kept =
+    reason_since before between now (λ P. P list) (EditStops operations before.files file list host extensions) failure kept
+    (λ P Q weaker meets. (
+      is.are.few,
+      inr (
+        read.all.host.resolved,
+        is.are.is_host,
+        inr (all_resolved read.all.extensions.items, is.are.each, inr ((read.text.items, is.is), weaker list meets)),
+      ),
+    ))

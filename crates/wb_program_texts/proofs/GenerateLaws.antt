@@ -16,6 +16,7 @@ use Rattle.wb_program_files.proofs.OneCheck.{AreOne}
 use Rattle.wb_program_files.proofs.OneHostChecks.{AreAlike, are_alike}
 use Rattle.wb_program_texts.proofs.OneSeveralReport.{one_several_report}
 use Rattle.wb_program_files.proofs.WrittenWhole.{IsReported}
+use Rattle.wb_program_texts.proofs.ReportLaws.{IsLawful}
 use Rattle.wb_program_texts.proofs.SeveralWritten.{several_reported}
 
 -- what is too long isn't short
@@ -42,7 +43,7 @@ module _ (below : LawsBelow) (operations : Operations) (r : ResolvedParts) (valu
       one_shown_made size x.made x.shown (subst (λ (z : Generated). ShownMade operations r values name size z u others) same y.shown)
 
 -- two reports of `generate`
-pub one_generate_report : LawsBelow → (operations : Operations) (files : Files) (number size : ℕ) (name host : List ℕ)
+one_generate_report : LawsBelow → (operations : Operations) (files : Files) (number size : ℕ) (name host : List ℕ)
     (all : List (List ℕ)) (s u : Status) (bytes others : List ℕ) → GenerateReport operations (Some files) number size name host all s bytes
     → GenerateReport operations (Some files) number size name host all u others → AreAlike s u bytes others
 one_generate_report below operations files number size name host all s u bytes others =
@@ -60,9 +61,17 @@ made_reported operations r values name size (g.Text text leaves) s bytes (inr (s
 made_reported operations r values name size (g.NoSentence least) s bytes (same, line) = subst IsReported (sym same) tt
 
 -- a report of `generate`
-pub generate_reported : (operations : Operations) (known : Option Files) (number size : ℕ) (name host : List ℕ) (all : List (List ℕ))
+generate_reported : (operations : Operations) (known : Option Files) (number size : ℕ) (name host : List ℕ) (all : List (List ℕ))
     (s : Status) (bytes : List ℕ) → GenerateReport operations known number size name host all s bytes → IsReported s
 generate_reported operations known number size name host all s bytes =
     several_reported operations.signatures known all s bytes host (GenerateChecks operations number size name)
     (λ r values. attribute_reported operations.signatures r values name (MadeReport operations r values name number size) s bytes
     (λ report. made_reported operations r values name size report.made s bytes report.shown))
+
+-- so it has the laws of a report
+pub generate_laws : (operations : Operations) (number size : ℕ) (name host : List ℕ) (all : List (List ℕ))
+    → IsLawful (λ known. GenerateReport operations known number size name host all)
+generate_laws operations number size name host all = record {
+  whole = λ known. generate_reported operations known number size name host all;
+  one = λ below files. one_generate_report below operations files number size name host all;
+}

@@ -1,15 +1,19 @@
+mod AskedLemmas
 mod AttributeLemmas
 pub mod ComposeLemmas
 mod EditLemmas
 pub mod EditLaws
 pub mod GenerateLaws
+mod MadeLemmas
 pub mod OneSeveralReport
 pub mod ReadingLaws
+pub mod ReportLaws
 pub mod RunLaws
 mod SeveralLemmas
 pub mod SeveralWritten
-mod SourceLemmas
+mod StepLemmas
 pub mod TreeLaws
+mod WithTextLemmas
 -- lemmas of `wb_program_files` that callers speak of
 pub use Rattle.wb_program_files.proofs.CertifyLaws
 pub use Rattle.wb_program_files.proofs.CheckLaws

@@ -15,6 +15,7 @@ use Rattle.wb_program_files.proofs.OneCheck.{AreOne}
 use Rattle.wb_program_files.proofs.OneHostChecks.{AreAlike, are_alike, one_short_report}
 use Rattle.wb_program_texts.proofs.OneSeveralReport.{one_several_report}
 use Rattle.wb_program_files.proofs.WrittenWhole.{IsReported, by_text}
+use Rattle.wb_program_texts.proofs.ReportLaws.{IsLawful}
 use Rattle.wb_program_texts.proofs.SeveralWritten.{several_reported}
 
 -- what is read has one report
@@ -33,7 +34,7 @@ module _ (below : LawsBelow) (operations : List OperationSignature) (r : Resolve
       one_read x.reading s t bytes others x.shown (subst (λ (z : TextReading). ShownReading z t others) same y.shown)
 
 -- two reports of `reading`
-pub one_reading_report : LawsBelow → (operations : List OperationSignature) (files : Files) (file host : List ℕ) (all : List (List ℕ))
+one_reading_report : LawsBelow → (operations : List OperationSignature) (files : Files) (file host : List ℕ) (all : List (List ℕ))
     (s t : Status) (bytes others : List ℕ) → ReadingReport operations (Some files) file host all s bytes
     → ReadingReport operations (Some files) file host all t others → AreAlike s t bytes others
 one_reading_report below operations files file host all s t bytes others =
@@ -50,10 +51,18 @@ reading_shown reading.Host s bytes (same, line) = subst IsReported (sym same) tt
 reading_shown (reading.MarkerAt place marker) s bytes (same, line) = subst IsReported (sym same) tt
 
 -- a report of `reading`
-pub reading_reported : (operations : List OperationSignature) (known : Option Files) (file host : List ℕ) (all : List (List ℕ)) (s : Status)
+reading_reported : (operations : List OperationSignature) (known : Option Files) (file host : List ℕ) (all : List (List ℕ)) (s : Status)
     (bytes : List ℕ) → ReadingReport operations known file host all s bytes → IsReported s
 reading_reported operations known file host all s bytes =
     several_reported operations known all s bytes host (λ r values. Check TextTooLong (IsTooLongText known file) (IsText known file)
     (λ (contents : List ℕ). TextReadingReport operations r values contents))
     (λ r values. by_text known file (λ (contents : List ℕ). TextReadingReport operations r values contents) s bytes
     (λ contents report. reading_shown report.reading s bytes report.shown))
+
+-- so it has the laws of a report
+pub reading_laws : (operations : List OperationSignature) (file host : List ℕ) (all : List (List ℕ))
+    → IsLawful (λ known. ReadingReport operations known file host all)
+reading_laws operations file host all = record {
+  whole = λ known. reading_reported operations known file host all;
+  one = λ below files. one_reading_report below operations files file host all;
+}

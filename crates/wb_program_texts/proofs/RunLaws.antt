@@ -14,10 +14,11 @@ use Rattle.wb_program_texts.proofs.AttributeLemmas.{attribute_reported, one_attr
 use Rattle.wb_program_files.proofs.OneHostChecks.{AreAlike, are_alike, one_short_report}
 use Rattle.wb_program_texts.proofs.OneSeveralReport.{one_several_report}
 use Rattle.wb_program_files.proofs.WrittenWhole.{IsReported, by_text}
+use Rattle.wb_program_texts.proofs.ReportLaws.{IsLawful}
 use Rattle.wb_program_texts.proofs.SeveralWritten.{several_reported}
 
 -- two reports of `run`
-pub one_run_report : LawsBelow → (operations : Operations) (files : Files) (file name : List ℕ) (steps : ℕ) (host : List ℕ)
+one_run_report : LawsBelow → (operations : Operations) (files : Files) (file name : List ℕ) (steps : ℕ) (host : List ℕ)
     (all : List (List ℕ)) (s u : Status) (bytes others : List ℕ) → RunReport operations (Some files) file name steps host all s bytes
     → RunReport operations (Some files) file name steps host all u others → AreAlike s u bytes others
 one_run_report below operations files file name steps host all s u bytes others =
@@ -31,7 +32,7 @@ one_run_report below operations files file name steps host all s u bytes others 
     (λ text. one_value below operations r values different name s u bytes others steps (λ printed. done.Value name printed) text)) p q))
 
 -- a report of `run`
-pub run_reported : (operations : Operations) (known : Option Files) (file name : List ℕ) (steps : ℕ) (host : List ℕ)
+run_reported : (operations : Operations) (known : Option Files) (file name : List ℕ) (steps : ℕ) (host : List ℕ)
     (all : List (List ℕ)) (s : Status) (bytes : List ℕ) → RunReport operations known file name steps host all s bytes → IsReported s
 run_reported operations known file name steps host all s bytes =
     several_reported operations.signatures known all s bytes host (RunChecks operations known file name steps)
@@ -40,3 +41,11 @@ run_reported operations known file name steps host all s bytes =
     (λ (text : List ℕ). TextValueReport operations r values name steps (λ printed. done.Value name printed) text)) s bytes
     (by_text known file (λ (text : List ℕ). TextValueReport operations r values name steps (λ printed. done.Value name printed) text) s bytes
     (λ text report. text_reported (λ printed. done.Value name printed) steps report.value s bytes report.shown)))
+
+-- so it has the laws of a report
+pub run_laws : (operations : Operations) (file name : List ℕ) (steps : ℕ) (host : List ℕ) (all : List (List ℕ))
+    → IsLawful (λ known. RunReport operations known file name steps host all)
+run_laws operations file name steps host all = record {
+  whole = λ known. run_reported operations known file name steps host all;
+  one = λ below files. one_run_report below operations files file name steps host all;
+}

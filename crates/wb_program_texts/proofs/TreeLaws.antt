@@ -15,6 +15,7 @@ use Rattle.wb_program_files.proofs.OneCheck.{AreOne}
 use Rattle.wb_program_files.proofs.OneHostChecks.{AreAlike, are_alike, one_short_report}
 use Rattle.wb_program_texts.proofs.OneSeveralReport.{one_several_report}
 use Rattle.wb_program_files.proofs.WrittenWhole.{IsReported, by_text}
+use Rattle.wb_program_texts.proofs.ReportLaws.{IsLawful}
 use Rattle.wb_program_texts.proofs.SeveralWritten.{several_reported}
 
 -- an answer has one report
@@ -34,7 +35,7 @@ module _ (below : LawsBelow) (operations : List OperationSignature) (r : Resolve
       one_shown x.answer s t bytes others x.shown (subst (λ (z : TextAnswer). ShownText z t others) same y.shown)
 
 -- two reports of `tree`
-pub one_tree_report : LawsBelow → (operations : List OperationSignature) (files : Files) (file host : List ℕ) (all : List (List ℕ))
+one_tree_report : LawsBelow → (operations : List OperationSignature) (files : Files) (file host : List ℕ) (all : List (List ℕ))
     (s t : Status) (bytes others : List ℕ) → TreeReport operations (Some files) file host all s bytes
     → TreeReport operations (Some files) file host all t others → AreAlike s t bytes others
 one_tree_report below operations files file host all s t bytes others =
@@ -52,10 +53,18 @@ shown_reported (reply.Stopped place shown) s bytes (same, line) = subst IsReport
 shown_reported reply.TooLong s bytes (same, line) = subst IsReported (sym same) tt
 
 -- a report of `tree`
-pub tree_reported : (operations : List OperationSignature) (known : Option Files) (file host : List ℕ) (all : List (List ℕ)) (s : Status)
+tree_reported : (operations : List OperationSignature) (known : Option Files) (file host : List ℕ) (all : List (List ℕ)) (s : Status)
     (bytes : List ℕ) → TreeReport operations known file host all s bytes → IsReported s
 tree_reported operations known file host all s bytes =
     several_reported operations known all s bytes host (λ r values. Check TextTooLong (IsTooLongText known file) (IsText known file)
     (λ (contents : List ℕ). TextReport operations r values contents))
     (λ r values. by_text known file (λ (contents : List ℕ). TextReport operations r values contents) s bytes
     (λ contents report. shown_reported report.answer s bytes report.shown))
+
+-- so it has the laws of a report
+pub tree_laws : (operations : List OperationSignature) (file host : List ℕ) (all : List (List ℕ))
+    → IsLawful (λ known. TreeReport operations known file host all)
+tree_laws operations file host all = record {
+  whole = λ known. tree_reported operations known file host all;
+  one = λ below files. one_tree_report below operations files file host all;
+}

@@ -1,6 +1,9 @@
--- Words of private functions: what is made of extensions in their order; what is reported of a text, and of a file of edits; where the text
--- of a run comes from.
+-- Words of private functions: what a step of a run makes; what is made of extensions in their order; a host with extensions and a text; what
+-- is found in a file of edits; what is asked of texts, what a number makes, and how what comes of it is shown.
+pub mod Steps
 pub mod Several
-pub mod OfTexts
+pub mod WithTexts
 pub mod EditFiles
-pub mod Sources
+pub mod Askings
+pub mod Makings
+pub mod Shows

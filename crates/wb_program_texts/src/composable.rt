@@ -29,13 +29,6 @@ pub struct Composable {
     pub extensions: Vec<CertifiedExtension>,
 }
 
-impl Composable {
-    /// Lets go of the host and the extensions. A crate that calls this proves no drop of what they hold.
-    pub fn release(self) {
-        drop(self);
-    }
-}
-
 impl Drop for Composable {
     fn drop(self) {
         let Composable { host, extensions } = self;

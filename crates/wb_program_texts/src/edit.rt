@@ -3,26 +3,25 @@
 //! The host and the extensions, if any, come first, by the checks of `composable`, then the text, and then the edits. What becomes of the
 //! text by them is in `wb_compose_texts`.
 
-ghost use Rattle.std.specs.Prelude.{◌≡◌, ◌≤◌, ◌⊎◌, IfOk, ℕ, List, length};
+ghost use Rattle.std.specs.Prelude.{◌≡◌, ◌≤◌, IfOk, length};
+ghost use Rattle.wb_compose_texts.specs.EditAnswers.{IsUnitedEditsAnswer};
 ghost use Rattle.wb_compose_texts.specs.Unions.{all_resolved};
 ghost use Rattle.wb_program_words.specs.Asked.{texts};
-ghost use Rattle.wb_program_files.specs.Checks.{Check, Ends};
-ghost use Rattle.wb_program_texts.specs.Composable.{AreApart};
-ghost use Rattle.wb_program_texts.specs.Inner.EditFiles.{ReadList, ShownList};
+ghost use Rattle.wb_program_files.specs.Checks.{Ends};
 ghost use Rattle.wb_program_files.specs.Makes.{Answers};
 ghost use Rattle.wb_program_files.specs.Stopped.{outside};
-ghost use Rattle.wb_program_files.specs.Texts.{IsText, IsTooLongText};
-ghost use Rattle.wb_program_texts.specs.Commands.Edit.{EditReport, EditStops, EditsReport, ShownEdits, TextEditsReport, refused_line};
-ghost use Rattle.wb_compose_texts.specs.EditAnswers.{IsUnitedEditsAnswer};
+ghost use Rattle.wb_program_texts.specs.Composable.{AreApart};
+ghost use Rattle.wb_program_texts.specs.Commands.Edit.{EditReport, EditStops, IsListFile, IsNoList, ShownEdits, refused_line};
+ghost use Rattle.wb_program_texts.specs.Inner.EditFiles.{IsFoundList, IsListRead, IsNoListRead, IsFoundNone};
+ghost use Rattle.wb_program_texts.specs.Inner.Steps.{IsStep, Steps};
 
-use crate::composable::read_composable;
+use crate::text::{WithText, read_with_text};
 use std::alloc::{AllocError, Global};
-use wb_base::{Bytes, FILE_LIMIT};
+use wb_base::{Bytes, FILE_LIMIT, Sequence};
 use wb_compose_texts::{EditsAnswer, compose, united_edits_answer};
 use wb_operations::{Meaning, OperationTable};
-use wb_program_files::{
-    Answer, CertifiedExtension, CertifiedHost, Contents, ReadFailure, Status, read_file, reported,
-};
+use wb_program_files::{Answer, Contents, ReadFailure, Status, read_file, reported};
+use wb_program_words::EditWords;
 use wb_report::{Done, EditsReason, Outcome, Refusal};
 use wb_session_edits::{Edit, EditsRefusal, read_edits};
 use wb_world::Shelf;
@@ -31,145 +30,94 @@ use wb_world::Shelf;
 pub fn answer_edit<S: Shelf, M: Meaning>(
     alloc: Global,
     shelf: &mut S,
-    text: &str,
-    edits: &str,
-    host: &str,
-    extensions: &[String],
+    words: &EditWords<'_>,
     operations: &OperationTable<M>,
 ) -> Result<Answer, ReadFailure>
     ensures { Answers (outside (S.files shelf.old) (S.absences shelf.old) (S.faults shelf.old)) (outside (S.files shelf.new) (S.absences shelf.new) (S.faults shelf.new))
-        result (EditReport operations.now.signatures (S.files shelf.old) text.now edits.now host.now (texts extensions.now))
-        (EditStops operations.now.signatures (S.files shelf.old) text.now edits.now host.now (texts extensions.now)) }
+        result (EditReport operations.now.signatures (S.files shelf.old) words.now.of.text.now words.now.edits.now words.now.of.host.now (texts words.now.of.extensions.now))
+        (EditStops operations.now.signatures (S.files shelf.old) words.now.of.text.now words.now.edits.now words.now.of.host.now (texts words.now.of.extensions.now)) }
 {
-    match read_composable(alloc, shelf, host, extensions, operations)? {
-        Ok(all) => {
-            let answer = answer_text(alloc, shelf, text, edits, &all.host, &all.extensions);
-            all.release();
-            answer
+    let read = match read_with_text(alloc, shelf, &words.of, operations)? {
+        Ok(read) => read,
+        Err(answer) => return Ok(answer),
+    };
+    let edits = match read_list(alloc, shelf, words.edits) {
+        Ok(Ok(edits)) => edits,
+        Ok(Err(answer)) => {
+            drop(read);
+            return Ok(answer);
         }
-        Err(answer) => Ok(answer),
-    }
+        Err(failure) => {
+            drop(read);
+            return Err(failure);
+        }
+    };
+    let answer = united_answer(alloc, &read, edits.as_slice());
+    drop(read);
+    drop(edits);
+    Ok(shown_edits(alloc, words.edits, answer?)?)
 }
 
-// The answer for the text of a file with the edits of another.
-fn answer_text<S: Shelf>(
+// The list of edits of a file, or the answer where it is none.
+fn read_list<S: Shelf>(
     alloc: Global,
     shelf: &mut S,
     file: &str,
-    edits: &str,
-    host: &CertifiedHost,
-    extensions: &[CertifiedExtension],
-) -> Result<Answer, ReadFailure>
-    requires { AreApart host.now extensions.now }
-    ensures { Answers (outside (S.files shelf.old) (S.absences shelf.old) (S.faults shelf.old)) (outside (S.files shelf.new) (S.absences shelf.new) (S.faults shelf.new))
-        result (Check Status.TextTooLong (IsTooLongText (S.files shelf.old) file.now) (IsText (S.files shelf.old) file.now)
-        (λ (text : List ℕ). EditsReport host.now.operations (S.files shelf.old) edits.now host.now.resolved (all_resolved extensions.now) text))
-        (λ P. P file.now ⊎ (((text : List ℕ) × IsText (S.files shelf.old) file.now text) × P edits.now)) }
+) -> Result<Result<Sequence<Edit>, Answer>, ReadFailure>
+    ensures { Steps (outside (S.files shelf.old) (S.absences shelf.old) (S.faults shelf.old)) (outside (S.files shelf.new) (S.absences shelf.new) (S.faults shelf.new))
+        result (IsListFile (S.files shelf.old) file.now) (Ends Status.EditRefused (IsNoList (S.files shelf.old) file.now)) (λ P. P file.now) }
 {
     let contents = read_file(alloc, shelf, file, FILE_LIMIT)?;
-    match contents {
-        Contents::Whole(text) => {
-            let answer = answer_file(alloc, shelf, edits, host, extensions, &text);
-            drop(text);
-            answer
-        }
-        Contents::TooLong => Ok(reported(alloc, Status::TextTooLong, Outcome::TextTooLong)?),
-    }
+    Ok(list_in(alloc, contents, file)?)
 }
 
-// The answer for a text with the edits of a file.
-fn answer_file<S: Shelf>(
-    alloc: Global,
-    shelf: &mut S,
-    file: &str,
-    host: &CertifiedHost,
-    extensions: &[CertifiedExtension],
-    text: &[u8],
-) -> Result<Answer, ReadFailure>
-    requires apart { AreApart host.now extensions.now }
-    requires short { length text.now ≤ 1048576 }
-    ensures { Answers (outside (S.files shelf.old) (S.absences shelf.old) (S.faults shelf.old)) (outside (S.files shelf.new) (S.absences shelf.new) (S.faults shelf.new))
-        result (EditsReport host.now.operations (S.files shelf.old) file.now host.now.resolved (all_resolved extensions.now) text.now)
-        (λ P. P file.now) }
-{
-    let contents = read_file(alloc, shelf, file, FILE_LIMIT)?;
-    Ok(answer_contents(alloc, contents, file, host, extensions, text)?)
-}
-
-// The answer for what was read of the file of edits.
-fn answer_contents(
+// The list of edits that was read of a file, or the answer where it is none.
+fn list_in(
     alloc: Global,
     contents: Contents,
     file: &str,
-    host: &CertifiedHost,
-    extensions: &[CertifiedExtension],
-    text: &[u8],
-) -> Result<Answer, AllocError>
-    requires apart { AreApart host.now extensions.now }
-    requires short { length text.now ≤ 1048576 }
-    ensures { IfOk result (λ answer. ReadList file.now (TextEditsReport host.now.operations host.now.resolved (all_resolved extensions.now) file.now text.now) contents answer.status answer.report.items) }
+) -> Result<Result<Sequence<Edit>, Answer>, AllocError>
+    ensures { IfOk result (λ made. IsStep made (IsListRead contents) (IsNoListRead file.now contents)) }
 {
     match contents {
-        Contents::Whole(bytes) => answer_list(alloc, &bytes, file, host, extensions, text),
-        Contents::TooLong => refused(alloc, file, EditsReason::TooLong),
+        Contents::Whole(bytes) => {
+            let edits = read_edits(alloc, &bytes);
+            drop(bytes);
+            listed(alloc, edits, file)
+        }
+        Contents::TooLong => Ok(Err(refused(alloc, file, EditsReason::TooLong)?)),
     }
 }
 
-// The answer for the bytes of the file.
-fn answer_list(
+// The list of edits that was found in a file, or the answer where none was.
+fn listed(
     alloc: Global,
-    bytes: &[u8],
+    found: Result<Sequence<Edit>, EditsRefusal>,
     file: &str,
-    host: &CertifiedHost,
-    extensions: &[CertifiedExtension],
-    text: &[u8],
-) -> Result<Answer, AllocError>
-    requires apart { AreApart host.now extensions.now }
-    requires short { length text.now ≤ 1048576 }
-    ensures { IfOk result (λ answer. ShownList file.now (TextEditsReport host.now.operations host.now.resolved (all_resolved extensions.now) file.now text.now) bytes.now answer.status answer.report.items) }
+) -> Result<Result<Sequence<Edit>, Answer>, AllocError>
+    ensures { IfOk result (λ made. IsStep made (IsFoundList found) (IsFoundNone file.now found)) }
 {
-    match read_edits(alloc, bytes) {
-        Ok(edits) => {
-            let answer = edits_of_text(alloc, file, host, extensions, text, edits.as_slice());
-            drop(edits);
-            answer
-        }
-        Err(EditsRefusal::Syntax(at)) => refused(alloc, file, EditsReason::Syntax(at)),
+    match found {
+        Ok(edits) => Ok(Ok(edits)),
+        Err(EditsRefusal::Syntax(at)) => Ok(Err(refused(alloc, file, EditsReason::Syntax(at))?)),
         Err(EditsRefusal::NoMemory(error)) => Err(error),
     }
 }
 
-// The answer for a text with edits, which are in this file.
-fn edits_of_text(
-    alloc: Global,
-    file: &str,
-    host: &CertifiedHost,
-    extensions: &[CertifiedExtension],
-    text: &[u8],
-    edits: &[Edit],
-) -> Result<Answer, AllocError>
-    requires apart { AreApart host.now extensions.now }
-    requires short { length text.now ≤ 1048576 }
-    ensures { IfOk result (λ answer. TextEditsReport host.now.operations host.now.resolved (all_resolved extensions.now) file.now text.now edits.now answer.status answer.report.items) }
-{
-    let answer = united_answer(alloc, host, extensions, text, edits)?;
-    shown_edits(alloc, file, answer)
-}
-
-// What becomes of a text by edits.
+// What becomes of a text by edits, in the language of its host with extensions.
 fn united_answer(
     alloc: Global,
-    host: &CertifiedHost,
-    extensions: &[CertifiedExtension],
-    text: &[u8],
+    read: &WithText,
     edits: &[Edit],
 ) -> Result<EditsAnswer, AllocError>
-    requires apart { AreApart host.now extensions.now }
-    requires short { length text.now ≤ 1048576 }
-    ensures { IfOk result (IsUnitedEditsAnswer host.now.resolved host.now.operations (all_resolved extensions.now) text.now edits.now) }
+    requires apart { AreApart read.now.all.host read.now.all.extensions.items }
+    requires short { length read.now.text.items ≤ 1048576 }
+    ensures { IfOk result (IsUnitedEditsAnswer read.now.all.host.resolved read.now.all.host.operations (all_resolved read.now.all.extensions.items) read.now.text.items edits.now) }
 {
+    let host = &read.all.host;
+    let extensions = &read.all.extensions;
     let composed = compose(alloc, host, extensions)?;
-    let answer = united_edits_answer(alloc, host, extensions, &composed, text, edits);
+    let answer = united_edits_answer(alloc, host, extensions, &composed, &read.text, edits);
     composed.release();
     answer
 }

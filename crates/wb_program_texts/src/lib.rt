@@ -7,19 +7,22 @@
 mod asked;
 mod composable;
 mod edit;
+mod generate;
 mod laws;
 mod reading;
+mod run;
 mod several;
 mod shown;
-mod source;
-mod texts;
+mod text;
 mod tree;
 
 pub use composable::{Composable, read_composable};
 pub use edit::answer_edit;
+pub use generate::answer_generate;
 pub use laws::laws_below;
-pub use source::{answer_generate, answer_run};
-pub use texts::{answer_reading, answer_tree};
+pub use reading::answer_reading;
+pub use run::answer_run;
+pub use tree::answer_tree;
 pub use wb_compose_texts::{Composed, compose, withdrawn_names};
 pub use wb_program_files::{
     Answer, CertifiedExtension, CertifiedHost, MOST_BYTES, ReadFailure, Status, answer_certify,

@@ -18,7 +18,10 @@ use Rattle.wb_report.specs.declared.done.Done.{Done}
 use Rattle.wb_report.specs.declared.done.Done.TheVariants as done
 use Rattle.wb_syntax_resolved.specs.declared.resolved.ResolvedParts.{ResolvedParts}
 use Rattle.wb_world.specs.Shelf.{Files}
+use Rattle.wb_program_words.specs.Asked.{Asked}
+use Rattle.wb_program_words.specs.Asked as asks
 use Rattle.wb_program.specs.Checks.{Report}
+use Rattle.wb_program.specs.Commands.{IsReportOf}
 use Rattle.wb_program.specs.Files.{KnownFile}
 use Rattle.wb_program.specs.SeveralChecks.{AreEach, EachChecks, SeveralChecks}
 use Rattle.wb_program.specs.status.Status.{Status}
@@ -194,3 +197,52 @@ no_refusal extensions headers operations files host all r values are = record {
         → ((s : Status) (bytes : List ℕ) → rest r values s bytes → ¬ IsRefusalStatus s)
         → IsItsRest (SeveralChecks operations.signatures (Some files) host all rest) (rest r values)
     rest_of = its_rest extensions headers operations.signatures files host all r values are
+
+-- what is asked of a host with extensions that are composed, or of their certificate
+abbrev pub IsOfSeveral : Asked → Type 0
+IsOfSeveral (asks.value host term attribute) = ⊥
+IsOfSeveral (asks.show file) = ⊥
+IsOfSeveral (asks.check host) = ⊥
+IsOfSeveral (asks.certify host all) = ⊥
+IsOfSeveral (asks.recheck host certificate extension) = ⊥
+IsOfSeveral other = Unit {0}
+
+-- its report is what comes after their checks, which is no refusal
+pub record ReportsRest (operations : Operations) (files : Files) (asked : Asked) : Type 1 where
+  pub host : List ℕ
+  pub all : List (List ℕ)
+  pub rest : ResolvedParts → List ResolvedParts → Report
+  pub is : (s : Status) (bytes : List ℕ) → IsReportOf operations (Some files) s bytes asked
+      → SeveralChecks operations.signatures (Some files) host all rest s bytes
+  pub well : (r : ResolvedParts) (values : List ResolvedParts) (s : Status) (bytes : List ℕ) → rest r values s bytes → ¬ IsRefusalStatus s
+
+module _ (operations : Operations) (files : Files) where
+  -- what such a report is
+  rest_with : {asked : Asked} (host : List ℕ) (all : List (List ℕ)) (rest : ResolvedParts → List ResolvedParts → Report)
+      → ((s : Status) (bytes : List ℕ) → IsReportOf operations (Some files) s bytes asked
+      → SeveralChecks operations.signatures (Some files) host all rest s bytes)
+      → ((r : ResolvedParts) (values : List ResolvedParts) (s : Status) (bytes : List ℕ) → rest r values s bytes → ¬ IsRefusalStatus s)
+      → ReportsRest operations files asked
+  rest_with host all rest is well = record { host = host; all = all; rest = rest; is = is; well = well }
+
+  -- the report of each
+  pub reports_rest : (asked : Asked) → IsOfSeveral asked → ReportsRest operations files asked
+  reports_rest (asks.value host term attribute) is = absurd is
+  reports_rest (asks.show file) is = absurd is
+  reports_rest (asks.check host) is = absurd is
+  reports_rest (asks.certify host all) is = absurd is
+  reports_rest (asks.recheck host certificate extension) is = absurd is
+  reports_rest (asks.compose host all) is =
+      rest_with host all (ComposeChecks operations.signatures) (λ s bytes report. report) (compose_well operations files)
+  reports_rest (asks.certificate host all) is =
+      rest_with host all (CertificateChecks) (λ s bytes report. report) (certificate_well operations files)
+  reports_rest (asks.tree text host all) is =
+      rest_with host all (TreeChecks operations.signatures (Some files) text) (λ s bytes report. report) (λ r values. tree_well operations files r values text)
+  reports_rest (asks.reading text host all) is =
+      rest_with host all (ReadingChecks operations.signatures (Some files) text) (λ s bytes report. report) (λ r values. reading_well operations files r values text)
+  reports_rest (asks.edit text list host all) is =
+      rest_with host all (EditChecks operations.signatures (Some files) text list) (λ s bytes report. report) (λ r values. edit_well operations files r values text list)
+  reports_rest (asks.run text name steps host all) is =
+      rest_with host all (RunChecks operations (Some files) text name steps) (λ s bytes report. report) (λ r values. run_well operations files r values text name steps)
+  reports_rest (asks.generate number size name host all) is =
+      rest_with host all (GenerateChecks operations number size name) (λ s bytes report. report) (λ r values. generate_well operations files r values number size name)

@@ -14,9 +14,6 @@ use Rattle.wb_program.specs.Excludes.{ExcludesExtensions, ExcludesHeaders}
 use Rattle.wb_program.specs.Checks.{Ends}
 use Rattle.wb_program.specs.status.Status.{Status}
 use Rattle.wb_program.specs.status.Status.TheVariants as st
-use Rattle.wb_program.specs.Commands.Certificate.{CertificateChecks}
-use Rattle.wb_program.specs.Commands.Generate.{GenerateChecks}
-use Rattle.wb_program.specs.Commands.Run.{RunChecks}
 use Rattle.wb_program_words.proofs.OneAsked.{one_asked}
 use Rattle.wb_program_words.specs.Asked.{Asked}
 use Rattle.wb_program_words.specs.Asked as a
@@ -24,11 +21,10 @@ use Rattle.wb_program.specs.Laws.{HaveOneStatus}
 use Rattle.wb_program.specs.Commands.{IsReportOf}
 use Rattle.wb_program.specs.Commands.Show.{ShowReport}
 use Rattle.wb_program.specs.Commands.Value.{RootReport, ValueReport}
-use Rattle.wb_program_theory.specs.Certified.{ComposeChecks, EditChecks, IsRefusalStatus, ReadingChecks, TreeChecks}
+use Rattle.wb_program_theory.specs.Certified.{IsRefusalStatus}
 use Rattle.wb_program_theory.specs.Codes.{HaveOneCode, IsCodeStatus, ShowOneCode}
 use Rattle.wb_program_theory.proofs.AlikeLemmas.{IsTold, told_alike, written_alike}
-use Rattle.wb_program_theory.proofs.CertifiedLemmas.{certificate_well, compose_well, edit_well, generate_well, reading_well, run_well}
-use Rattle.wb_program_theory.proofs.CertifiedLemmas.{tree_well}
+use Rattle.wb_program_theory.proofs.CertifiedLemmas.{ReportsRest, reports_rest}
 use Rattle.wb_program_theory.proofs.FileLemmas.{file_is}
 use Rattle.wb_program_theory.proofs.HostCodes.{IsWellDefinedShown, attributes_shown, well_defined_alike, written_shown}
 use Rattle.wb_program_theory.proofs.MarkerCodes.{RefusalsExclude}
@@ -91,6 +87,16 @@ module _ (operations : Operations) (files : Files) (host file attribute : List �
 module _ (extensions : ExcludesExtensions) (headers : ExcludesHeaders) (marks : RefusalsExclude) (operations : Operations) (files : Files)
   where
     module _ (s t : Status) (bytes others : List ℕ) (code : IsCodeStatus s) (code' : IsCodeStatus t) where
+      -- two reports of what comes after the checks of a host and extensions show one code
+      rest_code : (asked : Asked) → ReportsRest operations files asked → IsReportOf operations (Some files) s bytes asked
+          → IsReportOf operations (Some files) t others asked → ShowOneCode bytes others
+      rest_code asked reports x y =
+          one_file_code extensions headers marks operations.signatures files reports.host reports.all bytes others
+          (several_refused extensions headers marks operations.signatures files s bytes code reports.host reports.all reports.rest
+          (λ r values report. reports.well r values s bytes report (refuses s code)) (reports.is s bytes x))
+          (several_refused extensions headers marks operations.signatures files t others code' reports.host reports.all reports.rest
+          (λ r values report. reports.well r values t others report (refuses t code')) (reports.is t others y))
+
       -- two reports of what is asked show one code
       asked_code : (asked : Asked) → IsReportOf operations (Some files) s bytes asked → IsReportOf operations (Some files) t others asked
           → ShowOneCode bytes others
@@ -107,62 +113,11 @@ module _ (extensions : ExcludesExtensions) (headers : ExcludesHeaders) (marks : 
           one_file_code extensions headers marks operations.signatures files host all bytes others
           (certify_refused extensions headers marks operations.signatures files s bytes code host all x)
           (certify_refused extensions headers marks operations.signatures files t others code' host all y)
-      asked_code (a.compose host all) x y =
-          one_file_code extensions headers marks operations.signatures files host all bytes others
-          (several_refused extensions headers marks operations.signatures files s bytes code host all (ComposeChecks operations.signatures)
-          (λ r values report. compose_well operations files r values s bytes report (refuses s code)) x)
-          (several_refused extensions headers marks operations.signatures files t others code' host all (ComposeChecks operations.signatures)
-          (λ r values report. compose_well operations files r values t others report (refuses t code')) y)
-      asked_code (a.tree text host all) x y =
-          one_file_code extensions headers marks operations.signatures files host all bytes others
-          (several_refused extensions headers marks operations.signatures files s bytes code host all
-          (TreeChecks operations.signatures (Some files) text)
-          (λ r values report. tree_well operations files r values text s bytes report (refuses s code)) x)
-          (several_refused extensions headers marks operations.signatures files t others code' host all
-          (TreeChecks operations.signatures (Some files) text)
-          (λ r values report. tree_well operations files r values text t others report (refuses t code')) y)
-      asked_code (a.run text name steps host all) x y =
-          one_file_code extensions headers marks operations.signatures files host all bytes others
-          (several_refused extensions headers marks operations.signatures files s bytes code host all
-          (RunChecks operations (Some files) text name steps)
-          (λ r values report. run_well operations files r values text name steps s bytes report (refuses s code)) x)
-          (several_refused extensions headers marks operations.signatures files t others code' host all
-          (RunChecks operations (Some files) text name steps)
-          (λ r values report. run_well operations files r values text name steps t others report (refuses t code')) y)
-      asked_code (a.generate number size name host all) x y =
-          one_file_code extensions headers marks operations.signatures files host all bytes others
-          (several_refused extensions headers marks operations.signatures files s bytes code host all
-          (GenerateChecks operations number size name)
-          (λ r values report. generate_well operations files r values number size name s bytes report (refuses s code)) x)
-          (several_refused extensions headers marks operations.signatures files t others code' host all
-          (GenerateChecks operations number size name)
-          (λ r values report. generate_well operations files r values number size name t others report (refuses t code')) y)
-      asked_code (a.certificate host all) x y =
-          one_file_code extensions headers marks operations.signatures files host all bytes others
-          (several_refused extensions headers marks operations.signatures files s bytes code host all CertificateChecks
-          (λ r values report. certificate_well operations files r values s bytes report (refuses s code)) x)
-          (several_refused extensions headers marks operations.signatures files t others code' host all CertificateChecks
-          (λ r values report. certificate_well operations files r values t others report (refuses t code')) y)
       asked_code (a.recheck host certificate extension) x y =
           one_file_code extensions headers marks operations.signatures files host (refused_files extension) bytes others
           (recheck_refused extensions headers marks operations.signatures files s bytes code host certificate extension x)
           (recheck_refused extensions headers marks operations.signatures files t others code' host certificate extension y)
-      asked_code (a.edit text list host all) x y =
-          one_file_code extensions headers marks operations.signatures files host all bytes others
-          (several_refused extensions headers marks operations.signatures files s bytes code host all
-          (EditChecks operations.signatures (Some files) text list)
-          (λ r values report. edit_well operations files r values text list s bytes report (refuses s code)) x)
-          (several_refused extensions headers marks operations.signatures files t others code' host all
-          (EditChecks operations.signatures (Some files) text list)
-          (λ r values report. edit_well operations files r values text list t others report (refuses t code')) y)
-      asked_code (a.reading text host all) x y =
-          one_file_code extensions headers marks operations.signatures files host all bytes others
-          (several_refused extensions headers marks operations.signatures files s bytes code host all
-          (ReadingChecks operations.signatures (Some files) text)
-          (λ r values report. reading_well operations files r values text s bytes report (refuses s code)) x)
-          (several_refused extensions headers marks operations.signatures files t others code' host all
-          (ReadingChecks operations.signatures (Some files) text)
-          (λ r values report. reading_well operations files r values text t others report (refuses t code')) y)
+      asked_code other x y = rest_code other (reports_rest operations files other tt) x y
 
 -- words and known files have one code
 pub one_code : ExcludesExtensions → ExcludesHeaders → RefusalsExclude → HaveOneStatus → HaveOneCode

@@ -44,10 +44,11 @@ asked_by (Show file) = show file.now
 asked_by (Check host) = check host.now
 asked_by (Certify host extensions) = certify host.now (texts extensions.now)
 asked_by (Compose host extensions) = compose host.now (texts extensions.now)
-asked_by (Tree text host extensions) = tree text.now host.now (texts extensions.now)
-asked_by (Run text attribute steps host extensions) = run text.now attribute.now steps host.now (texts extensions.now)
-asked_by (Generate number size attribute host extensions) = generate number size attribute.now host.now (texts extensions.now)
+asked_by (Tree words) = tree words.text.now words.host.now (texts words.extensions.now)
+asked_by (Run words) = run words.text.now words.of.attribute.now words.steps words.of.host.now (texts words.of.extensions.now)
+asked_by (Generate words) =
+    generate words.number words.size words.of.attribute.now words.of.host.now (texts words.of.extensions.now)
 asked_by (Certificate host extensions) = certificate host.now (texts extensions.now)
 asked_by (Recheck host text extension) = recheck host.now text.now (texts extension.now)
-asked_by (Edit text edits host extensions) = edit text.now edits.now host.now (texts extensions.now)
-asked_by (Reading text host extensions) = reading text.now host.now (texts extensions.now)
+asked_by (Edit words) = edit words.of.text.now words.edits.now words.of.host.now (texts words.of.extensions.now)
+asked_by (Reading words) = reading words.text.now words.host.now (texts words.extensions.now)

@@ -28,27 +28,11 @@ pub enum Command<'a> {
         extensions: &'a [String],
     },
     /// `tree --text FILE HOST EXT..`
-    Tree {
-        text: &'a str,
-        host: &'a str,
-        extensions: &'a [String],
-    },
+    Tree(TextWords<'a>),
     /// `run --text FILE --attr NAME [--steps N] HOST EXT..`; 1,000,000 steps where none are given
-    Run {
-        text: &'a str,
-        attribute: &'a str,
-        steps: u64,
-        host: &'a str,
-        extensions: &'a [String],
-    },
+    Run(RunWords<'a>),
     /// `generate --number N --size K --attr NAME HOST EXT..`
-    Generate {
-        number: u64,
-        size: u64,
-        attribute: &'a str,
-        host: &'a str,
-        extensions: &'a [String],
-    },
+    Generate(GenerateWords<'a>),
     /// `certificate HOST [EXT]`; one extension or none
     Certificate {
         host: &'a str,
@@ -61,16 +45,46 @@ pub enum Command<'a> {
         extension: &'a [String],
     },
     /// `edit --text FILE --edits FILE HOST EXT..`
-    Edit {
-        text: &'a str,
-        edits: &'a str,
-        host: &'a str,
-        extensions: &'a [String],
-    },
+    Edit(EditWords<'a>),
     /// `reading --text FILE HOST EXT..`
-    Reading {
-        text: &'a str,
-        host: &'a str,
-        extensions: &'a [String],
-    },
+    Reading(TextWords<'a>),
+}
+
+/// A text, and the host and extensions in whose language it is.
+#[derive(Clone, Copy)]
+pub struct TextWords<'a> {
+    pub text: &'a str,
+    pub host: &'a str,
+    pub extensions: &'a [String],
+}
+
+/// An attribute of a host with extensions.
+#[derive(Clone, Copy)]
+pub struct AttributeWords<'a> {
+    pub attribute: &'a str,
+    pub host: &'a str,
+    pub extensions: &'a [String],
+}
+
+/// A text at whose root the attribute is asked, and the most steps of its evaluation.
+#[derive(Clone, Copy)]
+pub struct RunWords<'a> {
+    pub text: &'a str,
+    pub steps: u64,
+    pub of: AttributeWords<'a>,
+}
+
+/// A number that makes such a text, of so many leaves at most.
+#[derive(Clone, Copy)]
+pub struct GenerateWords<'a> {
+    pub number: u64,
+    pub size: u64,
+    pub of: AttributeWords<'a>,
+}
+
+/// A list of edits, and the text that they are done on.
+#[derive(Clone, Copy)]
+pub struct EditWords<'a> {
+    pub edits: &'a str,
+    pub of: TextWords<'a>,
 }

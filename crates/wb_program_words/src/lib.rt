@@ -12,6 +12,6 @@ mod usage;
 mod values;
 mod words;
 
-pub use command::Command;
+pub use command::{AttributeWords, Command, EditWords, GenerateWords, RunWords, TextWords};
 pub use usage::usage_line;
 pub use words::command_of;

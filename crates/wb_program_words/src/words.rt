@@ -4,12 +4,14 @@
 
 ghost use Rattle.std.specs.Prelude.{◌≡◌, ◌↔◌, IfSome, IfNone, IsTrue, drop, map};
 ghost use Rattle.wb_program_words.specs.Asked.{Asked, asked_by, texts};
-ghost use Rattle.wb_program_words.specs.OptionValues.{word_at};
+ghost use Rattle.wb_program_words.specs.OptionValues.{text_at, word_at};
 ghost use Rattle.wb_program_words.specs.Rows.{IsCount, asked_of};
 ghost use Rattle.wb_program_words.specs.Words.{Asks, Says};
 ghost use Rattle.wb_program_words.specs.Inner.Values.{value_in};
 
-use crate::Command;
+use crate::command::{
+    AttributeWords, Command, EditWords, GenerateWords, RunWords, TextWords,
+};
 use crate::options::options_of;
 use crate::rows::{Count, Verb, row_of, verb_of};
 use crate::values::{Value, number_at, text_at, values_of};
@@ -61,56 +63,63 @@ fn command_with<'a>(verb: Verb, values: &[Value<'a>], words: &'a [String]) -> Co
         Verb::Check => Command::Check { host },
         Verb::Certify => Command::Certify { host, extensions },
         Verb::Compose => Command::Compose { host, extensions },
-        Verb::Tree => Command::Tree {
-            text: text_at(values, 0),
-            host,
-            extensions,
-        },
-        Verb::Run => run_with(values, words),
-        Verb::Generate => generate_with(values, words),
+        Verb::Tree => Command::Tree(text_words(values, words)),
+        Verb::Run => Command::Run(run_words(values, words)),
+        Verb::Generate => Command::Generate(generate_words(values, words)),
         Verb::Certificate => Command::Certificate { host, extensions },
         Verb::Recheck => Command::Recheck {
             host,
             certificate: word_at(words, 1),
             extension: words_after(extensions),
         },
-        Verb::Edit => Command::Edit {
-            text: text_at(values, 0),
+        Verb::Edit => Command::Edit(EditWords {
             edits: text_at(values, 1),
-            host,
-            extensions,
-        },
-        Verb::Reading => Command::Reading {
-            text: text_at(values, 0),
-            host,
-            extensions,
-        },
+            of: text_words(values, words),
+        }),
+        Verb::Reading => Command::Reading(text_words(values, words)),
     }
 }
 
-// That of `run`.
-fn run_with<'a>(values: &[Value<'a>], words: &'a [String]) -> Command<'a>
-    ensures { asked_by result ≡ asked_of Verb.Run (map value_in values.now) (texts words.now) }
+// A text that is the first value, with the host and the extensions.
+fn text_words<'a>(values: &[Value<'a>], words: &'a [String]) -> TextWords<'a>
+    ensures text { result.text.now ≡ text_at (map value_in values.now) 0 }
+    ensures host { result.host.now ≡ word_at (texts words.now) 0 }
+    ensures extensions { texts result.extensions.now ≡ drop 1 (texts words.now) }
 {
-    Command::Run {
+    TextWords {
         text: text_at(values, 0),
-        attribute: text_at(values, 1),
-        steps: number_at(values, 2),
         host: word_at(words, 0),
         extensions: words_after(words),
     }
 }
 
-// That of `generate`.
-fn generate_with<'a>(values: &[Value<'a>], words: &'a [String]) -> Command<'a>
-    ensures { asked_by result ≡ asked_of Verb.Generate (map value_in values.now) (texts words.now) }
+// What `run` asks with these values and words.
+fn run_words<'a>(values: &[Value<'a>], words: &'a [String]) -> RunWords<'a>
+    ensures { asked_by (Command.Run result) ≡ asked_of Verb.Run (map value_in values.now) (texts words.now) }
 {
-    Command::Generate {
+    RunWords {
+        text: text_at(values, 0),
+        steps: number_at(values, 2),
+        of: AttributeWords {
+            attribute: text_at(values, 1),
+            host: word_at(words, 0),
+            extensions: words_after(words),
+        },
+    }
+}
+
+// What `generate` asks with them.
+fn generate_words<'a>(values: &[Value<'a>], words: &'a [String]) -> GenerateWords<'a>
+    ensures { asked_by (Command.Generate result) ≡ asked_of Verb.Generate (map value_in values.now) (texts words.now) }
+{
+    GenerateWords {
         number: number_at(values, 0),
         size: number_at(values, 1),
-        attribute: text_at(values, 2),
-        host: word_at(words, 0),
-        extensions: words_after(words),
+        of: AttributeWords {
+            attribute: text_at(values, 2),
+            host: word_at(words, 0),
+            extensions: words_after(words),
+        },
     }
 }
 

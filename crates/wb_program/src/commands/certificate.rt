@@ -36,7 +36,7 @@ pub(crate) fn answer_certificate<S: Shelf, M: Meaning>(
     match read_composable(alloc, shelf, host, extensions, operations)? {
         Ok(all) => {
             let answer = answer_certified(alloc, &all.host, &all.extensions);
-            all.release();
+            drop(all);
             Ok(answer?)
         }
         Err(answer) => Ok(answer),

@@ -38,7 +38,7 @@ pub(crate) fn answer_compose<S: Shelf, M: Meaning>(
     match read_composable(alloc, shelf, host, extensions, operations)? {
         Ok(all) => {
             let answer = answer_composed(alloc, &all.host, &all.extensions);
-            all.release();
+            drop(all);
             Ok(answer?)
         }
         Err(answer) => Ok(answer),
