@@ -31,7 +31,8 @@ module _ (operations : List OperationSignature) (known : Option Files) (file hos
   pub with_ended : RefusesWith operations known file host extensions status bytes
       → SeveralChecks operations known host extensions (TextChecks known file rest) status bytes
   with_ended =
-      several_so operations host extensions known (TextChecks known file (λ q others text s line. ⊥)) (TextChecks known file rest) status bytes
+      several_so operations host extensions known (TextChecks known file (λ q others text s line. ⊥)) (TextChecks known file rest) status
+      bytes
       (λ r values. long_ended known file rest r values status bytes)
 
   -- what is said of the text

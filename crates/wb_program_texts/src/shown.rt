@@ -72,19 +72,19 @@ fn printed_value(
     alloc: Global,
     printed: &Bytes,
     name: &str,
-    made: Option<Made>,
+    size: Option<Made>,
 ) -> Result<Answer, AllocError>
-    ensures { IfOk result (λ answer. Ends Status.Done (λ line. line ≡ report_of (Outcome.Done (shown_with name.now made printed.now))) answer.status answer.report.items) }
+    ensures { IfOk result (λ made. Ends Status.Done (λ line. line ≡ report_of (Outcome.Done (shown_with name.now size printed.now))) made.status made.report.items) }
 {
     let value = Sequence::from_vec(Vec::from_slice(alloc, printed.as_slice())?);
     let attribute = Bytes::from_slice(alloc, name.as_bytes())?;
-    match made {
-        Some(Made { leaves, bytes }) => reported(
+    match size {
+        Some(size) => reported(
             alloc,
             Status::Done,
             Outcome::Done(Done::Generated {
-                leaves,
-                bytes,
+                leaves: size.leaves,
+                bytes: size.bytes,
                 attribute,
                 value,
             }),

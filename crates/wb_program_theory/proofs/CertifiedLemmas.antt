@@ -237,12 +237,17 @@ module _ (operations : Operations) (files : Files) where
   reports_rest (asks.certificate host all) is =
       rest_with host all (CertificateChecks) (λ s bytes report. report) (certificate_well operations files)
   reports_rest (asks.tree text host all) is =
-      rest_with host all (TreeChecks operations.signatures (Some files) text) (λ s bytes report. report) (λ r values. tree_well operations files r values text)
+      rest_with host all (TreeChecks operations.signatures (Some files) text) (λ s bytes report. report)
+      (λ r values. tree_well operations files r values text)
   reports_rest (asks.reading text host all) is =
-      rest_with host all (ReadingChecks operations.signatures (Some files) text) (λ s bytes report. report) (λ r values. reading_well operations files r values text)
+      rest_with host all (ReadingChecks operations.signatures (Some files) text) (λ s bytes report. report)
+      (λ r values. reading_well operations files r values text)
   reports_rest (asks.edit text list host all) is =
-      rest_with host all (EditChecks operations.signatures (Some files) text list) (λ s bytes report. report) (λ r values. edit_well operations files r values text list)
+      rest_with host all (EditChecks operations.signatures (Some files) text list) (λ s bytes report. report)
+      (λ r values. edit_well operations files r values text list)
   reports_rest (asks.run text name steps host all) is =
-      rest_with host all (RunChecks operations (Some files) text name steps) (λ s bytes report. report) (λ r values. run_well operations files r values text name steps)
+      rest_with host all (RunChecks operations (Some files) text name steps) (λ s bytes report. report)
+      (λ r values. run_well operations files r values text name steps)
   reports_rest (asks.generate number size name host all) is =
-      rest_with host all (GenerateChecks operations number size name) (λ s bytes report. report) (λ r values. generate_well operations files r values number size name)
+      rest_with host all (GenerateChecks operations number size name) (λ s bytes report. report)
+      (λ r values. generate_well operations files r values number size name)

@@ -21,8 +21,8 @@ text_value-value-requires-clause-question g c =
     record {
       composed = subst (λ (es : List ExtensionView). IsComposed all.host es asked.composed.language.language asked.composed.withdrawn.items)
           same of.composed;
-      attributes = subst (λ (es : List ExtensionView). IsOfUnion all.host.resolved all.host.operations (all_resolved es) asked.root.attributes)
-          same of.root.attributes;
+      attributes = subst (λ (es : List ExtensionView). IsOfUnion all.host.resolved all.host.operations (all_resolved es)
+          asked.root.attributes) same of.root.attributes;
       same = c.requires.asked.signatures;
       asked = (
         c.args.shows.now.name.now,

@@ -40,7 +40,10 @@ returns-in-Ok g c =
     })
     (λ status bytes long. several_read signatures host extensions known (TextChecks known file (λ r values text s line. ⊥)) all status bytes
     are (inl (subst (λ (told : Option Files). Ends TextTooLong (IsTooLongText told file) status bytes) same long))))
-    (λ P Q weaker meets. (are.few, inr (all.host.resolved, are.is_host, inr (all_resolved all.extensions.items, are.each, weaker file meets))))
+    (λ P Q weaker meets. (
+      are.few,
+      inr (all.host.resolved, are.is_host, inr (all_resolved all.extensions.items, are.each, weaker file meets)),
+    ))
 
 pub returns-in-Err : goal.returns-in-Err
 returns-in-Err g c =
