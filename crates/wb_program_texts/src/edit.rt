@@ -20,7 +20,9 @@ use std::alloc::{AllocError, Global};
 use wb_base::{Bytes, FILE_LIMIT, Sequence};
 use wb_compose_texts::{EditsAnswer, compose, united_edits_answer};
 use wb_operations::{Meaning, OperationTable};
-use wb_program_files::{Answer, Contents, ReadFailure, Status, read_file, reported};
+use wb_program_files::{
+    Answer, CertifiedExtension, Contents, ReadFailure, Status, read_file, reported,
+};
 use wb_program_words::EditWords;
 use wb_report::{Done, EditsReason, Outcome, Refusal};
 use wb_session_edits::{Edit, EditsRefusal, read_edits};
@@ -115,7 +117,7 @@ fn united_answer(
     ensures { IfOk result (IsUnitedEditsAnswer read.now.all.host.resolved read.now.all.host.operations (all_resolved read.now.all.extensions.items) read.now.text.items edits.now) }
 {
     let host = &read.all.host;
-    let extensions = &read.all.extensions;
+    let extensions: &[CertifiedExtension] = &read.all.extensions;
     let composed = compose(alloc, host, extensions)?;
     let answer = united_edits_answer(alloc, host, extensions, &composed, &read.text, edits);
     composed.release();

@@ -1,88 +1,198 @@
--- The text and its edits are read after the host and the extensions, and their report comes after theirs.
-use Rattle.std.proofs.Common.{◌⊎◌, ℕ, List, Option, inr, subst}
-use Rattle.wb_program_files.specs.Kept.{ExtensionView}
+-- The edits come after the host, the extensions and the text, and then what becomes of the text by them.
+use Rattle.std.proofs.Common.{◌⊎◌, ℕ, List, Option, Err, inl, inr, refl, subst}
+use Rattle.wb_compose_texts.specs.EditAnswers.{IsUnitedEditsAnswer}
 use Rattle.wb_compose_texts.specs.Unions.{all_resolved}
 use Rattle.wb_operations.specs.Operations.{OperationSignature}
-use Rattle.wb_program_words.specs.Asked.{texts}
-use Rattle.wb_syntax_resolved.specs.declared.resolved.ResolvedParts.{ResolvedParts}
+use Rattle.wb_session_edits.specs.declared.edit.Edit.{Edit}
 use Rattle.wb_world.specs.Shelf.{Files}
-use Rattle.wb_program_files.specs.Checks.{Check, Report}
-use Rattle.wb_program_texts.specs.Commands.Edit.{EditsReport}
-use Rattle.wb_program_texts.specs.Composable.{AreRead, RefusesAny}
+use Rattle.wb_program_words.specs.Asked.{texts}
+use Rattle.wb_program_files.specs.Checks.{Ends}
 use Rattle.wb_program_files.specs.Stopped.{outside}
-use Rattle.wb_program_files.specs.Texts.{IsText, IsTooLongText}
-use Rattle.wb_program_files.specs.declared.status.Status.TheVariants.{TextTooLong}
-use Rattle.wb_program_files.proofs.StopLemmas.{err_of, ok_of}
-use Rattle.wb_program_texts.proofs.ComposeLemmas.{composed_ended, several_ended, several_read}
-use Rattle.wb_program_texts.proofs.EditLemmas.{comes_since}
-use Rattle.wb_program_files.proofs.MakesLemmas.{answered, handed, made_since}
+use Rattle.wb_program_files.specs.Texts.{IsText}
+use Rattle.wb_program_files.specs.declared.status.Status.TheVariants.{EditRefused}
+use Rattle.wb_program_files.proofs.MakesLemmas.{answered, exhausted, handed}
+use Rattle.wb_program_files.proofs.StopLemmas.{goes_on_twice}
+use Rattle.wb_program_texts.specs.Commands.Edit.{EditsReport, IsListFile, IsNoList}
+use Rattle.wb_program_texts.specs.Inner.WithTexts.{AreReadWith, RefusesWith}
+use Rattle.wb_program_texts.proofs.ComposeLemmas.{composed_so}
+use Rattle.wb_program_texts.proofs.EditLemmas.{stops_at_list}
+use Rattle.wb_program_texts.proofs.StepLemmas.{step_ended, step_ok}
+use Rattle.wb_program_texts.proofs.WithTextLemmas.{with_ended, with_read}
 use Rattle.wb_program_texts.proofs.edit.answer_edit.Goals as goal
 
-pub returns-in-Ok : goal.returns-in-Ok
-returns-in-Ok g c =
+pub united_answer-answer-requires-clause-apart : goal.united_answer-answer-requires-clause-apart
+united_answer-answer-requires-clause-apart g c =
     let known = g.S.Shelf.files c.args.shelf.now in
-    let between = g.S.Shelf.files c.read_composable.new.shelf in
     let signatures = c.args.operations.now.signatures in
-    let host = c.args.host.now in
-    let extensions = texts c.args.extensions.now in
-    let file = c.args.text.now in
-    let list = c.args.edits.now in
-    let all = c.in-Ok.all in
-    let es = all.extensions.items in
-    let are : AreRead signatures known host extensions all =
-    ok_of c.in_ok-all.field-0 all (AreRead signatures known host extensions) c.in-Ok.is c.in_ok-all.ensures.ok in
-    let Shows : List OperationSignature → List ExtensionView → Option Files → Report = λ operations views told.
-    Check TextTooLong (IsTooLongText told file) (IsText told file)
-    (λ (text : List ℕ). EditsReport operations told list all.host.resolved (all_resolved views) text) in
-    let rest : ResolvedParts → List ResolvedParts → Report = λ r values.
-    Check TextTooLong (IsTooLongText known file) (IsText known file)
-    (λ (text : List ℕ). EditsReport signatures known list r values text) in
-    made_since c.answer_text-answer.result c.read_composable.ensures.goes_on c.answer_text-answer.ensures
-    (λ answer shown. several_read signatures host extensions known rest all answer.status answer.report.items are
-    (subst (λ (told : Option Files). Shows signatures es told answer.status answer.report.items) c.read_composable.ensures.goes_on.files
-    (subst (λ (operations : List OperationSignature). Shows operations es between answer.status answer.report.items) are.signatures
-    (subst (λ (views : List ExtensionView). Shows all.host.operations views between answer.status answer.report.items)
-    c.deref.ensures.value shown))))
-    (λ P Q weaker meets. (
-      are.few,
-      inr (
-        all.host.resolved,
-        are.is_host,
-        inr (
-          all_resolved es,
-          are.each,
-          comes_since known between file list c.read_composable.ensures.goes_on.files P Q weaker meets,
-        ),
-      ),
-    ))
+    let words = c.args.words.now in
+    let file = words.of.text.now in
+    let list = words.edits.now in
+    let host = words.of.host.now in
+    let extensions = texts words.of.extensions.now in
+    let read = c.in-Ok.read in
+    let is : AreReadWith signatures known file host extensions read =
+    step_ok c.in_ok-read.field-0 (AreReadWith signatures known file host extensions) (RefusesWith signatures known file host extensions)
+    read c.in-Ok.is c.in_ok-read.ensures.ok in
+    is.are.apart
+
+pub united_answer-answer-requires-clause-short : goal.united_answer-answer-requires-clause-short
+united_answer-answer-requires-clause-short g c =
+    let known = g.S.Shelf.files c.args.shelf.now in
+    let signatures = c.args.operations.now.signatures in
+    let words = c.args.words.now in
+    let file = words.of.text.now in
+    let list = words.edits.now in
+    let host = words.of.host.now in
+    let extensions = texts words.of.extensions.now in
+    let read = c.in-Ok.read in
+    let is : AreReadWith signatures known file host extensions read =
+    step_ok c.in_ok-read.field-0 (AreReadWith signatures known file host extensions) (RefusesWith signatures known file host extensions)
+    read c.in-Ok.is c.in_ok-read.ensures.ok in
+    is.is.1
+
+pub returns-in_err-read : goal.returns-in_err-read
+returns-in_err-read g c =
+    let before = outside (g.S.Shelf.files c.args.shelf.now) (g.S.Shelf.absences c.args.shelf.now) (g.S.Shelf.faults c.args.shelf.now) in
+    let now = outside (g.S.Shelf.files c.read_with_text.new.shelf) (g.S.Shelf.absences c.read_with_text.new.shelf)
+    (g.S.Shelf.faults c.read_with_text.new.shelf) in
+    let known = g.S.Shelf.files c.args.shelf.now in
+    let signatures = c.args.operations.now.signatures in
+    let words = c.args.words.now in
+    let file = words.of.text.now in
+    let list = words.edits.now in
+    let host = words.of.host.now in
+    let extensions = texts words.of.extensions.now in
+    let failure = c.in_err-read.field-0.0 in
+    handed c.from_residual.result failure c.from_residual.ensures.1
+    (composed_so signatures host extensions before now (λ P r values. P file)
+    (λ P r values. P file ⊎ (((text : List ℕ) × IsText known file text) × P list)) failure (λ P r values meets. inl meets)
+    c.in_err-read.ensures.stopped)
+    c.read_with_text.ensures.goes_on
 
 pub returns-in-Err : goal.returns-in-Err
 returns-in-Err g c =
     let known = g.S.Shelf.files c.args.shelf.now in
     let signatures = c.args.operations.now.signatures in
-    let host = c.args.host.now in
-    let extensions = texts c.args.extensions.now in
-    let file = c.args.text.now in
-    let list = c.args.edits.now in
+    let words = c.args.words.now in
+    let file = words.of.text.now in
+    let list = words.edits.now in
+    let host = words.of.host.now in
+    let extensions = texts words.of.extensions.now in
     let answer = c.in-Err.answer in
     answered answer
-    (several_ended signatures host extensions known
-    (λ r values. Check TextTooLong (IsTooLongText known file) (IsText known file)
-    (λ (text : List ℕ). EditsReport signatures known list r values text))
-    answer.status answer.report.items
-    (err_of c.in_ok-all.field-0 answer (λ made. RefusesAny signatures known host extensions made.status made.report.items) c.in-Err.is
-    c.in_ok-all.ensures.refused))
-    c.read_composable.ensures.goes_on
+    (with_ended signatures known file host extensions (EditsReport signatures known list) answer.status answer.report.items
+    (step_ended c.in_ok-read.field-0 (AreReadWith signatures known file host extensions) (RefusesWith signatures known file host extensions)
+    answer c.in-Err.is c.in_ok-read.ensures.ok))
+    c.read_with_text.ensures.goes_on
 
-pub returns-in_err-all : goal.returns-in_err-all
-returns-in_err-all g c =
+pub returns-in-Ok-Err : goal.returns-in-Ok-Err
+returns-in-Ok-Err g c =
     let before = outside (g.S.Shelf.files c.args.shelf.now) (g.S.Shelf.absences c.args.shelf.now) (g.S.Shelf.faults c.args.shelf.now) in
-    let now = outside (g.S.Shelf.files c.read_composable.new.shelf) (g.S.Shelf.absences c.read_composable.new.shelf)
-    (g.S.Shelf.faults c.read_composable.new.shelf) in
-    let failure = c.in_err-all.field-0.0 in
-    handed c.from_residual.result failure c.from_residual.ensures.1
-    (composed_ended c.args.operations.now.signatures c.args.host.now (texts c.args.extensions.now) before now
-    (λ P r values. P c.args.text.now
-    ⊎ (((text : List ℕ) × IsText (g.S.Shelf.files c.args.shelf.now) c.args.text.now text) × P c.args.edits.now))
-    failure c.in_err-all.ensures.stopped)
-    c.read_composable.ensures.goes_on
+    let between = outside (g.S.Shelf.files c.read_with_text.new.shelf) (g.S.Shelf.absences c.read_with_text.new.shelf)
+    (g.S.Shelf.faults c.read_with_text.new.shelf) in
+    let now = outside (g.S.Shelf.files c.read_list.new.shelf) (g.S.Shelf.absences c.read_list.new.shelf)
+    (g.S.Shelf.faults c.read_list.new.shelf) in
+    let known = g.S.Shelf.files c.args.shelf.now in
+    let signatures = c.args.operations.now.signatures in
+    let words = c.args.words.now in
+    let file = words.of.text.now in
+    let list = words.edits.now in
+    let host = words.of.host.now in
+    let extensions = texts words.of.extensions.now in
+    let read = c.in-Ok.read in
+    let is : AreReadWith signatures known file host extensions read =
+    step_ok c.in_ok-read.field-0 (AreReadWith signatures known file host extensions) (RefusesWith signatures known file host extensions)
+    read c.in-Ok.is c.in_ok-read.ensures.ok in
+    let answer = c.in-Ok-Err.answer in
+    answered answer
+    (with_read signatures known file host extensions (EditsReport signatures known list) answer.status answer.report.items read is
+    (inl (subst (λ (told : Option Files). Ends EditRefused (IsNoList told list) answer.status answer.report.items)
+    c.read_with_text.ensures.goes_on.files
+    (step_ended c.in-Ok-Err.field-0 (IsListFile between.files list) (Ends EditRefused (IsNoList between.files list)) answer
+    c.in-Ok-Err.field-0-is c.in-Ok-Err.ensures.ok))))
+    (goes_on_twice before between now c.read_with_text.ensures.goes_on c.read_list.ensures.goes_on)
+
+pub returns-in-Err-read_list : goal.returns-in-Err-read_list
+returns-in-Err-read_list g c =
+    let before = outside (g.S.Shelf.files c.args.shelf.now) (g.S.Shelf.absences c.args.shelf.now) (g.S.Shelf.faults c.args.shelf.now) in
+    let between = outside (g.S.Shelf.files c.read_with_text.new.shelf) (g.S.Shelf.absences c.read_with_text.new.shelf)
+    (g.S.Shelf.faults c.read_with_text.new.shelf) in
+    let now = outside (g.S.Shelf.files c.read_list.new.shelf) (g.S.Shelf.absences c.read_list.new.shelf)
+    (g.S.Shelf.faults c.read_list.new.shelf) in
+    let known = g.S.Shelf.files c.args.shelf.now in
+    let signatures = c.args.operations.now.signatures in
+    let words = c.args.words.now in
+    let file = words.of.text.now in
+    let list = words.edits.now in
+    let host = words.of.host.now in
+    let extensions = texts words.of.extensions.now in
+    let read = c.in-Ok.read in
+    let is : AreReadWith signatures known file host extensions read =
+    step_ok c.in_ok-read.field-0 (AreReadWith signatures known file host extensions) (RefusesWith signatures known file host extensions)
+    read c.in-Ok.is c.in_ok-read.ensures.ok in
+    let failure = c.in-Err-read_list.failure in
+    handed (Err failure) failure refl
+    (stops_at_list signatures before between now file list host extensions read failure is c.read_with_text.ensures.goes_on
+    c.in-Err-read_list.ensures.stopped)
+    (goes_on_twice before between now c.read_with_text.ensures.goes_on c.read_list.ensures.goes_on)
+
+pub returns-in_err-answer : goal.returns-in_err-answer
+returns-in_err-answer g c =
+    let before = outside (g.S.Shelf.files c.args.shelf.now) (g.S.Shelf.absences c.args.shelf.now) (g.S.Shelf.faults c.args.shelf.now) in
+    let between = outside (g.S.Shelf.files c.read_with_text.new.shelf) (g.S.Shelf.absences c.read_with_text.new.shelf)
+    (g.S.Shelf.faults c.read_with_text.new.shelf) in
+    let now = outside (g.S.Shelf.files c.read_list.new.shelf) (g.S.Shelf.absences c.read_list.new.shelf)
+    (g.S.Shelf.faults c.read_list.new.shelf) in
+    exhausted c.from_residual-in_err-answer.result c.from_residual-in_err-answer.ensures.1
+    (goes_on_twice before between now c.read_with_text.ensures.goes_on c.read_list.ensures.goes_on)
+
+pub returns-in_err-shown_edits : goal.returns-in_err-shown_edits
+returns-in_err-shown_edits g c =
+    let before = outside (g.S.Shelf.files c.args.shelf.now) (g.S.Shelf.absences c.args.shelf.now) (g.S.Shelf.faults c.args.shelf.now) in
+    let between = outside (g.S.Shelf.files c.read_with_text.new.shelf) (g.S.Shelf.absences c.read_with_text.new.shelf)
+    (g.S.Shelf.faults c.read_with_text.new.shelf) in
+    let now = outside (g.S.Shelf.files c.read_list.new.shelf) (g.S.Shelf.absences c.read_list.new.shelf)
+    (g.S.Shelf.faults c.read_list.new.shelf) in
+    exhausted c.from_residual-in_err-shown_edits.result c.from_residual-in_err-shown_edits.ensures.1
+    (goes_on_twice before between now c.read_with_text.ensures.goes_on c.read_list.ensures.goes_on)
+
+pub returns : goal.returns
+returns g c =
+    let before = outside (g.S.Shelf.files c.args.shelf.now) (g.S.Shelf.absences c.args.shelf.now) (g.S.Shelf.faults c.args.shelf.now) in
+    let between = outside (g.S.Shelf.files c.read_with_text.new.shelf) (g.S.Shelf.absences c.read_with_text.new.shelf)
+    (g.S.Shelf.faults c.read_with_text.new.shelf) in
+    let now = outside (g.S.Shelf.files c.read_list.new.shelf) (g.S.Shelf.absences c.read_list.new.shelf)
+    (g.S.Shelf.faults c.read_list.new.shelf) in
+    let known = g.S.Shelf.files c.args.shelf.now in
+    let signatures = c.args.operations.now.signatures in
+    let words = c.args.words.now in
+    let file = words.of.text.now in
+    let list = words.edits.now in
+    let host = words.of.host.now in
+    let extensions = texts words.of.extensions.now in
+    let read = c.in-Ok.read in
+    let is : AreReadWith signatures known file host extensions read =
+    step_ok c.in_ok-read.field-0 (AreReadWith signatures known file host extensions) (RefusesWith signatures known file host extensions)
+    read c.in-Ok.is c.in_ok-read.ensures.ok in
+    let r = read.all.host.resolved in
+    let values = all_resolved read.all.extensions.items in
+    let edits : List Edit = c.in-Ok-Ok.edits in
+    let made = c.in_ok-answer.field-0 in
+    let answer = c.in_ok-shown_edits.field-0 in
+    let Is : List OperationSignature → List Edit → Type 0 = λ operations es.
+    IsUnitedEditsAnswer r operations values read.text.items es made in
+    answered answer
+    (with_read signatures known file host extensions (EditsReport signatures known list) answer.status answer.report.items read is
+    (inr (
+      edits,
+      subst (λ (told : Option Files). IsListFile told list edits) c.read_with_text.ensures.goes_on.files
+          (step_ok c.in-Ok-Ok.field-0 (IsListFile between.files list) (Ends EditRefused (IsNoList between.files list)) edits
+          c.in-Ok-Ok.field-0-is c.in-Ok-Ok.ensures.ok),
+      record {
+        answer = made;
+        is = subst (λ (operations : List OperationSignature). Is operations edits) is.are.signatures
+            (subst (Is read.all.host.operations) c.as_slice.ensures c.in_ok-answer.ensures);
+        shown = c.in_ok-shown_edits.ensures;
+      },
+    )))
+    (goes_on_twice before between now c.read_with_text.ensures.goes_on c.read_list.ensures.goes_on)
