@@ -1,5 +1,7 @@
 -- The reading of a text comes after the checks of the host, the extensions and the text.
-use Rattle.std.proofs.Common.{ℕ, List, subst}
+use Rattle.std.proofs.Common.{ℕ, List, All, map, subst, sym}
+use Rattle.wb_base.specs.Different.{Differ}
+use Rattle.wb_compose_texts.specs.Composed.{IsWith, name_of}
 use Rattle.wb_compose_texts.specs.Readings.{IsUnionReading}
 use Rattle.wb_compose_texts.specs.Unions.{all_resolved}
 use Rattle.wb_operations.specs.Operations.{OperationSignature}
@@ -11,6 +13,32 @@ use Rattle.wb_program_texts.specs.Inner.WithTexts.{AreReadWith, RefusesWith}
 use Rattle.wb_program_texts.proofs.StepLemmas.{step_ended, step_ok}
 use Rattle.wb_program_texts.proofs.WithTextLemmas.{with_ended, with_read}
 use Rattle.wb_program_texts.proofs.reading.answer_reading.Goals as goal
+
+pub union_reading-reading-requires-clause-each : goal.union_reading-reading-requires-clause-each
+union_reading-reading-requires-clause-each g c =
+    let known = g.S.Shelf.files c.args.shelf.now in
+    let signatures = c.args.operations.now.signatures in
+    let host = c.args.words.now.host.now in
+    let extensions = texts c.args.words.now.extensions.now in
+    let file = c.args.words.now.text.now in
+    let read = c.in-Ok.read in
+    let is : AreReadWith signatures known file host extensions read =
+    step_ok c.in_ok-read.field-0 (AreReadWith signatures known file host extensions) (RefusesWith signatures known file host extensions)
+    read c.in-Ok.is c.in_ok-read.ensures.ok in
+    subst (λ (es : List ExtensionView). All (IsWith read.all.host) es) (sym c.deref.ensures.value) is.are.apart.each
+
+pub union_reading-reading-requires-clause-names : goal.union_reading-reading-requires-clause-names
+union_reading-reading-requires-clause-names g c =
+    let known = g.S.Shelf.files c.args.shelf.now in
+    let signatures = c.args.operations.now.signatures in
+    let host = c.args.words.now.host.now in
+    let extensions = texts c.args.words.now.extensions.now in
+    let file = c.args.words.now.text.now in
+    let read = c.in-Ok.read in
+    let is : AreReadWith signatures known file host extensions read =
+    step_ok c.in_ok-read.field-0 (AreReadWith signatures known file host extensions) (RefusesWith signatures known file host extensions)
+    read c.in-Ok.is c.in_ok-read.ensures.ok in
+    subst (λ (es : List ExtensionView). Differ (map name_of es)) (sym c.deref.ensures.value) is.are.apart.names
 
 pub returns-in_ok-shown_reading-in-Ok : goal.returns-in_ok-shown_reading-in-Ok
 returns-in_ok-shown_reading-in-Ok g c =

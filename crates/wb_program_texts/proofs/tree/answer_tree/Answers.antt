@@ -1,10 +1,11 @@
 -- The tree of a text comes after the checks of the host, the extensions and the text.
-use Rattle.std.proofs.Common.{ℕ, List, subst}
+use Rattle.std.proofs.Common.{ℕ, List, subst, sym}
 use Rattle.wb_compose_texts.specs.Unions.{all_resolved}
 use Rattle.wb_operations.specs.Operations.{OperationSignature}
 use Rattle.wb_program_words.specs.Asked.{texts}
 use Rattle.wb_program_files.specs.Kept.{ExtensionView}
 use Rattle.wb_program_files.proofs.MakesLemmas.{answered, exhausted, handed}
+use Rattle.wb_program_texts.specs.Composable.{AreApart}
 use Rattle.wb_program_texts.specs.Commands.Tree.{TextReport}
 use Rattle.wb_program_texts.specs.Inner.WithTexts.{AreReadWith, RefusesWith}
 use Rattle.wb_program_texts.proofs.StepLemmas.{step_ended, step_ok}
@@ -12,7 +13,17 @@ use Rattle.wb_program_texts.proofs.WithTextLemmas.{with_ended, with_read}
 use Rattle.wb_program_texts.proofs.tree.answer_tree.Goals as goal
 
 pub tree_of_text-answer-requires : goal.tree_of_text-answer-requires
-tree_of_text-answer-requires g c = ?
+tree_of_text-answer-requires g c =
+    let known = g.S.Shelf.files c.args.shelf.now in
+    let signatures = c.args.operations.now.signatures in
+    let host = c.args.words.now.host.now in
+    let extensions = texts c.args.words.now.extensions.now in
+    let file = c.args.words.now.text.now in
+    let read = c.in-Ok.read in
+    let is : AreReadWith signatures known file host extensions read =
+    step_ok c.in_ok-read.field-0 (AreReadWith signatures known file host extensions) (RefusesWith signatures known file host extensions)
+    read c.in-Ok.is c.in_ok-read.ensures.ok in
+    subst (λ (es : List ExtensionView). AreApart read.all.host es) (sym c.deref.ensures.value) is.are.apart
 
 pub returns-in_ok-answer-in-Ok : goal.returns-in_ok-answer-in-Ok
 returns-in_ok-answer-in-Ok g c =
