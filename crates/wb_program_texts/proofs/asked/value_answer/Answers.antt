@@ -12,8 +12,8 @@ use Rattle.wb_program_texts.specs.Inner.Shows.{shown_by}
 use Rattle.wb_program_texts.specs.Values.{ShownTextValue, TextValueReport}
 use Rattle.wb_program_texts.proofs.asked.value_answer.Goals as goal
 
-pub text_value-value-requires-clause-question : goal.text_value-value-requires-clause-question
-text_value-value-requires-clause-question g c =
+pub text_value-requires-clause-question : goal.text_value-requires-clause-question
+text_value-requires-clause-question g c =
     let asked = c.args.asked.now in
     let all = asked.all in
     let of = c.requires.asked.of in
