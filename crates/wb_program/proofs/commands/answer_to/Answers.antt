@@ -88,8 +88,8 @@ returns-in-Reading g c =
     of_command operations (texts c.args.words.now) c.answer_reading.result c.in-Some.command c.in-Some.ensures.some
     c.in-Reading.is c.answer_reading.ensures
 
-pub returns-in_ok-usage : goal.returns-in_ok-usage
-returns-in_ok-usage g c =
+pub returns-in_default : goal.returns-in_default
+returns-in_default g c =
     let files = g.S.Shelf.files c.args.shelf.now in
     let answer = c.in_ok-usage.field-0 in
     let operations : Operations = record { signatures = c.args.operations.now.signatures; meaning = g.M.Meaning.meaning } in
