@@ -26,7 +26,7 @@ returns-in-Whole c =
     (λ made. step_so made (IsListRead (Whole c.in-Whole.bytes)) (IsNoListRead file (Whole c.in-Whole.bytes)) (IsFoundList found)
     (IsFoundNone file found)
     (λ edits is. ok_of found edits (IsListOf text) is ok)
-    (λ status bytes is. (is.0, err_of found (r.Syntax is.0) (IsRefused text) is.1.0 refused, is.1.1)))
+    (λ status bytes is. (is.0, err_of found (r.Syntax is.0) (IsRefused text) is.1 refused, is.2)))
     c.listed.ensures)
 
 pub returns-in_ok-refused-in-TooLong : goal.returns-in_ok-refused-in-TooLong

@@ -62,7 +62,7 @@ returns-in_ok-shown_reading-in-Ok g c =
       reading = reading;
       is = subst (λ (operations : List OperationSignature). Is operations read.all.extensions.items read.text.items) is.are.signatures
           (subst (λ (es : List ExtensionView). Is read.all.host.operations es read.text.items) c.deref.ensures.value
-          (subst (Is read.all.host.operations c.deref.result.now) c.deref-2.ensures.value c.in_ok-reading-in-Ok.ensures));
+          (subst (Is read.all.host.operations c.deref.result.now) c.deref-in-Ok.ensures.value c.in_ok-reading-in-Ok.ensures));
       shown = c.in_ok-shown_reading-in-Ok.ensures;
     }))
     c.read_with_text.ensures.goes_on

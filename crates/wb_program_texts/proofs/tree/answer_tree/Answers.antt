@@ -44,7 +44,7 @@ returns-in_ok-answer-in-Ok g c =
     (with_read signatures known file host extensions (TextReport signatures) answer.status answer.report.items read is
     (subst (λ (operations : List OperationSignature). Shown operations read.all.extensions.items read.text.items) is.are.signatures
     (subst (λ (es : List ExtensionView). Shown read.all.host.operations es read.text.items) c.deref.ensures.value
-    (subst (Shown read.all.host.operations c.deref.result.now) c.deref-2.ensures.value c.in_ok-answer-in-Ok.ensures))))
+    (subst (Shown read.all.host.operations c.deref.result.now) c.deref-in-Ok.ensures.value c.in_ok-answer-in-Ok.ensures))))
     c.read_with_text.ensures.goes_on
 
 pub returns-in_err-answer-in-Ok : goal.returns-in_err-answer-in-Ok
