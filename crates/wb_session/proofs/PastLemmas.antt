@@ -60,26 +60,29 @@ no_older parts text older ok none to_is moved_is limit terminals = record {
   terminals = terminals;
 }
 
--- the run before an edit
-pub edit_older : (parts : LanguageParts) (text bytes made : List ℕ) (from to : ℕ) → from ≤ to → to ≤ length text → (roots : Roots)
-    (places : List LeafPlace) (points : List Checkpoint) (older : Older) → IsLanguage parts.language →
-    AreCheckpoints parts text roots places points → older.checkpoints.now ≡ points → older.places.now ≡ places →
-    older.entries.now ≡ roots.entries → older.to ≡ to → older.moved ≡ from + length bytes → made ≡ edited text from to bytes →
-    older.limit ≡ length made → older.terminals ≡ parts.language.grammar.terminals → IsOlder parts made older
-edit_older parts text bytes made from to order within roots places points older ok are points_are places_are entries_are to_is moved_is
-    made_is limit terminals = record {
-      language = ok;
-      old = text;
-      roots = roots;
-      entries = sym entries_are;
-      each = λ i point at. subst (λ z. IsKept parts text roots (take i z) point) (sym places_are)
-          (are.each i point (subst (λ z. slice_get z i ≡ Some point) points_are at));
-      rest = subst (λ z. SameRest text older.to z older.moved) (sym made_is)
-          (subst (λ n. SameRest text n (edited text from to bytes) older.moved) (sym to_is)
-          (subst (λ n. SameRest text to (edited text from to bytes) n) (sym moved_is) (edit_behind text bytes from to order within)));
-      limit = limit;
-      terminals = terminals;
-    }
+-- the run of a text that has the rest
+pub past_older : (parts : LanguageParts) (old text : List ℕ) (roots : Roots) (places : List LeafPlace) (points : List Checkpoint)
+    (older : Older) → IsLanguage parts.language → AreCheckpoints parts old roots places points → older.checkpoints.now ≡ points →
+    older.places.now ≡ places → roots.entries ≡ older.entries.now → SameRest old older.to text older.moved → older.limit ≡ length text →
+    older.terminals ≡ parts.language.grammar.terminals → IsOlder parts text older
+past_older parts old text roots places points older ok are points_are places_are entries_are rest limit terminals = record {
+  language = ok;
+  old = old;
+  roots = roots;
+  entries = entries_are;
+  each = λ i point at. subst (λ z. IsKept parts old roots (take i z) point) (sym places_are)
+      (are.each i point (subst (λ z. slice_get z i ≡ Some point) points_are at));
+  rest = rest;
+  limit = limit;
+  terminals = terminals;
+}
+
+-- what an edit makes of a text has its rest
+pub edited_rest : (text bytes made : List ℕ) (from to moved : ℕ) → from ≤ to → to ≤ length text → made ≡ edited text from to bytes →
+    moved ≡ from + length bytes → SameRest text to made moved
+edited_rest text bytes made from to moved order within made_is moved_is =
+    subst (λ z. SameRest text to z moved) (sym made_is)
+    (subst (λ n. SameRest text to (edited text from to bytes) n) (sym moved_is) (edit_behind text bytes from to order within))
 
 -- the entries that are shared stay so among more
 pub shares_more : (es es' : List Entry) (older : Older) → take (length es) es' ≡ es → Shares es older →

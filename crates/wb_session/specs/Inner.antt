@@ -6,6 +6,8 @@ pub mod Steps
 pub mod Rounds
 -- a memory before its text is read
 pub mod Memories
+-- a memory whose next text is made
+pub mod Begun
 -- nodes over children
 pub mod Nodes
 -- where the parser stands beside an older run

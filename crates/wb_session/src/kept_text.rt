@@ -7,7 +7,8 @@ ghost use Rattle.wb_session.specs.Places.{KeepsPlaces};
 ghost use Rattle.wb_session.specs.Sessions.{HasCause, IsSameAnswer, IsShort, MakesText};
 ghost use Rattle.wb_session.specs.KeptTexts.{IsKeptIn, answer_of, places_of, store_of, text_of};
 
-use crate::memory::{Memory, read_text, reread_text};
+use crate::memory::{Memory, read_text};
+use crate::reread::reread_text;
 use crate::{EditRefusal, Edited, LeafPlace};
 use std::alloc::{AllocError, Global};
 use std::mem::swap;

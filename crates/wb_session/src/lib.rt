@@ -17,6 +17,7 @@ mod past;
 mod place;
 mod reduce;
 mod refusal;
+mod reread;
 mod session;
 mod stacks;
 mod step;

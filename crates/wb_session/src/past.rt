@@ -1,14 +1,20 @@
 //! Where can the parser go back to after an edit? To a checkpoint, from which it goes on beside the run that was made before.
 
 ghost use Rattle.std.specs.Prelude.{◌≡◌, ◌<◌, ◌≤◌, ℕ, List, Some, IfOk, OnOk, length, slice_get};
+ghost use Rattle.wb_scan_theory.specs.Facts.{IsLanguage};
 ghost use Rattle.wb_scan.specs.Views.{LanguageParts};
+ghost use Rattle.wb_session_theory.specs.Rests.{SameRest};
 ghost use Rattle.wb_session.specs.declared.checkpoint.Checkpoint.{Checkpoint as Point};
 ghost use Rattle.wb_session.specs.declared.place.LeafPlace.{LeafPlace as Place};
-ghost use Rattle.wb_session.specs.Stacks.{roots_of, IsSound};
+ghost use Rattle.wb_session.specs.declared.stacks.Entry.{Entry as Root};
+ghost use Rattle.wb_session.specs.Stacks.{Roots, roots_of, IsSound};
 ghost use Rattle.wb_session.specs.Kept.{AreCheckpoints, IsPast};
+ghost use Rattle.wb_session.specs.Inner.Older.{IsOlder, Shares};
 
+use crate::LeafPlace;
 use crate::checkpoint::{Checkpoint, last_before};
 use crate::edited_text::take_first;
+use crate::older::Older;
 use crate::stacks::{Entry, Stacks};
 use std::alloc::{AllocError, Global};
 use std::mem::swap;
@@ -45,6 +51,31 @@ impl Past {
             common: 0,
             entries: Vec::new(alloc),
             common_entries: 0,
+        }
+    }
+
+    // The run as an older one, whose leaves lie at these places: from the place `to` on its text goes on as another, of this length, does from
+    // the place `moved` on.
+    pub(crate) fn as_older<'a>(
+        &'a self,
+        places: &'a [LeafPlace],
+        to: usize,
+        moved: usize,
+        limit: usize,
+        terminals: usize,
+    ) -> Older<'a>
+        ensures older { (parts : LanguageParts) (old text : List ℕ) (roots : Roots) → IsLanguage parts.language → roots.entries ≡ self.now.entries.items → AreCheckpoints parts old roots places.now self.now.checkpoints.items → SameRest old to text moved → limit ≡ length text → terminals ≡ parts.language.grammar.terminals → IsOlder parts text result }
+        ensures shares { (points : List Point) (now : List Root) → IsPast points now self.now → Shares now result }
+    {
+        Older {
+            checkpoints: &self.checkpoints,
+            places,
+            entries: &self.entries,
+            shared: self.common_entries,
+            to,
+            moved,
+            limit,
+            terminals,
         }
     }
 }

@@ -5,7 +5,8 @@ ghost use Rattle.wb_parser.specs.Parses.{Extends, FitsSignatures, IsParsed};
 ghost use Rattle.wb_session.specs.Places.{HasPlaces, KeepsPlaces};
 ghost use Rattle.wb_session.specs.Sessions.{HasCause, IsSameAnswer, IsShort, MakesText};
 
-use crate::memory::{Memory, read_text, reread_text};
+use crate::memory::{Memory, read_text};
+use crate::reread::reread_text;
 use crate::{EditRefusal, LeafPlace};
 use std::alloc::{AllocError, Global};
 use std::marker::Model;
