@@ -10,3 +10,5 @@ pub mod StandingLemmas
 pub mod KnownLemmas
 pub mod StoodLemmas
 pub mod PastLemmas
+pub mod RunLemmas
+pub mod BesideLemmas

@@ -1,7 +1,6 @@
 -- What the run before has in common with the one that is there.
-use Rattle.std.proofs.Common.{◌≡◌, ◌≤◌, ◌+◌, ℕ, List, [], length, take, drop, sym, ◌∙◌, ap, subst, arith}
+use Rattle.std.proofs.Common.{◌≡◌, ◌≤◌, ◌+◌, ℕ, List, length, take, sym, ◌∙◌, ap, subst, arith}
 use Rattle.std.specs.Prelude.{Some, slice_get}
-use Rattle.wb_lemmas.proofs.Places.{nothing_at}
 use Rattle.wb_scan_theory.specs.Facts.{IsLanguage}
 use Rattle.wb_scan.specs.Views.{LanguageParts}
 use Rattle.wb_session_theory.specs.Edits.{edited}
@@ -15,7 +14,6 @@ use Rattle.wb_session.specs.declared.stacks.Entry.{Entry}
 use Rattle.wb_session.specs.Stacks.{Roots}
 use Rattle.wb_session.specs.Kept.{AreCheckpoints, IsKept, IsPast}
 use Rattle.wb_session.specs.Inner.Older.{IsOlder, Shares}
-use Rattle.wb_session.proofs.KeptLemmas.{roots_with}
 use Rattle.wb_session.proofs.VersionLemmas.{common_more, none_common}
 
 -- more checkpoints and entries
@@ -39,25 +37,6 @@ past_none points es past none none_entries = record {
   few = omega (arith, none);
   entries = none_common es past.entries.items past.common_entries none_entries;
   few_entries = omega (arith, none_entries);
-}
-
--- no run is an older one
-pub no_older : (parts : LanguageParts) (text : List ℕ) (older : Older) → IsLanguage parts.language → older.checkpoints.now ≡ [] →
-    older.to ≡ 0 → older.moved ≡ 0 → older.limit ≡ length text → older.terminals ≡ parts.language.grammar.terminals →
-    IsOlder parts text older
-no_older parts text older ok none to_is moved_is limit terminals = record {
-  language = ok;
-  old = text;
-  roots = roots_with older.entries.now [] [];
-  entries = Rattle.std.proofs.Common.refl;
-  each = λ i point at. absurd (nothing_at point i (subst (λ z. slice_get z i ≡ Some point) none at));
-  rest = record {
-    one = omega (arith, to_is);
-    other = omega (arith, moved_is);
-    same = ap (λ n. drop n text) (to_is ∙ sym moved_is);
-  };
-  limit = limit;
-  terminals = terminals;
 }
 
 -- the run of a text that has the rest
@@ -96,11 +75,4 @@ shares_past points es past older is entries_are shared_is = record {
   few = let few = is.few_entries in omega (arith, few, shared_is);
   same = ap (λ n. take n es) shared_is ∙ sym is.entries ∙ ap (take past.common_entries) (sym entries_are)
       ∙ ap (λ n. take n older.entries.now) (sym shared_is);
-}
-
--- no entry is
-pub shares_none : (es : List Entry) (older : Older) → older.shared ≡ 0 → Shares es older
-shares_none es older none = record {
-  few = omega (arith, none);
-  same = ap (λ n. take n es) none ∙ sym (ap (λ n. take n older.entries.now) none);
 }

@@ -29,7 +29,7 @@ pub(crate) fn take_first<T: Copy + Drop>(
 }
 
 // The earlier of two places.
-fn earlier(one: usize, other: usize) -> usize
+pub(crate) fn earlier(one: usize, other: usize) -> usize
     ensures one { result ≤ one }
     ensures other { result ≤ other }
 {

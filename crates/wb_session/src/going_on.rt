@@ -1,5 +1,5 @@
 //! How does the parser go on from the last checkpoint? Leaf after leaf is taken until the text is read or stops, and the stack before each is
-//! kept. Where the parser stands as an older run stood, that run's leaves are known.
+//! kept. Where the parser stands as one of two older runs stood, that run's leaves are known.
 
 ghost use Rattle.std.specs.Prelude.{◌≡◌, ◌≤◌, ◌+◌, IfOk, OnErr, OnOk, length, take};
 ghost use Rattle.wb_parser.specs.Parses.{IsParsed};
@@ -7,13 +7,14 @@ ghost use Rattle.wb_parser_states.specs.Rules.{AreRules};
 ghost use Rattle.wb_session.specs.Places.{HasPlaces};
 ghost use Rattle.wb_session.specs.Stacks.{roots_of, IsSound};
 ghost use Rattle.wb_session.specs.Kept.{AreCheckpoints};
-ghost use Rattle.wb_session.specs.Inner.Older.{IsOlder, Shares};
+ghost use Rattle.wb_session.specs.Inner.Older.{AreOlder, AreShared};
 ghost use Rattle.wb_session.specs.Inner.Steps.{Grows};
 
 use crate::LeafPlace;
+use crate::beside::{Runs, ahead_of, begin_beside, entries_of, stand_beside};
 use crate::checkpoint::Checkpoint;
 use crate::leaf::{Round, take_beside};
-use crate::older::{Ahead, Older, Standing, stand};
+use crate::older::Ahead;
 use crate::stacks::Stacks;
 use std::alloc::AllocError;
 use wb_base::push;
@@ -21,14 +22,14 @@ use wb_parser::Parsed;
 use wb_parser_states::Rule;
 use wb_scan::Language;
 
-// An answer, and how many leaves up to it were known from an older run, one after another.
+// An answer, and how many leaves up to it were known from older runs, one after another.
 #[derive(Clone, Copy)]
 pub(crate) struct Read {
     pub(crate) parsed: Parsed,
     pub(crate) known: usize,
 }
 
-// Goes on from the last checkpoint to the answer of the text, beside the run of an older text, and adds the places of the leaves. If memory
+// Goes on from the last checkpoint to the answer of the text, beside the runs of older texts, and adds the places of the leaves. If memory
 // runs out, there are as many checkpoints as before.
 pub(crate) fn go_on(
     language: &Language,
@@ -37,14 +38,14 @@ pub(crate) fn go_on(
     checkpoints: &mut Vec<Checkpoint>,
     stacks: &mut Stacks,
     places: &mut Vec<LeafPlace>,
-    older: &Older,
+    runs: &Runs,
 ) -> Result<Read, AllocError>
     requires rules { AreRules language.now.language.grammar rules.now }
     requires sound { IsSound language.now (roots_of stacks.old) }
     requires kept { AreCheckpoints language.now text.now (roots_of stacks.old) places.old.items checkpoints.old.items }
     requires all { length places.old.items + 1 ≡ length checkpoints.old.items }
-    requires older { IsOlder language.now text.now older.now }
-    requires shares { Shares stacks.old.entries.items older.now }
+    requires older { AreOlder language.now text.now runs.now }
+    requires shares { AreShared stacks.old.entries.items runs.now }
     ensures parsed { IfOk result (λ read. IsParsed language.now.language text.now stacks.new.store read.parsed) }
     ensures known { IfOk result (λ read. length places.old.items + read.known ≤ length places.new.items) }
     ensures kept { OnOk result (AreCheckpoints language.now text.now (roots_of stacks.new) places.new.items checkpoints.new.items) }
@@ -57,7 +58,7 @@ pub(crate) fn go_on(
     ensures err { OnErr result (checkpoints.new.items ≡ checkpoints.old.items) }
 {
     let count = checkpoints.len();
-    match read_on(language, rules, text, checkpoints, stacks, places, older) {
+    match read_on(language, rules, text, checkpoints, stacks, places, runs) {
         Ok(read) => Ok(read),
         Err(error) => {
             checkpoints.truncate(count);
@@ -74,14 +75,14 @@ fn read_on(
     checkpoints: &mut Vec<Checkpoint>,
     stacks: &mut Stacks,
     places: &mut Vec<LeafPlace>,
-    older: &Older,
+    runs: &Runs,
 ) -> Result<Read, AllocError>
     requires rules { AreRules language.now.language.grammar rules.now }
     requires sound { IsSound language.now (roots_of stacks.old) }
     requires kept { AreCheckpoints language.now text.now (roots_of stacks.old) places.old.items checkpoints.old.items }
     requires all { length places.old.items + 1 ≡ length checkpoints.old.items }
-    requires older { IsOlder language.now text.now older.now }
-    requires shares { Shares stacks.old.entries.items older.now }
+    requires older { AreOlder language.now text.now runs.now }
+    requires shares { AreShared stacks.old.entries.items runs.now }
     ensures parsed { IfOk result (λ read. IsParsed language.now.language text.now stacks.new.store read.parsed) }
     ensures known { IfOk result (λ read. length places.old.items + read.known ≤ length places.new.items) }
     ensures kept { OnOk result (AreCheckpoints language.now text.now (roots_of stacks.new) places.new.items checkpoints.new.items) }
@@ -94,29 +95,18 @@ fn read_on(
 {
     let number = checkpoints.len() - 1;
     let mut from = checkpoints[number];
-    let start = Standing {
-        number,
-        ahead: None,
-        rest: 0,
-    };
-    let mut standing = stand(older, &stacks.entries, from, start);
+    let mut beside = begin_beside(runs, &stacks.entries, from);
     let mut known: usize = 0;
     'leaves: loop {
-        match take_beside(
-            language,
-            rules,
-            text,
-            stacks,
-            from,
-            standing.ahead,
-            older.entries,
-        )? {
+        let ahead = ahead_of(beside);
+        let entries = entries_of(runs, beside);
+        match take_beside(language, rules, text, stacks, from, ahead, entries)? {
             Round::Goes(next, place) => {
                 push(places, place)?;
                 push(checkpoints, next)?;
                 from = next;
-                known = known_after(known, standing.ahead);
-                standing = stand(older, &stacks.entries, next, standing);
+                known = known_after(known, ahead);
+                beside = stand_beside(runs, &stacks.entries, next, beside);
             }
             Round::Done(parsed) => return Ok(Read { parsed, known }),
         }

@@ -5,6 +5,7 @@
 //! the further tokens are known, is in `wb_session_theory`.
 #![tactic(auto)]
 
+mod beside;
 mod checkpoint;
 mod edited_text;
 mod going_on;
@@ -18,6 +19,7 @@ mod place;
 mod reduce;
 mod refusal;
 mod reread;
+mod run;
 mod session;
 mod stacks;
 mod step;

@@ -7,10 +7,11 @@ ghost use Rattle.wb_session.specs.Kept.{AreCommon, IsMemory};
 ghost use Rattle.wb_session.specs.Inner.Memories.{IsNew};
 
 use crate::LeafPlace;
+use crate::beside::Runs;
 use crate::checkpoint::Checkpoint;
 use crate::going_on::go_on;
-use crate::older::Older;
 use crate::past::Past;
+use crate::run::Run;
 use crate::stacks::Stacks;
 use std::alloc::{AllocError, Global};
 use wb_base::push;
@@ -19,7 +20,8 @@ use wb_parser_states::{Rule, rules_of};
 use wb_scan::Language;
 
 // The left sides and widths of productions; a text with the places of its leaves and checkpoints with their stacks; and of each list another,
-// where the next version is made, with how many of the first elements are there already.
+// where the next version is made, with how many of the first elements are there already. And of a text before that came further a run, with how
+// many of its first entries are there now, and how many of the last bytes of its text are those of the text that is there.
 pub(crate) struct Memory {
     pub(crate) rules: Vec<Rule>,
     pub(crate) text: Vec<u8>,
@@ -31,6 +33,9 @@ pub(crate) struct Memory {
     pub(crate) checkpoints: Vec<Checkpoint>,
     pub(crate) stacks: Stacks,
     pub(crate) past: Past,
+    pub(crate) further: Run,
+    pub(crate) shared: usize,
+    pub(crate) rest: usize,
 }
 
 impl Drop for Memory {
@@ -46,6 +51,9 @@ impl Drop for Memory {
             checkpoints,
             stacks,
             past,
+            further,
+            shared: _,
+            rest: _,
         } = self;
         drop(rules);
         drop(text);
@@ -55,6 +63,7 @@ impl Drop for Memory {
         drop(checkpoints);
         drop(stacks);
         drop(past);
+        drop(further);
     }
 }
 
@@ -74,6 +83,9 @@ impl Memory {
             checkpoints: Vec::new(alloc),
             stacks: Stacks::new(alloc),
             past: Past::new(alloc),
+            further: Run::new(alloc),
+            shared: 0,
+            rest: 0,
         }
     }
 }
@@ -102,15 +114,11 @@ pub(crate) fn read_text(
             link: 0,
         },
     )?;
-    let older = Older {
-        checkpoints: &[],
-        places: &[],
-        entries: &[],
-        shared: 0,
-        to: 0,
-        moved: 0,
-        limit: memory.text.len(),
-        terminals: language.grammar().terminals(),
+    let terminals = language.grammar().terminals();
+    let none = memory.further.as_older(0, 0, memory.text.len(), terminals);
+    let runs = Runs {
+        before: none,
+        further: none,
     };
     let read = go_on(
         language,
@@ -119,7 +127,7 @@ pub(crate) fn read_text(
         &mut memory.checkpoints,
         &mut memory.stacks,
         &mut memory.places,
-        &older,
+        &runs,
     )?;
     Ok(read.parsed)
 }

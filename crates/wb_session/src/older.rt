@@ -1,7 +1,7 @@
 //! Does the parser stand after an edit before a token as it stood there before the edit? Then that token is next, and need not be scanned.
 
 ghost use Rattle.std.specs.Prelude.{◌≡◌, ◌+◌, IsTrue, IfSome, take};
-ghost use Rattle.wb_session.specs.Inner.Standing.{Follows, HaveSameStates, HaveStates, IsAhead, IsAt, IsInOrder};
+ghost use Rattle.wb_session.specs.Inner.Standing.{HaveSameStates, HaveStates, IsAhead, IsAt, IsInOrder, IsStood};
 
 use crate::LeafPlace;
 use crate::checkpoint::Checkpoint;
@@ -47,7 +47,7 @@ pub(crate) fn stand(
     from: Checkpoint,
     before: Standing,
 ) -> Standing
-    ensures { IfSome result.ahead (λ ahead. IsAhead older.now from result.number ahead × IsAt older.now result.number from.at × Follows older.now entries.now from.link before.ahead before.number result.number) }
+    ensures { IsStood older.now entries.now from before.ahead before.number result }
 {
     match before.ahead {
         Some(_) => follow(older, from, before.number),

@@ -1,6 +1,6 @@
 //! Where can the parser go back to after an edit? To a checkpoint, from which it goes on beside the run that was made before.
 
-ghost use Rattle.std.specs.Prelude.{◌≡◌, ◌<◌, ◌≤◌, ℕ, List, Some, IfOk, OnOk, length, slice_get};
+ghost use Rattle.std.specs.Prelude.{◌≡◌, ◌<◌, ◌≤◌, ℕ, List, Some, IfOk, OnErr, OnOk, length, slice_get};
 ghost use Rattle.wb_scan_theory.specs.Facts.{IsLanguage};
 ghost use Rattle.wb_scan.specs.Views.{LanguageParts};
 ghost use Rattle.wb_session_theory.specs.Rests.{SameRest};
@@ -99,6 +99,7 @@ pub(crate) fn go_back(
     ensures few { OnOk result (length checkpoints.new.items ≤ length checkpoints.old.items) }
     ensures store { stacks.new.store ≡ stacks.old.store }
     ensures past { IsPast checkpoints.new.items stacks.new.entries.items past.new }
+    ensures err { OnErr result (stacks.new.entries.items ≡ stacks.old.entries.items) }
     ensures older { OnOk result ((past.new.checkpoints.items ≡ checkpoints.old.items) × (past.new.entries.items ≡ stacks.old.entries.items)) }
 {
     let place = last_before(checkpoints, from);

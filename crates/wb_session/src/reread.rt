@@ -1,20 +1,22 @@
 //! How is a text read anew after an edit? Up to the last checkpoint before it all stays, and from there on the next text is read beside the run
-//! that was there. Why that gives its answer is in `going_on`.
+//! that was there, and beside one that came further. Why that gives its answer is in `going_on`.
 
-ghost use Rattle.std.specs.Prelude.{◌≡◌, ◌≤◌, ◌+◌, IfOk, OnErr, OnOk, length, take};
+ghost use Rattle.std.specs.Prelude.{◌≡◌, ◌≤◌, ◌+◌, ℕ, IfOk, OnErr, OnOk, length, take};
 ghost use Rattle.wb_parser.specs.Parses.{Extends, IsParsed};
 ghost use Rattle.wb_scan.specs.Views.{LanguageParts};
 ghost use Rattle.wb_session_theory.specs.Edits.{edited};
 ghost use Rattle.wb_session.specs.Places.{KeepsPlaces};
 ghost use Rattle.wb_session.specs.Kept.{AreCommon, IsMemory};
-ghost use Rattle.wb_session.specs.Inner.Begun.{HasBegun, HasSameText, IsReady};
+ghost use Rattle.wb_session.specs.Inner.Begun.{HasBegun, HasSameText, IsLeft, IsReady, KeepsText};
 
 use crate::Edited;
+use crate::beside::Runs;
 use crate::checkpoint::Checkpoint;
-use crate::edited_text::{add_rest, take_first};
+use crate::edited_text::{add_rest, earlier, take_first};
 use crate::going_on::{Read, go_on};
 use crate::memory::Memory;
 use crate::past::go_back;
+use crate::run::{Run, left_of};
 use std::alloc::AllocError;
 use std::mem::swap;
 use wb_parser::Parsed;
@@ -53,22 +55,25 @@ pub(crate) fn reread_text(
     ensures scanned { IfOk result (λ reread. reread.edited.scanned + reread.edited.kept + reread.edited.known ≡ length memory.new.places.items + 1) }
 {
     let begun = begin_edit(memory, from, to, with)?;
-    let read = read_next(language, memory, to, begun.moved)?;
+    let read = read_next(language, memory, to, begun)?;
     let edited = edited_of(memory, begun, read.known);
+    keep_further(memory, to, matches!(read.parsed, Parsed::Tree(_)));
     Ok(Reread {
         parsed: read.parsed,
         edited,
     })
 }
 
-// What an edit begins with: the place from which the text is read anew, how many leaves are before that, and how many trees there are; and
-// the place in the next text from which it goes on as the text does behind the edit.
+// What an edit begins with: the place from which the text is read anew, how many leaves are before that, and how many trees there are; the
+// place in the next text from which it goes on as the text does behind the edit; and how many of its last bytes are those of the text of the
+// run that came further.
 #[derive(Clone, Copy)]
 pub(crate) struct Begun {
     pub(crate) at: usize,
     pub(crate) kept: usize,
     pub(crate) trees: usize,
     pub(crate) moved: usize,
+    pub(crate) rest: usize,
 }
 
 // Makes the next text, and goes back to the last checkpoint up to which nothing that is edited was looked at, with the places of the leaves
@@ -82,7 +87,7 @@ fn begin_edit(memory: &mut Memory, from: usize, to: usize, with: &[u8]) -> Resul
     ensures common { AreCommon memory.new }
     ensures same { HasSameText memory.old memory.new }
     ensures store { memory.new.stacks.store ≡ memory.old.stacks.store }
-    ensures ready { IfOk result (λ begun. (parts : LanguageParts) → IsMemory parts memory.old → IsReady parts memory.new to begun.moved) }
+    ensures ready { IfOk result (λ begun. (parts : LanguageParts) → IsMemory parts memory.old → IsReady parts memory.new to begun) }
     ensures begun { IfOk result (HasBegun memory.old from to with.now memory.new) }
 {
     take_first(&memory.text, &mut memory.spare, &mut memory.common, from)?;
@@ -93,6 +98,7 @@ fn begin_edit(memory: &mut Memory, from: usize, to: usize, with: &[u8]) -> Resul
         &mut memory.past,
         from,
     )?;
+    memory.shared = earlier(memory.shared, memory.past.common_entries);
     let kept = memory.checkpoints.len() - 1;
     take_first(
         &memory.places,
@@ -105,20 +111,21 @@ fn begin_edit(memory: &mut Memory, from: usize, to: usize, with: &[u8]) -> Resul
         kept,
         trees: memory.stacks.store.len(),
         moved,
+        rest: earlier(memory.rest, memory.text.len() - to),
     })
 }
 
-// Reads the next text from the last checkpoint on, beside the run of the text, and puts it in the place of that. If memory runs out, the text
-// is as before.
+// Reads the next text from the last checkpoint on, beside the run of the text and the one that came further, and puts it in the place of the
+// text. If memory runs out, that is as before.
 fn read_next(
     language: &Language,
     memory: &mut Memory,
     to: usize,
-    moved: usize,
+    begun: Begun,
 ) -> Result<Read, AllocError>
     requires memory { IsMemory language.now memory.old }
     requires common { AreCommon memory.old }
-    requires ready { IsReady language.now memory.old to moved }
+    requires ready { IsReady language.now memory.old to begun }
     ensures memory { IsMemory language.now memory.new }
     ensures common { AreCommon memory.new }
     ensures text { OnOk result (memory.new.text.items ≡ memory.old.spare.items) }
@@ -126,14 +133,19 @@ fn read_next(
     ensures parsed { IfOk result (λ read. IsParsed language.now.language memory.new.text.items memory.new.stacks.store read.parsed) }
     ensures store { Extends memory.old.stacks.store memory.new.stacks.store }
     ensures first { OnOk result (take (length memory.old.spare_places.items) memory.new.places.items ≡ memory.old.spare_places.items) }
+    ensures left { OnOk result (IsLeft language.now memory.new to) }
     ensures all { OnOk result (length memory.new.places.items + 1 ≡ length memory.new.checkpoints.items) }
     ensures known { IfOk result (λ read. length memory.old.spare_places.items + read.known ≤ length memory.new.places.items) }
 {
     let limit = memory.spare.len();
     let terminals = language.grammar().terminals();
-    let older = memory
-        .past
-        .as_older(&memory.places, to, moved, limit, terminals);
+    let further = &memory.further;
+    let runs = Runs {
+        before: memory
+            .past
+            .as_older(&memory.places, to, begun.moved, limit, terminals),
+        further: further.as_older(memory.shared, begun.rest, limit, terminals),
+    };
     let read = go_on(
         language,
         &memory.rules,
@@ -141,10 +153,11 @@ fn read_next(
         &mut memory.checkpoints,
         &mut memory.stacks,
         &mut memory.spare_places,
-        &older,
+        &runs,
     )?;
     swap(&mut memory.text, &mut memory.spare);
     swap(&mut memory.places, &mut memory.spare_places);
+    memory.rest = begun.rest;
     Ok(read)
 }
 
@@ -167,6 +180,60 @@ fn edited_of(memory: &Memory, begun: Begun, known: usize) -> Edited
         kept: begun.kept,
         known,
     }
+}
+
+// Keeps the run of the text before as the one that came further, if it did: behind the place `to` that text goes on as the text does. No run
+// comes further than that of a whole text.
+fn keep_further(memory: &mut Memory, to: usize, whole: bool)
+    ensures { KeepsText to memory.old memory.new }
+{
+    if whole {
+        drop_further(memory);
+    } else if came_further(memory, to) {
+        keep_past(memory, to);
+    }
+}
+
+// Keeps no run that came further.
+fn drop_further(memory: &mut Memory)
+    ensures { (to : ℕ) → KeepsText to memory.old memory.new }
+{
+    let mut none = Run::new(*memory.text.allocator());
+    swap(&mut memory.further, &mut none);
+    drop(none);
+    memory.shared = 0;
+    memory.rest = 0;
+}
+
+// Keeps the run of the text before as the one that came further.
+fn keep_past(memory: &mut Memory, to: usize)
+    ensures { KeepsText to memory.old memory.new }
+{
+    swap(
+        &mut memory.further.checkpoints,
+        &mut memory.past.checkpoints,
+    );
+    swap(&mut memory.further.places, &mut memory.spare_places);
+    swap(&mut memory.further.entries, &mut memory.past.entries);
+    memory.further.end = memory.spare.len();
+    memory.shared = memory.past.common_entries;
+    memory.rest = memory.spare.len().saturating_sub(to);
+    memory.past.common = 0;
+    memory.past.common_entries = 0;
+    memory.common_places = 0;
+}
+
+// Whether the run of the text before came further than that of the text, and of what is behind the place `to` has read more than the run that
+// is kept has of what it has in common with the text.
+fn came_further(memory: &Memory, to: usize) -> bool {
+    let left = left_of(&memory.past.checkpoints, memory.spare.len());
+    let now = left_of(&memory.checkpoints, memory.text.len());
+    let read = memory.spare.len().saturating_sub(to).saturating_sub(left);
+    let further = &memory.further;
+    let kept = memory
+        .rest
+        .saturating_sub(left_of(&further.checkpoints, further.end));
+    read > kept && (left < now || left == now && kept == 0)
 }
 
 // Where the last leaves, so many of them, begin: at the checkpoint before them; and the end of the text, where there are none.

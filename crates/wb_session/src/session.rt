@@ -22,7 +22,8 @@ const LIMIT: usize = 1_048_576;
 /// before.
 ///
 /// The text has at most 1,048,576 bytes. Beside it and the store, 24 bytes are kept for each token, 32 for its place, and 32 for each token
-/// and each node that was made since; after an edit, as much once more for the text before, but for 8 of the last 32.
+/// and each node that was made since; after an edit, as much once more for the text before, but for 8 of the last 32; and while a text stops,
+/// as much as for the text before for one that was read further.
 pub struct Session<'a> {
     language: &'a Language,
     memory: Memory,
@@ -69,7 +70,7 @@ pub struct Edited {
     pub built: usize,
     /// How many leaves were not read anew. They are the first, and lie where they lay.
     pub kept: usize,
-    /// How many leaves behind it were known from the text before, and not scanned.
+    /// How many leaves behind it were known from texts before, and not scanned.
     pub known: usize,
 }
 

@@ -5,6 +5,7 @@ mod editing;
 mod expecting;
 mod generating;
 mod long_editing;
+mod mending;
 mod parsing;
 mod sample;
 mod samples;

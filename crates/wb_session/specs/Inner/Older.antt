@@ -1,9 +1,11 @@
--- The run of an older text, of which the new one has the rest.
-use Rattle.std.specs.Prelude.{◌≡◌, ◌≤◌, ℕ, List, Some, length, slice_get, take}
+-- The runs of older texts, of which the new one has the rest.
+use Rattle.std.specs.Prelude.{◌≡◌, ◌≤◌, ℕ, List, Some, IfSome, length, slice_get, take}
 use Rattle.wb_grammar_theory.specs.Trees.{symbols}
 use Rattle.wb_scan_theory.specs.Facts.{IsLanguage}
 use Rattle.wb_scan.specs.Views.{LanguageParts}
 use Rattle.wb_session_theory.specs.Rests.{SameRest}
+use Rattle.wb_session.specs.declared.beside.Beside.{Beside}
+use Rattle.wb_session.specs.declared.beside.Runs.{Runs}
 use Rattle.wb_session.specs.declared.checkpoint.Checkpoint.{Checkpoint}
 use Rattle.wb_session.specs.declared.older.Ahead.{Ahead}
 use Rattle.wb_session.specs.declared.older.Older.{Older}
@@ -37,3 +39,19 @@ pub record IsStanding (parts : LanguageParts) (text : List ℕ) (older : Older) 
   pub at : IsAt older number from.at
   pub kept : IsKept parts text roots places from
   pub same : (o : IsOlder parts text older) → symbols (o.each number at.point at.is).stack ≡ symbols kept.stack
+
+-- both are older runs of the text
+pub record AreOlder (parts : LanguageParts) (text : List ℕ) (runs : Runs) : Type 0 where
+  pub before : IsOlder parts text runs.before
+  pub further : IsOlder parts text runs.further
+
+-- the entries begin as those of both do
+pub record AreShared (entries : List Entry) (runs : Runs) : Type 0 where
+  pub before : Shares entries runs.before
+  pub further : Shares entries runs.further
+
+-- beside each of them the parser stands before the token that is ahead there, if there is one
+pub record AreStanding (parts : LanguageParts) (text : List ℕ) (runs : Runs) (roots : Roots) (places : List LeafPlace)
+    (from : Checkpoint) (beside : Beside) : Type 0 where
+  pub before : IfSome beside.before.ahead (IsStanding parts text runs.before roots places from beside.before.number)
+  pub further : IfSome beside.further.ahead (IsStanding parts text runs.further roots places from beside.further.number)

@@ -1,9 +1,10 @@
 -- Where the parser stands beside the run of an older text.
-use Rattle.std.specs.Prelude.{◌≡◌, ◌<◌, ◌≤◌, ◌+◌, ◌-◌, ℕ, List, Option, Some, None, slice_get, take}
+use Rattle.std.specs.Prelude.{◌≡◌, ◌<◌, ◌≤◌, ◌+◌, ◌-◌, ℕ, List, Option, Some, None, IfSome, slice_get, take}
 use Rattle.wb_values.specs.declared.value.Value.{Value}
 use Rattle.wb_session.specs.declared.checkpoint.Checkpoint.{Checkpoint}
 use Rattle.wb_session.specs.declared.older.Ahead.{Ahead}
 use Rattle.wb_session.specs.declared.older.Older.{Older}
+use Rattle.wb_session.specs.declared.older.Standing.{Standing}
 use Rattle.wb_session.specs.declared.place.LeafPlace.{LeafPlace}
 use Rattle.wb_session.specs.declared.stacks.Entry.{Entry}
 use Rattle.wb_session.specs.Stacks.{LeadsTo}
@@ -61,3 +62,9 @@ pub record IsAhead (older : Older) (from : Checkpoint) (number : ℕ) (ahead : A
 abbrev pub Follows : Older → List Entry → ℕ → Option Ahead → ℕ → ℕ → Type 0
 Follows older entries link (Some ahead) before number = number ≡ before + 1
 Follows older entries link None before number = HaveSameStates older entries link number
+
+-- where the parser stands beside the older run at the checkpoint: before the token that is ahead, if there is one, after it stood before the
+-- other token, or none, at this number
+abbrev pub IsStood : Older → List Entry → Checkpoint → Option Ahead → ℕ → Standing → Type 0
+IsStood older entries from last before standing = IfSome standing.ahead (λ ahead. IsAhead older from standing.number ahead ×
+    IsAt older standing.number from.at × Follows older entries from.link last before standing.number)

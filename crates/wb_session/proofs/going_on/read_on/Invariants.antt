@@ -1,8 +1,8 @@
 use Rattle.std.proofs.Common.{◌≡◌, ◌≤◌, ◌+◌, ◌-◌, length, take, Some}
-use Rattle.std.specs.Prelude.{IfSome, slice_get}
+use Rattle.std.specs.Prelude.{slice_get}
 use Rattle.wb_session.specs.Stacks.{roots_of}
 use Rattle.wb_session.specs.Kept.{AreCheckpoints}
-use Rattle.wb_session.specs.Inner.Older.{IsStanding}
+use Rattle.wb_session.specs.Inner.Older.{AreStanding}
 use Rattle.wb_session.specs.Inner.Steps.{Grows}
 use Rattle.wb_session.proofs.going_on.read_on.Given as goal
 
@@ -15,7 +15,7 @@ invariant-leaves l = record {
   first : take (length l.initial.places.items) l.places.items ≡ l.initial.places.items;
   more : length l.initial.checkpoints.items ≤ length l.checkpoints.items;
   last : slice_get l.checkpoints.items (length l.checkpoints.items - 1) ≡ Some l.from;
-  stood : IfSome l.standing.ahead (IsStanding l.language l.text l.older (roots_of l.stacks) l.places.items l.from l.standing.number);
+  stood : AreStanding l.language l.text l.runs (roots_of l.stacks) l.places.items l.from l.beside;
   known : length l.initial.places.items + l.known ≤ length l.places.items;
 }
 

@@ -1,9 +1,10 @@
-use Rattle.std.proofs.Common.{◌≡◌, ◌+◌, ◌-◌, ◌∙◌, ◌++◌, ap, arith, drop, length, refl, rules, subst, sym, take}
+use Rattle.std.proofs.Common.{◌≡◌, ◌+◌, ◌-◌, ◌∙◌, ◌++◌, ap, arith, drop, length, rules, subst, sym, take}
 use Rattle.std.proofs.lemmas.List.{length-take-le}
 use Rattle.wb_session.specs.Stacks.{roots_of}
-use Rattle.wb_session.specs.Kept.{AreCheckpoints}
+use Rattle.wb_session.specs.Kept.{AreCheckpoints, BeginAlike}
 use Rattle.wb_session.proofs.KeptLemmas.{checkpoints_edit, checkpoints_first}
 use Rattle.wb_session.proofs.PastLemmas.{edited_rest}
+use Rattle.wb_session.proofs.RunLemmas.{alike_back, run_edit}
 use Rattle.wb_session.proofs.VersionLemmas.{common_after}
 use Rattle.wb_session.proofs.reread.begin_edit.Goals as goal
 
@@ -13,17 +14,18 @@ go_back-requires-clause-kept c =
 
 pub returns-in_err-take_first-clause-memory : goal.returns-in_err-take_first-clause-memory
 returns-in_err-take_first-clause-memory c parts is =
-    record { rules = is.rules; sound = is.sound; kept = is.kept; placed = is.placed }
+    record { rules = is.rules; sound = is.sound; kept = is.kept; placed = is.placed; further = is.further }
 
 pub returns-in_err-moved-clause-memory : goal.returns-in_err-moved-clause-memory
 returns-in_err-moved-clause-memory c parts is =
-    record { rules = is.rules; sound = is.sound; kept = is.kept; placed = is.placed }
+    record { rules = is.rules; sound = is.sound; kept = is.kept; placed = is.placed; further = is.further }
 
 pub returns-in_err-point-clause-memory : goal.returns-in_err-point-clause-memory
 returns-in_err-point-clause-memory c parts is = record {
   rules = is.rules;
   sound = c.in_err-point.ensures.sound parts is.sound;
   placed = is.placed;
+  further = is.further;
   kept = c.in_err-point.ensures.kept parts c.args.memory.now.text.items c.args.memory.now.places.items is.kept;
 }
 
@@ -32,6 +34,7 @@ returns-in_err-take_first-2-clause-memory c parts is = record {
   rules = is.rules;
   sound = c.in_ok-point.ensures.sound parts is.sound;
   placed = is.placed;
+  further = is.further;
   kept = c.in_ok-point.ensures.kept parts c.args.memory.now.text.items c.args.memory.now.places.items is.kept;
 }
 
@@ -40,6 +43,7 @@ returns-clause-memory c parts is = record {
   rules = is.rules;
   sound = c.in_ok-point.ensures.sound parts is.sound;
   placed = is.placed;
+  further = is.further;
   kept = c.in_ok-point.ensures.kept parts c.args.memory.now.text.items c.args.memory.now.places.items is.kept;
 }
 
@@ -48,6 +52,7 @@ returns-in_err-take_first-clause-common c = record {
   past = c.requires.common.past;
   bytes = c.in_err-take_first.ensures.common ∙ ap (take c.take_first.new.common) c.deref.ensures.value;
   places = c.requires.common.places;
+  further = c.requires.common.further;
 }
 
 pub returns-in_err-moved-clause-common : goal.returns-in_err-moved-clause-common
@@ -58,6 +63,7 @@ returns-in_err-moved-clause-common c = record {
       (c.in_ok-take_first.ensures.ok ∙ ap (take c.args.from) c.deref.ensures.value) c.in_err-moved.ensures.first
       c.in_ok-take_first.ensures.count;
   places = c.requires.common.places;
+  further = c.requires.common.further;
 }
 
 pub returns-in_err-point-clause-common : goal.returns-in_err-point-clause-common
@@ -68,6 +74,8 @@ returns-in_err-point-clause-common c = record {
       (c.in_ok-take_first.ensures.ok ∙ ap (take c.args.from) c.deref.ensures.value) c.in_ok-moved.ensures.first
       c.in_ok-take_first.ensures.count;
   places = c.requires.common.places;
+  further = subst (BeginAlike c.args.memory.now.shared c.args.memory.now.further.entries.items) (sym c.in_err-point.ensures.err)
+      c.requires.common.further;
 }
 
 pub returns-in_err-take_first-2-clause-common : goal.returns-in_err-take_first-2-clause-common
@@ -78,6 +86,9 @@ returns-in_err-take_first-2-clause-common c = record {
       (c.in_ok-take_first.ensures.ok ∙ ap (take c.args.from) c.deref.ensures.value) c.in_ok-moved.ensures.first
       c.in_ok-take_first.ensures.count;
   places = c.in_err-take_first-2.ensures.common ∙ ap (take c.take_first-2.new.common) c.deref-3.ensures.value;
+  further = alike_back c.earlier-memory.result c.args.memory.now.shared c.args.memory.now.further.entries.items
+      c.args.memory.now.stacks.entries.items c.go_back.new.stacks.entries.items c.go_back.new.checkpoints.items c.go_back.new.past
+      c.in_ok-point.ensures.past c.in_ok-point.ensures.older.1 c.earlier-memory.ensures.one c.earlier-memory.ensures.other c.requires.common.further;
 }
 
 pub returns-clause-common : goal.returns-clause-common
@@ -88,6 +99,9 @@ returns-clause-common c = record {
       (c.in_ok-take_first.ensures.ok ∙ ap (take c.args.from) c.deref.ensures.value) c.in_ok-moved.ensures.first
       c.in_ok-take_first.ensures.count;
   places = c.in_ok-take_first-2.ensures.common ∙ ap (take c.take_first-2.new.common) c.deref-3.ensures.value;
+  further = alike_back c.earlier-memory.result c.args.memory.now.shared c.args.memory.now.further.entries.items
+      c.args.memory.now.stacks.entries.items c.go_back.new.stacks.entries.items c.go_back.new.checkpoints.items c.go_back.new.past
+      c.in_ok-point.ensures.past c.in_ok-point.ensures.older.1 c.earlier-memory.ensures.one c.earlier-memory.ensures.other c.requires.common.further;
 }
 
 pub returns-clause-begun : goal.returns-clause-begun
@@ -133,4 +147,6 @@ returns-clause-ready c parts is =
       entries = sym c.in_ok-point.ensures.older.1;
       past = subst (AreCheckpoints parts text (roots_of c.args.memory.now.stacks) places) (sym c.in_ok-point.ensures.older.0) is.kept;
       rest = edited_rest text with _ c.args.from c.args.to _ c.requires.order c.requires.within made moved;
+      further = run_edit parts text with _ c.args.from c.args.to c.requires.order c.requires.within made c.args.memory.now.further
+          c.args.memory.now.rest _ c.earlier.ensures.one (search rules) is.further;
     }

@@ -1,4 +1,4 @@
-use Rattle.std.proofs.Common.{◌+◌, ◌∙◌, ap, arith, length, refl, subst, sym, take}
+use Rattle.std.proofs.Common.{◌+◌, ◌∙◌, ap, arith, length, subst, sym, take}
 use Rattle.std.proofs.lemmas.List.{length-take-le}
 use Rattle.wb_parser.specs.Parses.{Extends, IsParsed}
 use Rattle.wb_parser.proofs.ExtendLemmas.{extends_length}
@@ -46,20 +46,37 @@ returns-in_err-read-clause-store c =
     subst (λ z. Extends z c.read_next.new.memory.stacks.store) c.in_ok-begun.ensures.store c.in_err-read.ensures.store
 
 pub returns-clause-text : goal.returns-clause-text
-returns-clause-text c = c.in_ok-read.ensures.text ∙ c.in_ok-begun.ensures.begun.text
+returns-clause-text c =
+    c.keep_further.ensures.same.text ∙ c.in_ok-read.ensures.text ∙ c.in_ok-begun.ensures.begun.text
+
+pub returns-clause-memory : goal.returns-clause-memory
+returns-clause-memory c =
+    c.keep_further.ensures.held c.args.language.now c.in_ok-read.ensures.memory c.in_ok-read.ensures.left
+
+pub returns-clause-common : goal.returns-clause-common
+returns-clause-common c = c.keep_further.ensures.common c.in_ok-read.ensures.common
+
+pub returns-clause-parsed : goal.returns-clause-parsed
+returns-clause-parsed c =
+    let l = c.args.language.now.language in
+    let same = c.keep_further.ensures in
+    subst (λ z. IsParsed l z c.keep_further.new.memory.stacks.store c.in_ok-read.read.parsed) (sym same.same.text)
+    (subst (λ z. IsParsed l c.read_next.new.memory.text.items z c.in_ok-read.read.parsed) (sym same.store) c.in_ok-read.ensures.parsed)
 
 pub returns-clause-store : goal.returns-clause-store
 returns-clause-store c =
-    subst (λ z. Extends z c.read_next.new.memory.stacks.store) c.in_ok-begun.ensures.store c.in_ok-read.ensures.store
+    subst (Extends c.args.memory.now.stacks.store) (sym c.keep_further.ensures.store)
+    (subst (λ z. Extends z c.read_next.new.memory.stacks.store) c.in_ok-begun.ensures.store c.in_ok-read.ensures.store)
 
 pub returns-clause-built : goal.returns-clause-built
 returns-clause-built c =
-    c.edited_of-edited.ensures.built ∙ ap (λ n. n + c.edited_of-edited.result.built) c.in_ok-begun.ensures.begun.trees
+    ap length c.keep_further.ensures.store ∙ c.edited_of-edited.ensures.built
+    ∙ ap (λ n. n + c.edited_of-edited.result.built) c.in_ok-begun.ensures.begun.trees
 
 pub returns-clause-from : goal.returns-clause-from
 returns-clause-from c = (
   omega (arith, c.edited_of-edited.ensures.from, c.in_ok-begun.ensures.begun.at),
-  c.edited_of-edited.ensures.to,
+  omega (arith, c.edited_of-edited.ensures.to, ap length c.keep_further.ensures.same.text),
 )
 
 pub returns-clause-kept : goal.returns-clause-kept
@@ -67,5 +84,11 @@ returns-clause-kept c =
     let begun = c.in_ok-begun.ensures.begun in
     let kept = c.edited_of-edited.ensures.kept in
     let places = c.args.memory.now.places.items in
-    kept_places c.edited_of-edited.result.kept places c.begin_edit.new.memory.spare_places.items c.read_next.new.memory.places.items
-    (omega (arith, kept, begun.few)) (begun.places ∙ ap (λ n. take n places) (sym kept)) c.in_ok-read.ensures.first
+    let first = c.begin_edit.new.memory.spare_places.items in
+    kept_places c.edited_of-edited.result.kept places first c.keep_further.new.memory.places.items (omega (arith, kept, begun.few))
+    (begun.places ∙ ap (λ n. take n places) (sym kept))
+    (ap (take (length first)) c.keep_further.ensures.same.places ∙ c.in_ok-read.ensures.first)
+
+pub returns-clause-scanned : goal.returns-clause-scanned
+returns-clause-scanned c =
+    c.edited_of-edited.ensures.scanned ∙ ap (λ z. length z + 1) (sym c.keep_further.ensures.same.places)
