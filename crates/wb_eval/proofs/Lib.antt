@@ -24,3 +24,4 @@ pub mod ForwardLemmas
 pub mod ReachedLemmas
 pub mod BackLemmas
 pub mod HaltLemmas
+pub mod ReadOutLemmas

@@ -2,15 +2,16 @@
 //!
 //! It leaves one, whose value is then kept in the memo, or enters one that is needed. What is done at one is in `run`.
 
-ghost use Rattle.std.specs.Prelude.{◌≡◌, ◌≤◌, ◌<◌, ◌++◌, ◌∷◌, [], List, length, OnOk, IfOk};
+ghost use Rattle.std.specs.Prelude.{◌≡◌, ◌≤◌, ◌<◌, ◌++◌, ◌∷◌, [], List, length, OnOk, IfOk, IsTrue};
 ghost use Rattle.wb_operations.specs.Operations.{Operations};
 ghost use Rattle.wb_syntax_resolved.specs.declared.attribution.AttributionParts.{AttributionParts};
 ghost use Rattle.wb_values.specs.Tree.{Tree};
 ghost use Rattle.wb_values.specs.declared.value.Value as stored;
 ghost use Rattle.wb_eval_memo.specs.Memos.{IsWhole};
-ghost use Rattle.wb_eval.specs.Inner.Answering.{with_answer, IsLeaving, IsLeftWith, IsTurned};
+ghost use Rattle.wb_eval.specs.Inner.Answering.{with_answer, HasPlace, IsLeaving, IsLeftWith, IsReadOut, IsTurned};
 ghost use Rattle.wb_eval.specs.Inner.Machines.{IsKey, IsFor, IsSet};
-ghost use Rattle.wb_eval.specs.Inner.Works.{IsRan};
+ghost use Rattle.wb_eval.specs.Inner.Works.{IsDone, IsRan};
+ghost use Rattle.wb_eval.specs.declared.ran.Ran.TheVariants.{Top};
 
 use crate::evaluated::Evaluated;
 use crate::evaluation::Evaluation;
@@ -19,6 +20,7 @@ use crate::machine::Key;
 use crate::ran::Ran;
 use std::alloc::AllocError;
 use wb_eval_memo::Memo;
+use wb_eval_rules::After;
 use wb_values::Value;
 
 // What an evaluation does next: it is over, or goes on with the last instance, by its frame or from the start.
@@ -41,7 +43,7 @@ pub(crate) fn proceed<'a>(
 {
     match ran {
         Ran::Value(answer) => leave(evaluation, answer),
-        Ran::Top => leave_top(evaluation),
+        Ran::Top => leave_tops(evaluation, steps),
         Ran::Fault { operation, code } => Ok(Turn::Over(Evaluated::Fault { operation, code })),
         Ran::Needs { key, frame } => {
             if evaluation.machine.entered >= steps {
@@ -70,6 +72,49 @@ fn leave<'a>(evaluation: &mut Evaluation<'a>, answer: Value) -> Result<Turn<'a>,
     evaluation.machine.stack.truncate(at);
     evaluation.machine.frames.truncate(at - 1);
     Ok(Turn::Goes(frame))
+}
+
+// Leaves the instance at work, whose value is the last one, and then each that waited and has nothing to do but to read it.
+#[inline(always)]
+fn leave_tops<'a>(evaluation: &mut Evaluation<'a>, steps: u64) -> Result<Turn<'a>, AllocError>
+    requires ran { (a : AttributionParts) × (operations : Operations) × (trees : List Tree) × IsRan a operations trees evaluation.old.machine evaluation.old.values.items Top }
+    requires within { evaluation.old.machine.entered ≤ steps }
+    ensures { (a : AttributionParts) (operations : Operations) (trees : List Tree) → IsRan a operations trees evaluation.old.machine evaluation.old.values.items Top → IfOk result (IsTurned a operations trees evaluation.old.machine evaluation.new.machine evaluation.new.values.items steps) }
+{
+    'left: loop {
+        let turn = leave_top(evaluation)?;
+        if !is_read_out(&turn) {
+            return Ok(turn);
+        }
+    }
+}
+
+// Whether an evaluation goes on with code that ends with the read for which it waited.
+#[inline(always)]
+fn is_read_out(turn: &Turn) -> bool
+    requires { HasPlace turn.now }
+    ensures { IsTrue result → IsReadOut turn.now }
+{
+    match turn {
+        Turn::Goes(frame) => match frame {
+            Some(frame) => is_done(frame),
+            None => false,
+        },
+        Turn::Over(_) => false,
+    }
+}
+
+// Whether the code of a frame ends with the read for which it waited.
+#[inline(always)]
+fn is_done(frame: &Frame) -> bool
+    requires { frame.now.at < length frame.now.code.now }
+    ensures { IsTrue result → IsDone frame.now }
+{
+    let after = frame.code[frame.at].after;
+    match after {
+        After::Next => frame.at + 1 >= frame.code.len(),
+        _ => false,
+    }
 }
 
 // Leaves the instance at work, whose value is the last one. That stays where it is where a frame waited for it.

@@ -12,7 +12,7 @@ use Rattle.wb_eval.specs.declared.machine.Key.{Key}
 use Rattle.wb_eval.specs.declared.machine.Machine.{Machine}
 use Rattle.wb_eval.specs.Evaluates.{IsValue, IsFault, AsksMore}
 use Rattle.wb_eval.specs.Inner.Machines.{IsKey, IsMachine, IsFor, IsSet}
-use Rattle.wb_eval.specs.Inner.Works.{IsTurn}
+use Rattle.wb_eval.specs.Inner.Works.{IsDone, IsTurn}
 use Rattle.wb_eval.specs.declared.frame.Frame.{Frame}
 use Rattle.wb_eval.specs.declared.steps.Turn.{Turn}
 use Rattle.wb_eval.specs.declared.steps.Turn.TheVariants as turn
@@ -81,3 +81,13 @@ pub record IsPopped (old new : Machine) (before after : List Value) (v : Value) 
 abbrev pub IsLeftWith : Machine → Machine → List Value → List Value → Value → Turn → Type 0
 IsLeftWith old new before after v (turn.Goes frame) = IsPopped old new before after v frame × (length old.stack.items ≢ 1)
 IsLeftWith old new before after v (turn.Over e) = (e ≡ evaluated.Value v) × (length old.stack.items ≡ 1)
+
+-- where an evaluation goes on by a frame, its place is in its code
+abbrev pub HasPlace : Turn → Type 0
+HasPlace (turn.Goes (Some f)) = f.at < length f.code.now
+HasPlace other = Unit {0}
+
+-- it goes on by a frame whose code ends with the read for which it waited
+abbrev pub IsReadOut : Turn → Type 0
+IsReadOut (turn.Goes (Some f)) = IsDone f
+IsReadOut other = ⊥

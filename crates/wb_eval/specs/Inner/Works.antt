@@ -1,6 +1,6 @@
 -- What the work on code comes to.
 use Rattle.std.specs.Prelude.{◌≡◌, ◌⊎◌, ◌≤◌, ◌<◌, ◌+◌, ◌-◌, ◌^◌, ℕ, suc, Bool, true, false, List, [], ◌∷◌, ◌++◌, Option, Some, None}
-use Rattle.std.specs.Prelude.{Ok, Err, All, length, take, slice_get}
+use Rattle.std.specs.Prelude.{Ok, Err, All, get_or, length, take, slice_get}
 use Rattle.wb_flow_theory.specs.Modular.{IsProduction}
 use Rattle.wb_base.specs.declared.symbol.Kind.{Kind}
 use Rattle.wb_operations.specs.Given.{Given, IsGiven}
@@ -20,6 +20,7 @@ use Rattle.wb_eval_theory.specs.Walks.{value, fault, done}
 use Rattle.wb_eval_rules.specs.Code.{Job, Way, Instruction, does}
 use Rattle.wb_eval_rules.specs.declared.code.After.{After}
 use Rattle.wb_eval_rules.specs.declared.code.After.TheVariants as after
+use Rattle.wb_eval_rules.specs.declared.code.Op.{Op}
 use Rattle.wb_eval_rules.specs.declared.code.Task.{Task}
 use Rattle.wb_eval_rules.specs.declared.code.Task.TheVariants as task
 use Rattle.wb_eval.specs.declared.context.Expression.{Expression}
@@ -238,6 +239,13 @@ module _ (a : AttributionParts) (operations : Operations) (trees : List Tree) wh
   abbrev pub IsTurn : Machine → List Value → Option Frame → Type 0
   IsTurn m values None = IsMachine a operations trees values m
   IsTurn m values (Some f) = GoesOnAt m values f
+
+-- a frame's code ends with the read for which it waits
+pub record IsDone (f : Frame) : Type 0 where
+  pub op : Op
+  pub here : op ≡ get_or f.code.now f.at op
+  pub on : op.after ≡ after.Next
+  pub past : length f.code.now ≤ f.at + 1
 
 -- a tree was built of the last values
 pub record IsBuilt (trees new : List Tree) (before after : List Value) (production count : ℕ) : Type 0 where

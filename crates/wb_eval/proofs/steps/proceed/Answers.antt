@@ -21,21 +21,19 @@ returns-in-Value c = λ a operations trees ran.
     (left_turned a operations trees m.machine new.machine c.args.steps m.values.items new.values.items c.in-Value.answer c.requires.within
     it.0 it.1) c.leave.ensures
 
-pub leave_top-requires : goal.leave_top-requires
-leave_top-requires c =
+pub leave_tops-requires-clause-ran : goal.leave_tops-requires-clause-ran
+leave_tops-requires-clause-ran c =
     let (a, operations, trees, ran) = c.requires.ran in
     let m = c.args.evaluation.now in
-    let (under, v, is, runs, inside) = subst (IsRan a operations trees m.machine m.values.items) c.in-Top.is ran in
-    (under, v, is, leaving a operations trees m.machine v runs inside)
+    (a, operations, trees, subst (IsRan a operations trees m.machine m.values.items) c.in-Top.is ran)
+
+pub leave_tops-requires-clause-within : goal.leave_tops-requires-clause-within
+leave_tops-requires-clause-within c = c.requires.within
 
 pub returns-in-Top : goal.returns-in-Top
 returns-in-Top c = λ a operations trees ran.
     let m = c.args.evaluation.now in
-    let new = c.leave_top.new.evaluation in
-    let (under, v, is, runs, inside) = subst (IsRan a operations trees m.machine m.values.items) c.in-Top.is ran in
-    IfOk-weaker c.leave_top.result _ _
-    (left_turned a operations trees m.machine new.machine c.args.steps under new.values.items v c.requires.within runs inside)
-    (c.leave_top.ensures under v is)
+    c.leave_tops.ensures a operations trees (subst (IsRan a operations trees m.machine m.values.items) c.in-Top.is ran)
 
 pub returns-in-Fault : goal.returns-in-Fault
 returns-in-Fault c = λ a operations trees ran.
