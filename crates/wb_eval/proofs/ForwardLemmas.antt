@@ -38,13 +38,14 @@ module _ {a : AttributionParts} {operations : Operations} {trees : List Tree} {u
     fresh = not_entered a operations trees m k (finish operations) alone.runs alone.is_key none;
   }
 
-  pub alone_ran : (k : Key) → IsAlone a operations trees under m k → (r : Ran) → IsRead m.memo k r → IsRan a operations trees m under r
-  alone_ran k alone (ran.Value v) is = alone_known k v alone is
-  alone_ran k alone ran.Top never = absurd never
-  alone_ran k alone (ran.Fault operation code) never = absurd never
-  alone_ran k alone (ran.Needs other frame) (same, no_frame, none) =
-      subst (IsFramed a operations trees m under other) (sym no_frame)
-      (subst (Wants a operations trees under m) (sym same) (alone_wanted k alone none))
+  pub alone_ran : (k : Key) (values : List Value) → IsAlone a operations trees under m k → (r : Ran) → IsRead m under values k r
+      → IsRan a operations trees m values r
+  alone_ran k values alone ran.Top (v, is, pushed) = let (runs, inside) = alone_known k v alone is in (under, v, pushed, runs, inside)
+  alone_ran k values alone (ran.Fault operation code) never = absurd never
+  alone_ran k values alone (ran.Needs other frame) (same, no_frame, none, values_are) =
+      subst (λ (vs : List Value). IsFramed a operations trees m vs other frame) (sym values_are)
+      (subst (IsFramed a operations trees m under other) (sym no_frame)
+      (subst (Wants a operations trees under m) (sym same) (alone_wanted k alone none)))
 
   -- through the forwarded tree, whose site is there
   module _ (site x : ℕ) (f : IsForwarding a operations trees under m site x) (after : Machine) (is : after ≡ with_memo m after.memo)

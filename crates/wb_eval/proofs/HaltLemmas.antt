@@ -129,7 +129,6 @@ module _ (a : AttributionParts) (operations : Operations) (trees : List Tree) (m
   -- the work came to the end of the evaluation
   pub halts_here : (values : List Value) (steps : ℕ) → m.entered ≤ steps → (r : Ran) → IsRan a operations trees m values r
       → (why : Halt) → IsHaltOf r m.entered steps why → WaitsIn a operations trees m.root m.attribute steps m why
-  halts_here values steps within (ran.Value v) is why ends = absurd ends
   halts_here values steps within ran.Top is why ends = absurd ends
   halts_here values steps within (ran.Fault operation code) is why ends =
       let fault_is = answers_fault a operations trees m operation code steps is within in

@@ -31,6 +31,10 @@ pub(crate) fn read(
     requires key { IsKey machine.now.memo key }
     ensures { IfOk result (IsReading machine.now values.old.items values.new.items key) }
 {
+    // Most that is read isn't known yet.
+    if !machine.may_be_known(key) {
+        return Ok(Some(key));
+    }
     match machine.known(key)? {
         Some(value) => visit_value(values, value),
         None => Ok(Some(key)),

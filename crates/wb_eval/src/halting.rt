@@ -162,7 +162,7 @@ fn halt_of(ran: &Ran, entered: u64, steps: u64) -> Option<Halt>
     ensures { IfSome result (IsHaltOf ran.now entered steps) }
 {
     match ran {
-        Ran::Value(_) | Ran::Top => None,
+        Ran::Top => None,
         Ran::Fault { operation, code } => Some(Halt::Fault {
             operation: *operation,
             code: *code,

@@ -2,7 +2,7 @@
 //!
 //! The memo, and the instances that wait, each for the one above it. How one is worked on is in `run`.
 
-ghost use Rattle.std.specs.Prelude.{◌≡◌, ◌≤◌, ◌<◌, ◌+◌, ◌^◌, OnOk, IfOk};
+ghost use Rattle.std.specs.Prelude.{◌≡◌, ◌≤◌, ◌<◌, ◌+◌, ◌^◌, None, OnOk, IfOk, IsFalse};
 ghost use Rattle.wb_eval.specs.Inner.Machines.{HasMore, HasTree, IsBlank, IsFirst, IsKey, IsTreeKnown, known, with_memo};
 ghost use Rattle.wb_eval_memo.specs.Memos.{count, IsWhole, IsGrown};
 ghost use Rattle.wb_eval_memo.specs.Sites.{link};
@@ -108,6 +108,20 @@ impl<'a> Machine<'a> {
                 Some(tree) => Some(Value::Tree(tree)),
                 None => None,
             }),
+        }
+    }
+
+    // Whether the value of a key may be known, as far as a look at its cell tells.
+    #[inline(always)]
+    pub(crate) fn may_be_known(&self, key: Key) -> bool
+        requires whole { IsWhole self.now.memo }
+        requires key { IsKey self.now.memo key }
+        ensures { IsFalse result → known self.now.memo key ≡ None }
+    {
+        match key {
+            Key::Synthesized { site, attribute } => self.memo.may_be_known(site, attribute),
+            Key::Inherited { site, attribute } => self.memo.may_be_known(site, attribute),
+            Key::Tree { site: _ } => true,
         }
     }
 

@@ -2,13 +2,11 @@
 
 use crate::frame::Frame;
 use crate::machine::Key;
-use wb_values::Value;
 
-// What the work on an instance comes to: a value, the one that is on top of the values, a fault, or another instance that it needs, with its
-// frame, or none where it begins anew.
+// What the work on an instance comes to: the value that is on top of the values, a fault, or another instance that it needs, with its frame,
+// or none where it begins anew.
 #[derive(Drop)]
 pub(crate) enum Ran<'a> {
-    Value(Value),
     Top,
     Fault { operation: usize, code: u32 },
     Needs { key: Key, frame: Option<Frame<'a>> },

@@ -2,7 +2,7 @@
 //!
 //! By code, by another instance, or through the forwarded tree. Which of them is in `start`, which instance is next in `steps`.
 
-ghost use Rattle.std.specs.Prelude.{List, IfOk};
+ghost use Rattle.std.specs.Prelude.{IfOk};
 ghost use Rattle.wb_operations.specs.Kept.{IsKept};
 ghost use Rattle.wb_operations.specs.Operations.{Operations};
 ghost use Rattle.wb_syntax_resolved.specs.declared.attribution.AttributionParts.{AttributionParts};
@@ -12,10 +12,10 @@ ghost use Rattle.wb_eval.specs.Inner.Starts.{IsForwarding};
 ghost use Rattle.wb_eval.specs.Inner.Works.{IsExtended, HasRun, IsRead, IsTurn};
 ghost use Rattle.wb_eval_rules.specs.Codes.{AreCoded};
 ghost use Rattle.wb_eval_rules.specs.Indexes.{AreIndexes};
-ghost use Rattle.wb_values.specs.declared.value.Value as stored;
 
 use crate::context::{Context, Expression};
 use crate::evaluation::Evaluation;
+use crate::expression::read;
 use crate::frame::Frame;
 use crate::machine::{Key, Machine};
 use crate::perform::{evaluate_code, follow};
@@ -79,10 +79,8 @@ fn begin<'a, M: Meaning>(
             let expression = Expression { site, code };
             evaluate_code(context, &expression, 0, evaluation, store)
         }
-        Start::Read(key) => read_alone(&evaluation.machine, key),
-        Start::Forward { site, attribute } => {
-            run_forward(&mut evaluation.machine, store, site, attribute)
-        }
+        Start::Read(key) => read_alone(&evaluation.machine, &mut evaluation.values, key),
+        Start::Forward { site, attribute } => run_forward(evaluation, store, site, attribute),
         Start::Needs(key) => Ok(Ran::Needs { key, frame: None }),
     }
 }
@@ -90,16 +88,16 @@ fn begin<'a, M: Meaning>(
 // Works on a synthesized attribute that is that of the forwarded tree.
 #[inline(never)]
 fn run_forward<'a>(
-    machine: &mut Machine<'a>,
+    evaluation: &mut Evaluation<'a>,
     store: &TreeStore,
     site: usize,
     attribute: usize,
 ) -> Result<Ran<'a>, AllocError>
-    requires forwarding { (a : AttributionParts) × (operations : Operations) × (values : List stored.Value) × IsForwarding a operations store.now values machine.old site attribute }
-    ensures { (a : AttributionParts) (operations : Operations) (values : List stored.Value) → IsForwarding a operations store.now values machine.old site attribute → IfOk result (HasRun a operations store.now machine.old machine.new values) }
+    requires forwarding { (a : AttributionParts) × (operations : Operations) × IsForwarding a operations store.now evaluation.old.values.items evaluation.old.machine site attribute }
+    ensures { (a : AttributionParts) (operations : Operations) → IsForwarding a operations store.now evaluation.old.values.items evaluation.old.machine site attribute → IfOk result (HasRun a operations store.now evaluation.old.machine evaluation.new.machine evaluation.new.values.items) }
 {
-    let below = machine.below(store, site, Step::Forward)?;
-    if machine.memo.trees[below].is_none() {
+    let below = evaluation.machine.below(store, site, Step::Forward)?;
+    if evaluation.machine.memo.trees[below].is_none() {
         return Ok(Ran::Needs {
             key: Key::Tree { site: below },
             frame: None,
@@ -109,18 +107,26 @@ fn run_forward<'a>(
         site: below,
         attribute,
     };
-    read_alone(machine, key)
+    read_alone(&evaluation.machine, &mut evaluation.values, key)
 }
 
 // Reads one instance, whose value is the value.
 #[inline(always)]
-fn read_alone<'a>(machine: &Machine<'a>, key: Key) -> Result<Ran<'a>, AllocError>
+fn read_alone<'a>(
+    machine: &Machine<'a>,
+    values: &mut Vec<Value>,
+    key: Key,
+) -> Result<Ran<'a>, AllocError>
     requires whole { IsWhole machine.now.memo }
     requires key { IsKey machine.now.memo key }
-    ensures { IfOk result (IsRead machine.now.memo key) }
+    ensures { IfOk result (IsRead machine.now values.old.items values.new.items key) }
 {
-    match machine.known(key)? {
-        Some(value) => Ok(Ran::Value(value)),
-        None => Ok(Ran::Needs { key, frame: None }),
+    let found = read(machine, values, key)?;
+    match found {
+        Some(needed) => Ok(Ran::Needs {
+            key: needed,
+            frame: None,
+        }),
+        None => Ok(Ran::Top),
     }
 }

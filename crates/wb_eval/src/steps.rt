@@ -42,7 +42,6 @@ pub(crate) fn proceed<'a>(
     ensures { (a : AttributionParts) (operations : Operations) (trees : List Tree) → IsRan a operations trees evaluation.old.machine evaluation.old.values.items ran.entry → IfOk result (IsTurned a operations trees evaluation.old.machine evaluation.new.machine evaluation.new.values.items steps) }
 {
     match ran {
-        Ran::Value(answer) => leave(evaluation, answer),
         Ran::Top => leave_tops(evaluation, steps),
         Ran::Fault { operation, code } => Ok(Turn::Over(Evaluated::Fault { operation, code })),
         Ran::Needs { key, frame } => {
@@ -53,25 +52,6 @@ pub(crate) fn proceed<'a>(
             Ok(Turn::Goes(None))
         }
     }
-}
-
-// Leaves the instance at work, whose value this is.
-#[inline(always)]
-fn leave<'a>(evaluation: &mut Evaluation<'a>, answer: Value) -> Result<Turn<'a>, AllocError>
-    requires { IsLeaving evaluation.old.machine answer }
-    ensures { IfOk result (IsLeftWith evaluation.old.machine evaluation.new.machine evaluation.old.values.items evaluation.new.values.items answer) }
-{
-    let at = evaluation.machine.stack.len() - 1;
-    if at == 0 {
-        return Ok(Turn::Over(Evaluated::Value(answer)));
-    }
-    let key = evaluation.machine.stack[at];
-    let frame = evaluation.machine.frames[at - 1];
-    push_answer(&mut evaluation.values, &frame, &answer)?;
-    keep(&mut evaluation.machine.memo, key, answer)?;
-    evaluation.machine.stack.truncate(at);
-    evaluation.machine.frames.truncate(at - 1);
-    Ok(Turn::Goes(frame))
 }
 
 // Leaves the instance at work, whose value is the last one, and then each that waited and has nothing to do but to read it.
@@ -124,21 +104,33 @@ fn leave_top<'a>(evaluation: &mut Evaluation<'a>) -> Result<Turn<'a>, AllocError
     ensures { (under : List stored.Value) (v : stored.Value) → evaluation.old.values.items ≡ under ++ v ∷ [] → IfOk result (IsLeftWith evaluation.old.machine evaluation.new.machine under evaluation.new.values.items v) }
 {
     let at = evaluation.machine.stack.len() - 1;
-    let answer = last_value(&evaluation.values)?;
     if at == 0 {
+        let answer = last_value(&evaluation.values)?;
         return Ok(Turn::Over(Evaluated::Value(answer)));
     }
     let key = evaluation.machine.stack[at];
     let frame = evaluation.machine.frames[at - 1];
-    keep(&mut evaluation.machine.memo, key, answer)?;
+    keep_last(&mut evaluation.machine.memo, key, &evaluation.values)?;
     settle(&mut evaluation.values, &frame);
     evaluation.machine.stack.truncate(at);
     evaluation.machine.frames.truncate(at - 1);
     Ok(Turn::Goes(frame))
 }
 
-// The last value.
+// Keeps the last value, which is that of the instance of a key.
 #[inline(always)]
+fn keep_last(memo: &mut Memo, key: Key, values: &Vec<Value>) -> Result<(), AllocError>
+    requires whole { IsWhole memo.old }
+    requires there { IsKey memo.old key }
+    requires last { (under : List stored.Value) × (v : stored.Value) × (values.now.items ≡ under ++ v ∷ []) × IsFor key v }
+    ensures { (under : List stored.Value) (v : stored.Value) → values.now.items ≡ under ++ v ∷ [] → OnOk result (IsSet memo.old memo.new key v) }
+{
+    let last = values.len() - 1;
+    keep(memo, key, &values[last])
+}
+
+// The last value.
+#[inline(never)]
 fn last_value(values: &Vec<Value>) -> Result<Value, AllocError>
     requires { 0 < length values.now.items }
     ensures { (under : List stored.Value) (v : stored.Value) → values.now.items ≡ under ++ v ∷ [] → IfOk result (λ made. made ≡ v) }
@@ -162,40 +154,20 @@ fn settle(values: &mut Vec<Value>, frame: &Option<Frame>)
     }
 }
 
-// Pushes the value for which a frame waited.
-#[inline(always)]
-fn push_answer(
-    values: &mut Vec<Value>,
-    frame: &Option<Frame>,
-    answer: &Value,
-) -> Result<(), AllocError>
-    ensures { OnOk result (values.new.items ≡ with_answer frame.now values.old.items answer.now) }
-{
-    match frame {
-        Some(_) => {
-            values.reserve(1)?;
-            let value = answer.copy()?;
-            values.push_reserved(value);
-            Ok(())
-        }
-        None => Ok(()),
-    }
-}
-
 // Keeps the value of the instance of a key.
 #[inline(always)]
-fn keep(memo: &mut Memo, key: Key, answer: Value) -> Result<(), AllocError>
+fn keep(memo: &mut Memo, key: Key, answer: &Value) -> Result<(), AllocError>
     requires whole { IsWhole memo.old }
     requires there { IsKey memo.old key }
-    requires tree { IsFor key answer }
-    ensures { OnOk result (IsSet memo.old memo.new key answer) }
+    requires tree { IsFor key answer.now }
+    ensures { OnOk result (IsSet memo.old memo.new key answer.now) }
 {
     match key {
         Key::Synthesized { site, attribute } => memo.set_attribute(site, attribute, answer),
         Key::Inherited { site, attribute } => memo.set_attribute(site, attribute, answer),
         Key::Tree { site } => {
             match answer {
-                Value::Tree(tree) => memo.trees[site] = Some(tree),
+                Value::Tree(tree) => memo.trees[site] = Some(*tree),
                 _ => unreachable!(),
             }
             Ok(())

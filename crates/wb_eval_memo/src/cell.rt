@@ -64,16 +64,17 @@ fn cell_of_tree(tree: TreeId) -> Option<Cell>
     Some(Cell::Tree(tree.0 as u32))
 }
 
-// Adds a value to those beside cells: its cell.
+// Adds a copy of a value to those beside cells: its cell.
 #[inline(never)]
-pub(crate) fn cell_of_large(large: &mut Vec<Value>, value: Value) -> Result<Cell, AllocError>
-    ensures { IfOk result (IsPlaced large.old.items large.new.items value) }
+pub(crate) fn cell_of_large(large: &mut Vec<Value>, value: &Value) -> Result<Cell, AllocError>
+    ensures { IfOk result (IsPlaced large.old.items large.new.items value.now) }
 {
     let place = large.len();
     if place >= LOW {
         return Err(AllocError);
     }
     large.reserve(1)?;
-    large.push_reserved(value);
+    let kept = value.copy()?;
+    large.push_reserved(kept);
     Ok(Cell::Large(place as u32))
 }

@@ -2,7 +2,7 @@
 //!
 //! The tree of each, and the values of its attributes. What they stand for is said where they are used.
 
-ghost use Rattle.std.specs.Prelude.{◌≡◌, ◌≢◌, ◌⊎◌, ◌≤◌, ◌<◌, ℕ, suc, [], ◌∷◌, ◌++◌, Option, Some, None, length, slice_get, OnOk, IfOk};
+ghost use Rattle.std.specs.Prelude.{◌≡◌, ◌≢◌, ◌⊎◌, ◌≤◌, ◌<◌, ℕ, suc, [], ◌∷◌, ◌++◌, Option, Some, None, length, slice_get, OnOk, IfOk, IsFalse};
 ghost use Rattle.wb_values.specs.declared.value.TreeId.{TreeId};
 ghost use Rattle.wb_eval_memo.specs.Sites.{link, step_of, path_at, paths_of};
 ghost use Rattle.wb_eval_memo.specs.Memos.{recall, IsWhole, IsGrown, IsBelow};
@@ -58,20 +58,30 @@ impl Memo {
         }
     }
 
+    /// Whether the value of an attribute may be known. It takes less than `attribute`.
+    #[inline(always)]
+    pub fn may_be_known(&self, site: usize, attribute: usize) -> bool
+        requires whole { IsWhole self.now }
+        requires there { site ≤ length self.now.sites.origins.items }
+        ensures { IsFalse result → recall self.now site attribute ≡ None }
+    {
+        self.slots.may_be_known(site, attribute)
+    }
+
     /// Keeps the value of an attribute.
     #[inline(always)]
     pub fn set_attribute(
         &mut self,
         site: usize,
         attribute: usize,
-        value: Value,
+        value: &Value,
     ) -> Result<(), AllocError>
         requires whole { IsWhole self.old }
         requires there { site ≤ length self.old.sites.origins.items }
         ensures whole { OnOk result (IsWhole self.new) }
         ensures sites { OnOk result (self.new.sites ≡ self.old.sites) }
         ensures trees { OnOk result (self.new.trees ≡ self.old.trees) }
-        ensures set { OnOk result (recall self.new site attribute ≡ Some value) }
+        ensures set { OnOk result (recall self.new site attribute ≡ Some value.now) }
         ensures kept { OnOk result ((i other : ℕ) → (i ≢ site) ⊎ (other ≢ attribute) → recall self.new i other ≡ recall self.old i other) }
     {
         self.slots.set(site, attribute, value)

@@ -2,7 +2,7 @@
 //!
 //! Each site has a cell for each of the first attributes. Those of others, of which few are written, are found by numbers.
 
-ghost use Rattle.std.specs.Prelude.{◌≡◌, ◌≢◌, ◌⊎◌, ◌<◌, ◌+◌, ◌*◌, ◌++◌, ℕ, suc, Some, None, replicate, length, OnOk, IfOk};
+ghost use Rattle.std.specs.Prelude.{◌≡◌, ◌≢◌, ◌⊎◌, ◌≤◌, ◌<◌, ◌+◌, ◌*◌, ◌++◌, ℕ, suc, Some, None, replicate, length, OnOk, IfOk, IsFalse};
 ghost use Rattle.wb_eval_memo.specs.Inner.Cells.{Holds, IsCellMade};
 ghost use Rattle.wb_eval_memo.specs.Slots.{numbered, known_in, cell_at, slot_value, AreSlots, HasSite};
 ghost use Rattle.wb_eval_memo.specs.declared.cell.Cell.TheVariants.{Unknown};
@@ -63,12 +63,29 @@ impl Slots {
         }
     }
 
+    /// Whether the value of an attribute at a site may be known, which a look at its cell tells. Where it has none, it may.
+    #[inline(always)]
+    pub fn may_be_known(&self, site: usize, attribute: usize) -> bool
+        requires { HasSite self.now site }
+        ensures { IsFalse result → slot_value self.now site attribute ≡ None }
+    {
+        if attribute < self.width {
+            let place = self.place(site, attribute);
+            match self.near[place] {
+                Cell::Unknown => false,
+                _ => true,
+            }
+        } else {
+            true
+        }
+    }
+
     /// Keeps the value of an attribute at a site.
     #[inline(always)]
-    pub fn set(&mut self, site: usize, attribute: usize, value: Value) -> Result<(), AllocError>
+    pub fn set(&mut self, site: usize, attribute: usize, value: &Value) -> Result<(), AllocError>
         requires { HasSite self.old site }
         ensures slots { OnOk result ((sites : ℕ) → site < sites → AreSlots sites self.old → AreSlots sites self.new) }
-        ensures set { OnOk result (slot_value self.new site attribute ≡ Some value) }
+        ensures set { OnOk result (slot_value self.new site attribute ≡ Some value.now) }
         ensures kept { OnOk result ((i other : ℕ) → (i ≢ site) ⊎ (other ≢ attribute) → slot_value self.new i other ≡ slot_value self.old i other) }
     {
         if attribute < self.width {
@@ -76,11 +93,25 @@ impl Slots {
             let cell = cell_for(&mut self.large, value)?;
             self.near[place] = cell;
         } else {
-            self.large.reserve(1)?;
-            let number = self.large.len() + 1;
-            self.far.put(site, attribute, number)?;
-            self.large.push_reserved(value);
+            self.set_far(site, attribute, value)?;
         }
+        Ok(())
+    }
+
+    // Keeps the value of an attribute without a cell.
+    #[inline(never)]
+    fn set_far(&mut self, site: usize, attribute: usize, value: &Value) -> Result<(), AllocError>
+        requires site { HasSite self.old site }
+        requires far { self.old.width ≤ attribute }
+        ensures slots { OnOk result ((sites : ℕ) → site < sites → AreSlots sites self.old → AreSlots sites self.new) }
+        ensures set { OnOk result (slot_value self.new site attribute ≡ Some value.now) }
+        ensures kept { OnOk result ((i other : ℕ) → (i ≢ site) ⊎ (other ≢ attribute) → slot_value self.new i other ≡ slot_value self.old i other) }
+    {
+        self.large.reserve(1)?;
+        let kept = value.copy()?;
+        let number = self.large.len() + 1;
+        self.far.put(site, attribute, number)?;
+        self.large.push_reserved(kept);
         Ok(())
     }
 
@@ -141,10 +172,10 @@ impl Drop for Slots {
 
 // The cell of a value. One that doesn't fit lies among the large ones then.
 #[inline(always)]
-fn cell_for(large: &mut Vec<Value>, value: Value) -> Result<Cell, AllocError>
-    ensures { IfOk result (IsCellMade large.old.items large.new.items value) }
+fn cell_for(large: &mut Vec<Value>, value: &Value) -> Result<Cell, AllocError>
+    ensures { IfOk result (IsCellMade large.old.items large.new.items value.now) }
 {
-    match cell_of(&value) {
+    match cell_of(value) {
         Some(cell) => Ok(cell),
         None => cell_of_large(large, value),
     }

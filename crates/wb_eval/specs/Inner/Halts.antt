@@ -14,7 +14,6 @@ use Rattle.wb_eval.specs.declared.ran.Ran.TheVariants as ran
 
 -- what the work on an instance comes to ends the evaluation for this reason, after so many instances were entered
 abbrev pub IsHaltOf : Ran → ℕ → ℕ → Halt → Type 0
-IsHaltOf (ran.Value v) entered steps why = ⊥
 IsHaltOf ran.Top entered steps why = ⊥
 IsHaltOf (ran.Fault operation code) entered steps why = why ≡ halt.Fault operation code
 IsHaltOf (ran.Needs k frame) entered steps why = (why ≡ halt.MoreSteps) × (steps ≤ entered)

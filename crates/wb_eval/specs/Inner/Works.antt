@@ -198,12 +198,11 @@ abbrev pub way_to : Place → Step
 way_to (place.Child k) = step.Child k
 way_to (place.Local y) = step.Local y
 
--- the value of the instance of the key is known, or it is needed
-abbrev pub IsRead : Memo → Key → Ran → Type 0
-IsRead m k (ran.Value v) = known m k ≡ Some v
-IsRead m k ran.Top = ⊥
-IsRead m k (ran.Fault operation code) = ⊥
-IsRead m k (ran.Needs other frame) = (other ≡ k) × (frame ≡ None) × (known m k ≡ None)
+-- what is known for the key was pushed, or its instance is needed, and the one at work begins anew then
+abbrev pub IsRead : Machine → List Value → List Value → Key → Ran → Type 0
+IsRead m old new k ran.Top = (w : Value) × (known m.memo k ≡ Some w) × (new ≡ old ++ w ∷ [])
+IsRead m old new k (ran.Fault operation code) = ⊥
+IsRead m old new k (ran.Needs other frame) = (other ≡ k) × (frame ≡ None) × (known m.memo k ≡ None) × (new ≡ old)
 
 -- the store has more trees
 abbrev pub IsExtended : List Tree → List Tree → Type 0
@@ -217,7 +216,6 @@ module _ (a : AttributionParts) (operations : Operations) (trees : List Tree) wh
 
   -- the instance at work has the outcome, or it reads one that wasn't entered
   abbrev pub IsRan : Machine → List Value → Ran → Type 0
-  IsRan m values (ran.Value v) = Runs a operations trees values m (done (value (value_in trees v))) × IsIn (length trees) v
   IsRan m values ran.Top = (under : List Value) × (v : Value) × (values ≡ under ++ v ∷ [])
       × Runs a operations trees under m (done (value (value_in trees v))) × IsIn (length trees) v
   IsRan m values (ran.Fault operation code) = Fails a operations trees m operation code

@@ -1,7 +1,17 @@
-use Rattle.std.proofs.Common.{◌∙◌, sym}
+use Rattle.std.proofs.Common.{rules, ◌∙◌, refl, sym}
+use Rattle.std.specs.Prelude.{IsFalse}
 use Rattle.std.proofs.lemmas.Result.{IfOk-weaker}
 use Rattle.wb_eval.proofs.ReachedLemmas.{read_pushed}
 use Rattle.wb_eval.proofs.expression.read.Goals as goal
+
+pub may_be_known-requires-clause-whole : goal.may_be_known-requires-clause-whole
+may_be_known-requires-clause-whole c = c.requires.whole
+
+pub may_be_known-requires-clause-key : goal.may_be_known-requires-clause-key
+may_be_known-requires-clause-key c = c.requires.key
+
+pub returns-then-not-may_be_known : goal.returns-then-not-may_be_known
+returns-then-not-may_be_known c = let unknown : IsFalse c.may_be_known.result = search rules in (refl, c.may_be_known.ensures unknown, refl)
 
 pub returns-in-Some : goal.returns-in-Some
 returns-in-Some c =

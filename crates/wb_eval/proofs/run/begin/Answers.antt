@@ -69,7 +69,7 @@ run_forward-requires g c =
     let starting = c.start_of.ensures operations m.values.items
     (at_work c.requires.whole c.index-key.result.now (search rules)) c.requires.coded in
     let it = subst (IsStart a operations c.args.store.now m.values.items m.machine) c.in-Forward.is starting in
-    record { forwarding = (_, _, _, it) }
+    record { forwarding = (_, _, it) }
 
 pub returns-in-Expression-clause-ran : goal.returns-in-Expression-clause-ran
 returns-in-Expression-clause-ran g c = c.evaluate_code.ensures.ran
@@ -85,7 +85,8 @@ returns-in-Read-clause-ran g c =
     let starting = c.start_of.ensures operations m.values.items
     (at_work c.requires.whole c.index-key.result.now (search rules)) c.requires.coded in
     let it = subst (IsStart a operations c.args.store.now m.values.items m.machine) c.in-Read.is starting in
-    IfOk-weaker c.read_alone.result _ _ (λ r read. (same_machine m.machine, alone_ran c.in-Read.key it r read)) c.read_alone.ensures
+    IfOk-weaker c.read_alone.result _ _
+    (λ r read. (same_machine m.machine, alone_ran c.in-Read.key c.read_alone.new.values.items it r read)) c.read_alone.ensures
 
 pub returns-in-Read-clause-store : goal.returns-in-Read-clause-store
 returns-in-Read-clause-store g c = same_store c.args.store.now
@@ -98,7 +99,7 @@ returns-in-Forward-clause-ran g c =
     let starting = c.start_of.ensures operations m.values.items
     (at_work c.requires.whole c.index-key.result.now (search rules)) c.requires.coded in
     let it = subst (IsStart a operations c.args.store.now m.values.items m.machine) c.in-Forward.is starting in
-    c.run_forward.ensures a operations m.values.items it
+    c.run_forward.ensures a operations it
 
 pub returns-in-Forward-clause-store : goal.returns-in-Forward-clause-store
 returns-in-Forward-clause-store g c = same_store c.args.store.now

@@ -6,15 +6,15 @@ use Rattle.wb_eval.specs.declared.machine.Key.TheVariants as key
 use Rattle.wb_eval.proofs.run.run_forward.Goals as goal
 
 pub below-requires-clause-whole : goal.below-requires-clause-whole
-below-requires-clause-whole c = c.requires.forwarding.3.runs.machine.memo.whole
+below-requires-clause-whole c = c.requires.forwarding.2.runs.machine.memo.whole
 
 pub below-requires-clause-there : goal.below-requires-clause-there
-below-requires-clause-there c = c.requires.forwarding.3.there
+below-requires-clause-there c = c.requires.forwarding.2.there
 
 pub returns-then-is_none : goal.returns-then-is_none
-returns-then-is_none c = λ a operations values forwarding.
+returns-then-is_none c = λ a operations forwarding.
     let e = c.in_ok-below.ensures in (
-      same_memo c.args.machine.now c.below.new.self e.same,
+      same_memo c.args.evaluation.now.machine c.below.new.self e.same,
       forward_wanted c.args.site c.args.attribute forwarding c.below.new.self e.same c.in_ok-below.below
           e.whole e.grown e.site c.index.result.now c.index.ensures (search rules),
     )
@@ -26,10 +26,13 @@ pub read_alone-requires-clause-key : goal.read_alone-requires-clause-key
 read_alone-requires-clause-key c = c.in_ok-below.ensures.site.2.there
 
 pub returns : goal.returns
-returns c = λ a operations values forwarding.
+returns c = λ a operations forwarding.
     let e = c.in_ok-below.ensures in
     let alone = forward_alone c.args.site c.args.attribute forwarding c.below.new.self e.same c.in_ok-below.below
     e.whole e.grown e.site c.index.result.now c.index.ensures (search rules) in
-    let steady = same_memo c.args.machine.now c.below.new.self e.same in
+    let steady = same_memo c.args.evaluation.now.machine c.below.new.self e.same in
     IfOk-weaker c.read_alone.result _ _
-    (λ r read. (steady, alone_ran (key.Synthesized c.in_ok-below.below c.args.attribute) alone r read)) c.read_alone.ensures
+    (λ r read. (
+      steady,
+      alone_ran (key.Synthesized c.in_ok-below.below c.args.attribute) c.read_alone.new.values.items alone r read,
+    )) c.read_alone.ensures

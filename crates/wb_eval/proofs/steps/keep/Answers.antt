@@ -30,17 +30,17 @@ pub returns-in-Synthesized : goal.returns-in-Synthesized
 returns-in-Synthesized c =
     let e = c.set_attribute.ensures in
     on_ok_weaker c.set_attribute.result
-    (subst (λ (k : Key). IsSet c.args.memo.now c.set_attribute.new.self k c.args.answer) (sym c.in-Synthesized.is))
+    (subst (λ (k : Key). IsSet c.args.memo.now c.set_attribute.new.self k c.args.answer.now) (sym c.in-Synthesized.is))
     (attribute_set c.set_attribute.result c.args.memo.now c.set_attribute.new.self c.in-Synthesized.site c.in-Synthesized.attribute
-    c.args.answer e.whole e.sites e.trees e.set e.kept)
+    c.args.answer.now e.whole e.sites e.trees e.set e.kept)
 
 pub returns-in-Inherited : goal.returns-in-Inherited
 returns-in-Inherited c =
     let e = c.set_attribute-in-Inherited.ensures in
     on_ok_weaker c.set_attribute-in-Inherited.result
-    (subst (λ (k : Key). IsSet c.args.memo.now c.set_attribute-in-Inherited.new.self k c.args.answer) (sym c.in-Inherited.is))
+    (subst (λ (k : Key). IsSet c.args.memo.now c.set_attribute-in-Inherited.new.self k c.args.answer.now) (sym c.in-Inherited.is))
     (attribute_set c.set_attribute-in-Inherited.result c.args.memo.now c.set_attribute-in-Inherited.new.self c.in-Inherited.site
-    c.in-Inherited.attribute c.args.answer e.whole e.sites e.trees e.set e.kept)
+    c.in-Inherited.attribute c.args.answer.now e.whole e.sites e.trees e.set e.kept)
 
 pub returns-in-Tree-answer : goal.returns-in-Tree-answer
 returns-in-Tree-answer c =
@@ -50,7 +50,7 @@ returns-in-Tree-answer c =
       trees = with_item old.trees c.in-Tree.site (Some c.in-Tree-answer.tree);
       slots = old.slots;
     } in
-    subst (λ (k : Key). IsSet old new k c.args.answer) (sym c.in-Tree.is) (record {
+    subst (λ (k : Key). IsSet old new k c.args.answer.now) (sym c.in-Tree.is) (record {
       id = c.in-Tree-answer.tree;
       is = c.in-Tree-answer.is;
       sites = refl;

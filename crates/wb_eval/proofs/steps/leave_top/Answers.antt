@@ -2,10 +2,9 @@ use Rattle.std.proofs.Common.{◌≡◌, ◌∙◌, ◌-◌, ◌≢◌, ◌++◌
 use Rattle.std.proofs.lemmas.List.{length-append}
 use Rattle.wb_lemmas.proofs.Places.{at_once, read_at}
 use Rattle.wb_eval.proofs.StepLemmas.{last_key}
-use Rattle.wb_eval.specs.Inner.Machines.{IsKey, IsFor, IsSet}
+use Rattle.wb_eval.specs.Inner.Machines.{IsKey, IsFor}
 use Rattle.wb_eval.specs.declared.evaluated.Evaluated.TheVariants as evaluated
 use Rattle.wb_eval.specs.declared.machine.Key.{Key}
-use Rattle.wb_values.specs.declared.value.Value.{Value}
 use Rattle.wb_eval.proofs.steps.leave_top.Goals as goal
 
 pub overflow_sub-at : goal.overflow_sub-at
@@ -20,11 +19,11 @@ last_value-requires c =
     let k = length-append c.requires.0 (c.requires.1 ∷ []) in
     omega (arith, l, k)
 
-pub keep-requires-clause-whole : goal.keep-requires-clause-whole
-keep-requires-clause-whole c = c.requires.3.whole
+pub keep_last-requires-clause-whole : goal.keep_last-requires-clause-whole
+keep_last-requires-clause-whole c = c.requires.3.whole
 
-pub keep-requires-clause-there : goal.keep-requires-clause-there
-keep-requires-clause-there c =
+pub keep_last-requires-clause-there : goal.keep_last-requires-clause-there
+keep_last-requires-clause-there c =
     let m = c.args.evaluation.now.machine in
     let keys = m.stack.items in
     let it = c.requires.3 in
@@ -35,8 +34,8 @@ keep-requires-clause-there c =
     ∙ read_at keys keys (c.len-at.result - 1) c.index-key.result.now refl (omega (arith, frames, is)) c.index-key.ensures in
     subst (IsKey m.memo) (at_once keys (length keys - 1) _ _ it.last at) it.is_key
 
-pub keep-requires-clause-tree : goal.keep-requires-clause-tree
-keep-requires-clause-tree c =
+pub keep_last-requires-clause-last : goal.keep_last-requires-clause-last
+keep_last-requires-clause-last c =
     let m = c.args.evaluation.now.machine in
     let keys = m.stack.items in
     let (under, v, values_are, it) = c.requires in
@@ -45,8 +44,7 @@ keep-requires-clause-tree c =
     let at : slice_get keys (length keys - 1) ≡ Some c.index-key.result.now =
     ap (λ n. slice_get keys (n - 1)) (sym is)
     ∙ read_at keys keys (c.len-at.result - 1) c.index-key.result.now refl (omega (arith, frames, is)) c.index-key.ensures in
-    subst (λ (z : Value). IsFor c.index-key.result.now z) (sym (c.in_ok-answer.ensures under v values_are))
-    (subst (λ (k : Key). IsFor k v) (at_once keys (length keys - 1) _ _ it.last at) it.is_for)
+    (under, v, values_are, subst (λ (k : Key). IsFor k v) (at_once keys (length keys - 1) _ _ it.last at) it.is_for)
 
 pub settle-requires : goal.settle-requires
 settle-requires c =
@@ -73,8 +71,7 @@ returns c = λ under v values_are.
       record {
         key = c.index-key.result.now;
         last = at;
-        set = subst (λ (z : Value). IsSet m.memo c.keep.new.memo c.index-key.result.now z) (c.in_ok-answer.ensures under v values_are)
-            c.in_ok-keep.ensures;
+        set = c.in_ok-keep_last.ensures under v values_are;
         root = refl;
         attribute = refl;
         entered = refl;

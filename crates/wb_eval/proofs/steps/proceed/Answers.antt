@@ -1,25 +1,7 @@
 use Rattle.std.proofs.Common.{rules, ◌<◌, ◌≤◌, subst}
-use Rattle.std.proofs.lemmas.Result.{IfOk-weaker}
-use Rattle.wb_eval.proofs.AnsweringLemmas.{left_turned, entered_turned, answers_fault, framed_more}
-use Rattle.wb_eval.proofs.BackLemmas.{leaving}
+use Rattle.wb_eval.proofs.AnsweringLemmas.{entered_turned, answers_fault, framed_more}
 use Rattle.wb_eval.specs.Inner.Works.{IsRan}
 use Rattle.wb_eval.proofs.steps.proceed.Goals as goal
-
-pub leave-requires : goal.leave-requires
-leave-requires c =
-    let (a, operations, trees, ran) = c.requires.ran in
-    let m = c.args.evaluation.now in
-    let it = subst (IsRan a operations trees m.machine m.values.items) c.in-Value.is ran in
-    leaving a operations trees m.machine c.in-Value.answer it.0 it.1
-
-pub returns-in-Value : goal.returns-in-Value
-returns-in-Value c = λ a operations trees ran.
-    let m = c.args.evaluation.now in
-    let new = c.leave.new.evaluation in
-    let it = subst (IsRan a operations trees m.machine m.values.items) c.in-Value.is ran in
-    IfOk-weaker c.leave.result _ _
-    (left_turned a operations trees m.machine new.machine c.args.steps m.values.items new.values.items c.in-Value.answer c.requires.within
-    it.0 it.1) c.leave.ensures
 
 pub leave_tops-requires-clause-ran : goal.leave_tops-requires-clause-ran
 leave_tops-requires-clause-ran c =
