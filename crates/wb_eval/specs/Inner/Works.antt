@@ -38,7 +38,6 @@ use Rattle.wb_eval.specs.Inner.Machines.{HasTree, named, known, IsSuspended, IsM
 use Rattle.wb_eval.specs.Inner.Piles.{code_left}
 use Rattle.wb_eval.specs.Inner.Reached.{HasChild, IsReached}
 use Rattle.wb_eval_memo.specs.Memos.{count, path_in, IsWhole, IsGrown}
-use Rattle.wb_eval_memo.specs.declared.memo.Memo.{Memo}
 use Rattle.wb_eval_memo.specs.declared.sites.Step.{Step}
 use Rattle.wb_eval_memo.specs.declared.sites.Step.TheVariants as step
 
