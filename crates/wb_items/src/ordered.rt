@@ -40,13 +40,13 @@ fn merged_items(alloc: Global, grammar: &Grammar, items: &[Item]) -> Result<Vec<
 }
 
 // The items that aren't initial ones of a production below the set's count. The productions of those that are go into the set.
-fn parted(alloc: Global, items: &[Item], initial: &mut TermSet) -> Result<Vec<Item>, AllocError>
-    requires { (item : Item) → ¬ IsInitialOf initial.old item }
-    ensures { IfOk result (λ others. (item : Item) → IsParted others.items initial.new item ↔ Contains items.now item) }
+fn parted(alloc: Global, items: &[Item], opening: &mut TermSet) -> Result<Vec<Item>, AllocError>
+    requires { (item : Item) → ¬ IsInitialOf opening.old item }
+    ensures { IfOk result (λ others. (item : Item) → IsParted others.items opening.new item ↔ Contains items.now item) }
 {
     let mut others = no_items(alloc);
     'items: for place in 0..items.len() {
-        part(item_at(items, place), initial, &mut others)?;
+        part(item_at(items, place), opening, &mut others)?;
     }
     Ok(others)
 }
@@ -81,13 +81,13 @@ fn is_initial(item: Item, count: usize) -> bool
 }
 
 // The initial items of a set's productions, and others among them.
-fn merged_with(alloc: Global, others: &[Item], initial: &TermSet) -> Result<Vec<Item>, AllocError>
-    ensures { IfOk result (λ merged. (item : Item) → Contains merged.items item ↔ IsParted others.now initial.now item) }
+fn merged_with(alloc: Global, others: &[Item], opening: &TermSet) -> Result<Vec<Item>, AllocError>
+    ensures { IfOk result (λ merged. (item : Item) → Contains merged.items item ↔ IsParted others.now opening.now item) }
 {
     let mut merged = no_items(alloc);
     let mut place = 0;
     let mut from = 0;
-    'members: while let Some(production) = initial.next_member(from) {
+    'members: while let Some(production) = opening.next_member(from) {
         place = add_smaller(others, place, production, &mut merged)?;
         push(&mut merged, Item { production, dot: 0 })?;
         from = production + 1;

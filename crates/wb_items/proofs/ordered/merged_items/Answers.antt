@@ -13,6 +13,6 @@ pub returns : goal.returns
 returns c =
     IfOk-weaker c.merged_with-merged.result _ _
     (λ merged h item.
-      let is = subst (λ z. IsParted z c.parted.new.initial item ↔ Contains c.args.items.now item) (sym c.deref.ensures.value)
+      let is = subst (λ z. IsParted z c.parted.new.opening item ↔ Contains c.args.items.now item) (sym c.deref.ensures.value)
       (c.in_ok-others.ensures item) in
       (λ has. is.0 ((h item).0 has), λ has. (h item).1 (is.1 has))) c.merged_with-merged.ensures

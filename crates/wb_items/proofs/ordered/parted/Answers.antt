@@ -6,13 +6,13 @@ use Rattle.wb_items.proofs.ordered.parted.Goals as goal
 
 pub items-init : goal.items-init
 items-init c =
-    taken_none (IsParted c.no_items-others.result.items c.args.initial.now) c.args.items.now
-    (parted_none c.no_items-others.result.items c.args.initial.now c.no_items-others.ensures c.requires)
+    taken_none (IsParted c.no_items-others.result.items c.args.opening.now) c.args.items.now
+    (parted_none c.no_items-others.result.items c.args.opening.now c.no_items-others.ensures c.requires)
 
 pub items-preserved : goal.items-preserved
 items-preserved c =
-    taken_more (IsParted c.items.others.items c.items.initial) (IsParted c.part.new.others.items c.part.new.initial) c.args.items.now
+    taken_more (IsParted c.items.others.items c.items.opening) (IsParted c.part.new.others.items c.part.new.initial) c.args.items.now
     c.items.place c.item_at.result c.item_at.ensures c.in_ok-part.ensures c.items.invariant
 
 pub returns : goal.returns
-returns c = taken_all (IsParted c.items.others.items c.items.initial) c.args.items.now c.items.place (omega arith) c.items.invariant
+returns c = taken_all (IsParted c.items.others.items c.items.opening) c.args.items.now c.items.place (omega arith) c.items.invariant

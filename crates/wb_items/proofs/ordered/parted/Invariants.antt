@@ -3,4 +3,4 @@ use Rattle.wb_items.proofs.TakenLemmas.{TakenUpTo}
 use Rattle.wb_items.proofs.ordered.parted.Given as goal
 
 abbrev pub invariant-items : goal.invariant-items
-invariant-items l = TakenUpTo (IsParted l.others.items l.initial) l.items l.place
+invariant-items l = TakenUpTo (IsParted l.others.items l.opening) l.items l.place
