@@ -8,11 +8,14 @@ pub mod IndexLemmas
 pub mod IndexedLemmas
 pub mod KernelNumbers
 pub mod KernelsLemmas
+pub mod ListedRows
 pub mod MoveLemmas
 pub mod MoveRowLemmas
 pub mod MovedLemmas
 pub mod NumberingLemmas
 pub mod OrderLemmas
+pub mod OrderedRows
+pub mod PartingLemmas
 pub mod PartsLemmas
 pub mod ProductionRows
 pub mod PutLemmas
@@ -21,3 +24,4 @@ pub mod SetLemmas
 pub mod SymbolLemmas
 pub mod SymbolOrder
 pub mod TableLemmas
+pub mod TakenLemmas

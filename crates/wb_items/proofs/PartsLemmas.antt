@@ -18,11 +18,11 @@ use Rattle.wb_recheck_theory.proofs.KernelListLemmas.{one_kernel, kernel_within,
 use Rattle.wb_items.specs.declared.transitions.Move.{Move}
 use Rattle.wb_items.specs.Index.{IndexView}
 use Rattle.wb_items.specs.Kernels.{AreInOrder, ListsItems, ListsKernel}
-use Rattle.wb_items.specs.Parts.{AreListed}
+use Rattle.wb_items.specs.Parts.{AreClosuresOf, AreListed, IsClosureOf}
 use Rattle.wb_items.specs.Table.{AreMoves, IsRow, IsTable, SameItems}
 use Rattle.wb_items.specs.Moved.{IsKernelFor}
 use Rattle.wb_items.specs.Inner.MoveRows.{AreRowsOf, IsRowOf}
-use Rattle.wb_items.specs.Inner.Parts.{AreClosuresOf, AreParts, FoundUpTo, IsClosureOf, PlacesUpTo, Reaches}
+use Rattle.wb_items.specs.Inner.Parts.{AreParts, FoundUpTo}
 use Rattle.wb_items.proofs.SetLemmas.{set_here, set_elsewhere}
 use Rattle.wb_items.proofs.TableLemmas.{closure_lists, kernel_added, prefix_at}
 
@@ -212,68 +212,6 @@ listed_kernels {g} {kernels} {found} closures h = record {
       subst (λ p. ListsKernel g p list) (sym (default_at found.prefixes s [] prefix p_at))
       (subst (ListsKernel g prefix) e (h.are.exact s prefix other p_at there));
 }
-
--- a move reaches a kernel by its place
-pub reaches_by : (moves : List (ℕ × Symbol × ℕ)) (s place : ℕ) (m : ℕ × Symbol × ℕ) → slice_get moves place ≡ Some m →
-    Reaches moves s place → (m.2 ≡ s) × (m.0 < s)
-reaches_by moves s place m at r =
-    let is : (r.from, r.symbol, s) ≡ m = at_once moves place (r.from, r.symbol, s) m r.at at in
-    let to : s ≡ m.2 = ap (λ (z : ℕ × Symbol × ℕ). z.2) is in
-    let from : r.from ≡ m.0 = ap (λ (z : ℕ × Symbol × ℕ). z.0) is in
-    let before = r.before in
-    (sym to, omega (arith, from, before))
-
--- so it leads to the next kernel
-pub led_by : (moves : List (ℕ × Symbol × ℕ)) (s place : ℕ) (m : ℕ × Symbol × ℕ) → slice_get moves place ≡ Some m →
-    Reaches moves s place → (m.0 < s) × Contains moves (m.0, m.1, s)
-led_by moves s place m at r =
-    let (to, before) = reaches_by moves s place m at r in
-    (before, subst (λ z. Contains moves (m.0, m.1, z)) to (contains_at moves m place at))
-
--- no move has been gone over
-pub places_start : (moves : List (ℕ × Symbol × ℕ)) (places : List ℕ) → PlacesUpTo moves places 0
-places_start moves places s m place lt r at = absurd (omega arith)
-
--- a move that isn't noted
-pub places_pass : (moves : List (ℕ × Symbol × ℕ)) (places : List ℕ) (n : ℕ) (m : ℕ × Symbol × ℕ) → slice_get moves n ≡ Some m →
-    (m.0 < m.2 → m.2 < length places → ⊥) → PlacesUpTo moves places n → PlacesUpTo moves places (n + 1)
-places_pass moves places n m here never h s k place lt r at = elim (cases_eq k n) [
-  | inl same ↦
-      let (to, before) = reaches_by moves s n m here (subst (Reaches moves s) same r) in
-      let w = slice_get_within places s place at in
-      absurd (never (omega (arith, to, before)) (omega (arith, to, w)))
-  | inr ne ↦ h s k place (omega arith) r at
-]
-
--- a move that is
-pub places_note : (moves : List (ℕ × Symbol × ℕ)) (places : List ℕ) (n : ℕ) (m : ℕ × Symbol × ℕ) → slice_get moves n ≡ Some m →
-    m.0 < m.2 → m.2 < length places → PlacesUpTo moves places n → PlacesUpTo moves (slice_set places m.2 n) (n + 1)
-places_note moves places n m here before within h s k place lt r at = elim (cases_eq s m.2) [
-  | inl same ↦
-      let e : n ≡ place = set_here places m.2 n place within (subst (λ z. slice_get (slice_set places m.2 n) z ≡ Some place) same at) in
-      subst (Reaches moves s) e (subst (λ z. Reaches moves z n) (sym same)
-      (record { from = m.0; symbol = m.1; at = here; before = before }))
-  | inr ne ↦ elim (cases_eq k n) [
-    | inl same ↦ absurd (ne (sym (reaches_by moves s n m here (subst (Reaches moves s) same r)).0))
-    | inr less ↦ h s k place (omega arith) r (set_elsewhere places m.2 s n place ne at)
-  ]
-]
-
--- with all gone over, each kernel after the first has its move
-pub place_reaches : {g : GrammarView} {kernels : List (List Item)} {moves : List (ℕ × Symbol × ℕ)} → AreParts g kernels moves →
-    (places : List ℕ) → PlacesUpTo moves places (length moves) → (s place : ℕ) → 0 < s → s < length kernels →
-    slice_get places s ≡ Some place → Reaches moves s place
-place_reaches parts places h zero place some lt at = absurd (omega (arith, some))
-place_reaches {moves = moves} parts places h (suc s) place some lt at =
-    let r = parts.reached s lt in
-    let (m, m_at) = place_of moves (r.from, r.symbol, suc s) r.listed in
-    h (suc s) m place (slice_get_within moves m (r.from, r.symbol, suc s) m_at)
-    (record { from = r.from; symbol = r.symbol; at = m_at; before = r.before }) at
-
--- moves are from kernels that are listed
-pub from_listed : {g : GrammarView} {kernels : List (List Item)} {moves : List (ℕ × Symbol × ℕ)} → AreParts g kernels moves →
-    (s : ℕ) (x : Symbol) (next : ℕ) → Contains moves (s, x, next) → s < length kernels
-from_listed parts s x next has = kernel_within ((parts.lists.between s x next).0 has).before
 
 -- nothing is closed yet
 pub none_closed : (g : GrammarView) (kernels : List (List Item)) → AreClosuresOf g kernels [] 0

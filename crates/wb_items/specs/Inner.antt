@@ -5,6 +5,7 @@ pub mod Growing
 pub mod MoveRows
 pub mod MovedKernels
 pub mod Numbering
+pub mod Parting
 pub mod Parts
 pub mod Passes
 pub mod Searches

@@ -9,8 +9,10 @@ ghost use Rattle.wb_items.specs.Kernels.{AreInOrder};
 ghost use Rattle.wb_items.specs.Sorted.{AreRising, StrictUpTo};
 ghost use Rattle.wb_items.specs.Table.{AreProductions};
 
+use crate::compare::are_in_order;
 use crate::dot::{is_item, item_at, nonterminal_after};
 use crate::item_list::ItemList;
+use crate::ordered::ordered_items;
 use crate::productions_of::Numbers;
 use std::alloc::{AllocError, Global};
 use wb_base::{Grammar, Sequence, push};
@@ -48,9 +50,40 @@ pub(crate) fn close(
     ensures exact { IfOk result (λ closure. (item : Item) → Contains closure item ↔ InClosure grammar.now (Contains kernel.now) item) }
     ensures in_order { IfOk result (λ closure. AreInOrder closure) }
 {
-    let mut closure = kernel_closure(alloc, grammar, rules, kernel)?;
-    closure.sort()?;
-    let list = deduplicated(alloc, &closure)?;
+    let closure = kernel_closure(alloc, grammar, rules, kernel)?;
+    let list = ordered_items(alloc, grammar, &closure);
+    drop(closure);
+    list
+}
+
+/// Items in order, each once, as a list that can have many owners. Where they come so, nothing is sorted.
+pub fn ordered_list(alloc: Global, items: Vec<Item>) -> Result<ItemList, AllocError>
+    ensures same { IfOk result (λ list. (item : Item) → Contains list item ↔ Contains items.items item) }
+    ensures in_order { IfOk result (λ list. AreInOrder list) }
+{
+    if are_in_order(&items) {
+        return as_they_are(items);
+    }
+    sorted_list(alloc, items)
+}
+
+// The items, which are in order.
+fn as_they_are(items: Vec<Item>) -> Result<ItemList, AllocError>
+    requires { AreInOrder items.items }
+    ensures same { IfOk result (λ list. (item : Item) → Contains list item ↔ Contains items.items item) }
+    ensures in_order { IfOk result (λ list. AreInOrder list) }
+{
+    ItemList::new(Sequence::from_vec(items))
+}
+
+// The items in order, each once.
+fn sorted_list(alloc: Global, items: Vec<Item>) -> Result<ItemList, AllocError>
+    ensures same { IfOk result (λ list. (item : Item) → Contains list item ↔ Contains items.items item) }
+    ensures in_order { IfOk result (λ list. AreInOrder list) }
+{
+    let mut rising = items;
+    rising.sort()?;
+    let list = deduplicated(alloc, &rising)?;
     ItemList::new(list)
 }
 

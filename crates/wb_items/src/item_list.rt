@@ -8,8 +8,8 @@ use std::rc::RcSlice;
 use wb_base::Sequence;
 use wb_grammar_theory::Item;
 
-// Items, of which a copy is one count.
-pub(crate) struct ItemList {
+/// Items, of which a copy is one count. Contracts see their list.
+pub struct ItemList {
     items: RcSlice<Item>,
 }
 
@@ -24,8 +24,8 @@ impl Model for ItemList {
 }
 
 impl ItemList {
-    // These items.
-    pub(crate) fn new(items: Sequence<Item>) -> Result<ItemList, AllocError>
+    /// These items.
+    pub fn new(items: Sequence<Item>) -> Result<ItemList, AllocError>
         ensures { IfOk result (λ list. list ≡ items) }
     {
         Ok(ItemList {
@@ -33,15 +33,15 @@ impl ItemList {
         })
     }
 
-    // The items.
-    pub(crate) fn as_slice(&self) -> &[Item]
+    /// The items.
+    pub fn as_slice(&self) -> &[Item]
         ensures { result.now ≡ self.now }
     {
         self.items.as_slice()
     }
 
-    // The same items, without memory. The only error is that there are too many copies to be counted.
-    pub(crate) fn copy(&self) -> Result<ItemList, AllocError>
+    /// The same items, without memory. The only error is that there are too many copies to be counted.
+    pub fn copy(&self) -> Result<ItemList, AllocError>
         ensures { IfOk result (λ list. list ≡ self.now) }
     {
         Ok(ItemList {

@@ -7,15 +7,18 @@ ghost use Rattle.wb_grammar.specs.Facts.{AreFacts};
 ghost use Rattle.wb_grammar_theory.specs.declared.item.Item.{Item};
 ghost use Rattle.wb_grammar_theory.specs.Shape.{IsLive};
 ghost use Rattle.wb_recheck_theory.specs.KernelLists.{AreKernelsAndMoves};
-ghost use Rattle.wb_items.specs.Parts.{AreListed, IsReached};
+ghost use Rattle.wb_items.specs.Parts.{AreClosuresOf, AreListed, IsReached, moves_in};
 ghost use Rattle.wb_items.specs.Table.{AreMovesInOrder};
 ghost use Rattle.wb_items.specs.declared.transitions.Move.{Move};
 ghost use Rattle.wb_items.specs.Kernels.{AreKernels, AreInOrder, HasNoneBefore, IsLedTo, LeadsTo, ListsItems, ListsKernel, closure_of, count_of, prefix_of};
 
+use crate::dealing::dealt_rows;
 use crate::item_list::ItemList;
 use crate::kernel_index::KernelIndex;
 use crate::move_row::MoveRow;
-use crate::parts::table_of_parts;
+use crate::ordered_rows::order_rows;
+use crate::parts::closures_of;
+use crate::rows::found_by_rows;
 use crate::table::build_table;
 use crate::transitions::{Move, find_move};
 use std::alloc::{AllocError, Global};
@@ -66,7 +69,8 @@ impl Kernels {
 
     /// The kernels that are listed, in the order of the lists, with the moves between them in any order.
     ///
-    /// Each kernel after the first has a move to it from one before it. The kernels are closed once each, and nothing else is looked for.
+    /// Each kernel after the first has a move to it from one before it. The kernels are closed once each, and nothing else is looked for; the
+    /// moves of a kernel are sorted only where they don't come in the order of their symbols.
     pub fn from_parts(
         alloc: Global,
         grammar: &Grammar,
@@ -81,12 +85,40 @@ impl Kernels {
         ensures exact { IfOk result (λ made. AreKernels made) }
         ensures listed { IfOk result (λ made. AreListed made kernels.now) }
     {
-        let table = table_of_parts(alloc, grammar, kernels, moves)?;
+        let rows = dealt_rows(alloc, kernels.len(), moves)?;
+        let closures = closures_of(alloc, grammar, kernels)?;
+        Kernels::from_rows(alloc, grammar, kernels, closures, rows)
+    }
+
+    /// The kernels that are listed, each with the items of its closure and with its moves, in the order of the lists.
+    ///
+    /// Each kernel after the first has a move to it from one before it. Nothing is closed, and the moves of a kernel are sorted only where
+    /// they don't come in the order of their symbols. A closure can be that of other kernels (`items`), of which it is one more owner.
+    pub fn from_rows(
+        alloc: Global,
+        grammar: &Grammar,
+        kernels: &[Sequence<Item>],
+        closures: Vec<ItemList>,
+        rows: Vec<MoveRow>,
+    ) -> Result<Kernels, AllocError>
+        requires live { IsLive grammar.now }
+        requires lists { AreKernelsAndMoves grammar.now kernels.now (moves_in rows.items) }
+        requires in_order { (s : ℕ) (kernel : List Item) → slice_get kernels.now s ≡ Some kernel → AreInOrder kernel }
+        requires reached { (s : ℕ) → suc s < length kernels.now → IsReached (moves_in rows.items) (suc s) }
+        requires closures { AreClosuresOf grammar.now kernels.now closures.items (length kernels.now) }
+        requires rows { length rows.items ≡ length kernels.now }
+        ensures grammar { IfOk result (λ made. made.grammar ≡ grammar.now) }
+        ensures exact { IfOk result (λ made. AreKernels made) }
+        ensures listed { IfOk result (λ made. AreListed made kernels.now) }
+    {
+        let found = found_by_rows(alloc, grammar, kernels, &rows)?;
+        let mut ordered = rows;
+        order_rows(alloc, &mut ordered)?;
         Ok(Kernels {
             grammar: grammar.copy()?,
-            found: table.found,
-            closures: table.closures,
-            rows: table.rows,
+            found,
+            closures,
+            rows: ordered,
         })
     }
 
@@ -118,8 +150,8 @@ impl Kernels {
         self.closures[state].as_slice()
     }
 
-    // The list of a kernel's `closure`, as another owner of it.
-    pub(crate) fn items(&self, state: usize) -> Result<ItemList, AllocError>
+    /// The list of a kernel's `closure`, as another owner of it. The only error is that it has too many owners to be counted.
+    pub fn items(&self, state: usize) -> Result<ItemList, AllocError>
         requires { state < count_of self.now }
         ensures is { IfOk result (λ list. list ≡ closure_of self.now state) }
         ensures in_order { IfOk result (λ list. AreInOrder list) }

@@ -7,9 +7,8 @@ use std::alloc::{AllocError, Global};
 use std::marker::Model;
 use wb_base::push;
 
-// Moves, seen by contracts as their list.
-#[derive(Drop)]
-pub(crate) struct MoveRow {
+/// Moves, seen by contracts as their list.
+pub struct MoveRow {
     moves: Vec<Move>,
 }
 
@@ -23,8 +22,8 @@ impl Model for MoveRow {
 }
 
 impl MoveRow {
-    // No move.
-    pub(crate) fn new(alloc: Global) -> MoveRow
+    /// No move.
+    pub fn new(alloc: Global) -> MoveRow
         ensures { result ≡ [] }
     {
         MoveRow {
@@ -32,24 +31,31 @@ impl MoveRow {
         }
     }
 
-    // The moves of a vector.
-    pub(crate) fn from_vec(moves: Vec<Move>) -> MoveRow
+    /// The moves of a vector.
+    pub fn from_vec(moves: Vec<Move>) -> MoveRow
         ensures { result ≡ moves.items }
     {
         MoveRow { moves }
     }
 
-    // The moves.
-    pub(crate) fn as_slice(&self) -> &[Move]
+    /// The moves.
+    pub fn as_slice(&self) -> &[Move]
         ensures { result.now ≡ self.now }
     {
         &self.moves
     }
 
-    // Puts a move after the others.
-    pub(crate) fn push(&mut self, added: Move) -> Result<(), AllocError>
+    /// Puts a move after the others.
+    pub fn push(&mut self, added: Move) -> Result<(), AllocError>
         ensures { OnOk result (self.new ≡ self.old ++ added ∷ []) }
     {
         push(&mut self.moves, added)
+    }
+}
+
+impl Drop for MoveRow {
+    fn drop(self) {
+        let MoveRow { moves } = self;
+        drop(moves);
     }
 }

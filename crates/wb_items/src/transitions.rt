@@ -37,7 +37,7 @@ pub(crate) fn find_move(row: &[Move], symbol: Symbol) -> Option<usize>
 }
 
 // Which of the symbols comes first.
-fn compare_symbols(one: Symbol, other: Symbol) -> Ordering
+pub(crate) fn compare_symbols(one: Symbol, other: Symbol) -> Ordering
     ensures { MatchOrdering result (SymbolPrecedes one other) (one ≡ other) (SymbolPrecedes other one) }
 {
     match one {

@@ -1,4 +1,4 @@
-use Rattle.wb_items.specs.Inner.Parts.{AreClosuresOf}
+use Rattle.wb_items.specs.Parts.{AreClosuresOf}
 use Rattle.wb_items.proofs.parts.closures_of.Given as goal
 
 abbrev pub invariant-states : goal.invariant-states

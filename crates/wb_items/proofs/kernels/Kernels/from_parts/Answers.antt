@@ -1,27 +1,15 @@
-use Rattle.std.proofs.Common.{sym, subst}
-use Rattle.wb_items.specs.Kernels.{AreKernels}
-use Rattle.wb_items.specs.Parts.{AreListed}
-use Rattle.wb_items.proofs.KernelsLemmas.{whole}
-use Rattle.wb_items.proofs.PartsLemmas.{listed_kernels}
+use Rattle.wb_recheck_theory.proofs.KernelListLemmas.{kernel_within}
+use Rattle.std.proofs.Common.{arith, suc}
+use Rattle.wb_items.proofs.ListedRows.{listed_otherwise, reached_otherwise}
 use Rattle.wb_items.proofs.kernels.Kernels.from_parts.Goals as goal
 
-pub table_of_parts-requires : goal.table_of_parts-requires
-table_of_parts-requires c = record {
-  live = c.requires.live;
-  lists = c.requires.lists;
-  in_order = c.requires.in_order;
-  reached = c.requires.reached;
-}
+pub dealt_rows-requires : goal.dealt_rows-requires
+dealt_rows-requires c s x next has = kernel_within ((c.requires.lists.between s x next).0 has).before
 
-pub returns-clause-exact : goal.returns-clause-exact
-returns-clause-exact c =
-    let table = c.in_ok-table.table in
-    subst (λ g. AreKernels (record { grammar = g; prefixes = table.found.prefixes; closures = table.closures.items }))
-    (sym c.in_ok-copy.ensures)
-    (whole c.args.grammar.now table.found table.closures.items table.rows.items c.in_ok-table.ensures.table)
+pub from_rows-requires-clause-lists : goal.from_rows-requires-clause-lists
+from_rows-requires-clause-lists c =
+    listed_otherwise c.args.moves.now c.in_ok-rows.rows.items c.in_ok-rows.ensures.same c.requires.lists
 
-pub returns-clause-listed : goal.returns-clause-listed
-returns-clause-listed c =
-    let table = c.in_ok-table.table in
-    subst (λ g. AreListed (record { grammar = g; prefixes = table.found.prefixes; closures = table.closures.items }) c.args.kernels.now)
-    (sym c.in_ok-copy.ensures) (listed_kernels table.closures.items c.in_ok-table.ensures.found)
+pub from_rows-requires-clause-reached : goal.from_rows-requires-clause-reached
+from_rows-requires-clause-reached c s lt =
+    reached_otherwise c.args.moves.now c.in_ok-rows.rows.items c.in_ok-rows.ensures.same (suc s) (c.requires.reached s lt)
