@@ -8,5 +8,6 @@ pub mod MoveLemmas
 pub mod SplicedLemmas
 pub mod LookaheadLemmas
 pub mod LocalLemmas
+pub mod ItemLemmas
 pub mod TakenLemmas
 pub mod NumberedLemmas

@@ -57,12 +57,12 @@ other_mark ok t u a t_mark u_mark rule (move item x rest prefix {moved = moved} 
     absurd (advanced item moved moved_is (ap (λ z. z.dot) i_is))
 
 -- what an item stands for is valid where it is
-record Standing (w : World) (part : Part) (prefix : List Symbol) (i : Item) (t : ℕ) : Type 0 where
+pub record Standing (w : World) (part : Part) (prefix : List Symbol) (i : Item) (t : ℕ) : Type 0 where
   pub item : Item
   pub stands : world_stands.StandsFor w i item
   pub valid : IsValidItemIn w part prefix item t
 
-standing : {w : World} {prefix : List Symbol} {i : Item} {t : ℕ} → IsMarked w → (home : Home) →
+pub standing : {w : World} {prefix : List Symbol} {i : Item} {t : ℕ} → IsMarked w → (home : Home) →
     IsValidItemIn w (part_of home) prefix i t → Standing w (part_of home) prefix i t
 standing {w} {prefix} {i} {t} ok home v = go (follows ok i)
   where
@@ -104,7 +104,7 @@ module _ (g : GrammarView) (extensible : List ℕ) (pieces : List Piece) (is : A
   IsSameAt p home b = SameKernelIn wo all (whole_prefix g extensible pieces is p) (part_of home) (prefix_in g extensible pieces is home b)
 
   -- what an item of the union stands for, in numbers
-  stands_in : (home : Home) → IsListed (many g extensible pieces is) home → (p : List Symbol) (i own : Item) →
+  pub stands_in : (home : Home) → IsListed (many g extensible pieces is) home → (p : List Symbol) (i own : Item) →
       HasItem (whole g extensible pieces is) p i →
       {j : Item} → world_stands.StandsFor wo (item_name i) j → j ≡ renamed_item (home_names g extensible pieces is home) own →
       StandsFor g extensible pieces home i own

@@ -8,3 +8,5 @@ pub mod Numbered
 pub mod Taken
 -- the union's lookaheads, from theirs
 pub mod Lookaheads
+-- the union's items, from theirs
+pub mod Items

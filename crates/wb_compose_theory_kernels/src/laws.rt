@@ -10,6 +10,7 @@ ghost use Rattle.wb_compose_theory_grammar.specs.Pieces.{Piece};
 ghost use Rattle.wb_compose_theory_grammar.specs.UnitedWorlds.{united};
 ghost use Rattle.wb_compose_theory_kernels.specs.Kernels.{AreKernelNumbers, AreSplicedKernels, AreSplicedMoves, KernelNumbers};
 ghost use Rattle.wb_compose_theory_kernels.specs.Numbered.{AreNumberedBeside};
+ghost use Rattle.wb_compose_theory_kernels.specs.Items.{AreItemsLocal};
 ghost use Rattle.wb_compose_theory_kernels.specs.Lookaheads.{AreLookaheadsLocal, AreLookaheadsTaken};
 ghost use Rattle.wb_compose_theory_kernels.specs.Taken.{AreMarkersReached, AreMovesTaken, AreTakenOnce, LeadToBridges};
 
@@ -41,4 +42,9 @@ pub fn lookaheads_law()
 /// ask.
 pub fn numbers_law()
     ensures { (host : GrammarView) (extensible : List ℕ) (pieces : List Piece) (numbers : KernelNumbers) → AreNumberedBeside host extensible pieces numbers → AreKernelNumbers host extensible pieces numbers }
+{}
+
+/// Items are local: where a prefix of the union has the kernel of one of a certified grammar, its items are those that stand for that one's.
+pub fn items_law()
+    ensures { (host : GrammarView) (extensible : List ℕ) (pieces : List Piece) → AreCertified host extensible pieces → AreItemsLocal host extensible pieces }
 {}
