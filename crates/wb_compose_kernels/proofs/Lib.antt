@@ -11,6 +11,7 @@ pub mod UnionLemmas
 pub mod EachLemmas
 pub mod FoundLemmas
 pub mod StartLemmas
+pub mod MaskLemmas
 pub mod MemberLemmas
 pub mod GainLemmas
 pub mod BecomeLemmas

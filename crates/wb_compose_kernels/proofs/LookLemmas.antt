@@ -6,8 +6,8 @@ use Rattle.std.proofs.lemmas.Option.{slice_get_within}
 use Rattle.wb_lemmas.proofs.Members.{contains_at}
 use Rattle.wb_lemmas.proofs.Places.{at_once, at_within}
 use Rattle.wb_base.specs.declared.symbol.Symbol.{Symbol}
-use Rattle.wb_base.specs.Grammar.{GrammarView, IsGrammar}
-use Rattle.wb_grammar_theory.proofs.ProductionLemmas.{production_within}
+use Rattle.wb_base.specs.Grammar.{GrammarView, IsGrammar, Production}
+use Rattle.wb_grammar_theory.proofs.ProductionLemmas.{production_below, production_within}
 use Rattle.wb_grammar_theory.specs.declared.item.Item.{Item}
 use Rattle.wb_grammar_theory.specs.Items.{HasItem, initial_item}
 use Rattle.wb_grammar_theory.specs.Lookaheads.{IsLookahead}
@@ -30,6 +30,7 @@ use Rattle.wb_compose_kernels.proofs.BecomeLemmas.{becomes_back, becomes_there}
 use Rattle.wb_compose_kernels.proofs.HomeLooks.{entry_complete, entry_sound, new_looks}
 use Rattle.wb_compose_kernels.proofs.OpenedLemmas.{looks_below, looks_together}
 use Rattle.wb_compose_kernels.proofs.PartLemmas.{HasPart, has_part, kernel_numbers, new_past, new_taken, part_less}
+use Rattle.wb_compose_kernels.proofs.SlotLemmas.{first_once, opens_late, opens_past}
 use Rattle.wb_compose_kernels.proofs.UnionItems.{extensible_rule, hole_at_production, hole_extensible, hole_rule_there}
 use Rattle.wb_compose_kernels.proofs.UnionItems.{host_free, host_rule, host_stays, itself_opens, stands_opens}
 use Rattle.wb_compose_kernels.specs.declared.blocks.Block.{Block}
@@ -40,7 +41,8 @@ use Rattle.wb_compose_kernels.specs.declared.splice.Splice.{Splice}
 use Rattle.wb_compose_kernels.specs.Lent.{AreSpliceable}
 use Rattle.wb_compose_kernels.specs.Inner.Counts.{new_count_at, numbers_in, prefix_at}
 use Rattle.wb_compose_kernels.specs.Inner.Blocks.{IsHoleBy, blocks_at, names_by}
-use Rattle.wb_compose_kernels.specs.Inner.Filling.{HasTarget, IsFilling, IsFirstOpened, IsHostGain, IsHostItemGain, IsNumberOf, IsPartGain}
+use Rattle.wb_compose_kernels.specs.Inner.Filling.{HasTarget, IsFilling, IsFirst, IsFirstOpened, IsHostGain, IsHostItemGain, IsNumberOf}
+use Rattle.wb_compose_kernels.specs.Inner.Filling.{IsPartGain}
 use Rattle.wb_compose_kernels.specs.Inner.Filling.{IsSlotGain, IsTarget, as_opened, sets_in, slots_in}
 use Rattle.wb_compose_kernels.specs.Inner.Filling as filling
 use Rattle.wb_compose_kernels.specs.Inner.Images.{BecomesBy, IsImage}
@@ -240,13 +242,13 @@ module _ (f : Filling) (h : IsFilling f) where
     pub gain : IsGain u one t
     pub belong : BelongTogether kernels.grammar one item
 
-  -- at a kernel of the host, by an item that is no hole's
+  -- at a kernel of the host, by an item that is no hole's and stands for all that have its set
   host_gained : (k u : ℕ) (item own : Item) (t own_t : ℕ) → k < count_of s.kernels.now → IsNumberOf f h of_host k u →
-      ¬ IsHoleProduction g ok.extensible ok.pieces of_host own.production →
+      ¬ IsHoleProduction g ok.extensible ok.pieces of_host own.production → IsFirst g f.rules.now own →
       BelongTogether kernels.grammar (renamed_item (into_union g ok.extensible ok.pieces of_host) own) item →
       IsLookahead (at_home of_host) (prefix_of s.kernels.now k) own own_t →
       BecomesBy (blocks_at s ok of_host).terminals f.markers.now own_t t → t < f.count → IsGained u item t
-  host_gained k u item own t own_t below is_number free belong looks becomes less =
+  host_gained k u item own t own_t below is_number free first belong looks becomes less =
       let entry = entry_complete s.kernels.now h.given.kernels f.sets.now.host.now h.sets.of_host k own own_t below
       (subst (λ (z : GrammarView). IsLookahead z (prefix_of s.kernels.now k) own own_t) (sym ok.of_host) looks) in
       record {
@@ -265,6 +267,7 @@ module _ (f : Filling) (h : IsFilling f) where
                 at = entry.at;
                 free = subst (λ (z : Blocks). ¬ IsHoleBy z.productions entry.looks.item.production) (sym host_is)
                     (subst (λ (z : Item). ¬ IsHoleBy (blocks_at s ok of_host).productions z.production) (sym entry.item_is) free);
+                first = subst (λ (z : Item). IsFirst g f.rules.now z) (sym entry.item_is) first;
                 is = (
                   refl,
                   sym (ap (λ (z : Blocks). renamed_item (names_by z) entry.looks.item) host_is ∙
@@ -325,23 +328,86 @@ module _ (f : Filling) (h : IsFilling f) where
         hole_at_production g ok.extensible ok.pieces ok.certified home told.place a told.at,
       )
 
+  -- the first production that the rules have on a nonterminal with a production of the host
+  record FirstFacts (left : ℕ) : Type 0 where
+    p : ℕ
+    right : List Symbol
+    rule : slice_get g.productions p ≡ Some (left, right)
+    is_first : IsFirst g f.rules.now (initial_item p)
+
+  first_of : (q left : ℕ) (right : List Symbol) → slice_get g.productions q ≡ Some (left, right) → FirstFacts left
+  first_of q left right rule =
+      let less = (production_below g q left right ok.certified.are_pieces.is_grammar rule).left in
+      let (numbers, numbers_at) = at_within f.rules.now left (let l = h.rules.len in omega (arith, l, less)) in
+      let are = h.rules.each left numbers numbers_at in
+      let some = are.complete q right rule in
+      let (first, first_at) = at_within numbers 0 (let w = some.1 in omega (arith, w)) in
+      let (v, first_rule) = are.sound first (contains_at numbers first 0 first_at) in
+      record {
+        p = first;
+        right = v;
+        rule = first_rule;
+        is_first = λ one k. first_once g f.rules.now (initial_item first) (initial_item first) one (record {
+          dot = refl;
+          left = left;
+          right = v;
+          rule = first_rule;
+          numbers = numbers;
+          numbers_at = numbers_at;
+          first = first;
+          first_at = first_at;
+          is = refl;
+        }) k;
+      }
+
+  -- the lookaheads of an item that a nonterminal of the host opens are gained at the first item that it opens
+  opened_complete : (k u : ℕ) (item own : Item) (t own_t : ℕ) → k < count_of s.kernels.now → IsNumberOf f h of_host k u →
+      StandsFor g ok.extensible ok.pieces of_host item own → IsLookahead (at_home of_host) (prefix_of s.kernels.now k) own own_t →
+      BecomesBy (blocks_at s ok of_host).terminals f.markers.now own_t t → t < f.count → (q left : ℕ) (right : List Symbol) →
+      slice_get g.productions q ≡ Some (left, right) → Opens (at_home of_host) left own → IsGained u item t
+  opened_complete k u item own t own_t below is_number stands looks becomes less q left right rule opens =
+      let r = first_of q left right rule in
+      let free = host_free g ok.extensible ok.pieces ok.certified of_host r.p (production_within g r.p left r.right r.rule) in
+      let there = host_rule g ok.extensible ok.pieces ok.certified of_host tt r.p left r.right r.rule in
+      host_gained k u item (initial_item r.p) t own_t below is_number free r.is_first
+      (stand_together of_host tt (initial_item r.p) own item left (refl, r.right, there) free opens stands)
+      (looks_together (at_home of_host) (prefix_of s.kernels.now k) own (initial_item r.p) own_t
+      (inr (left, opens, (refl, r.right, there))) looks) becomes less
+
+  -- those of an item that is in the union are gained at it, or at the first that is opened with it
+  itself_complete : (k u : ℕ) (item own : Item) (t own_t : ℕ) → k < count_of s.kernels.now → IsNumberOf f h of_host k u →
+      ¬ IsHoleProduction g ok.extensible ok.pieces of_host own.production →
+      item ≡ renamed_item (into_union g ok.extensible ok.pieces of_host) own →
+      IsLookahead (at_home of_host) (prefix_of s.kernels.now k) own own_t →
+      BecomesBy (blocks_at s ok of_host).terminals f.markers.now own_t t → t < f.count → IsGained u item t
+  itself_complete k u item own t own_t below is_number free item_is looks becomes less =
+      elim (cases_lt 0 own.dot) [
+        | inl late ↦ alone (λ one o. absurd (opens_late g f.rules.now own late one o))
+        | inr zero_dot ↦ elim (cases_lt own.production (length g.productions)) [
+          | inl within ↦ opened (omega (arith, zero_dot)) (at_within g.productions own.production within)
+          | inr past ↦ alone (λ one o. absurd (opens_past g f.rules.now own past one o))
+        ]
+      ]
+    where
+      alone : IsFirst g f.rules.now own → IsGained u item t
+      alone first = host_gained k u item own t own_t below is_number free first (inl (sym item_is)) looks becomes less
+
+      opened : own.dot ≡ 0 → (rule : Production) × (slice_get g.productions own.production ≡ Some rule) → IsGained u item t
+      opened dot (rule, at) =
+          opened_complete k u item own t own_t below is_number (as_itself free item_is) looks becomes less own.production rule.0 rule.1 at
+          (dot, rule.1, host_rule g ok.extensible ok.pieces ok.certified of_host tt own.production rule.0 rule.1 at)
+
   -- each lookahead from the host is gained
   host_complete : (k u : ℕ) (item own : Item) (t own_t : ℕ) → k < count_of s.kernels.now → IsNumberOf f h of_host k u →
       StandsFor g ok.extensible ok.pieces of_host item own → IsLookahead (at_home of_host) (prefix_of s.kernels.now k) own own_t →
       BecomesBy (blocks_at s ok of_host).terminals f.markers.now own_t t → t < f.count → IsGained u item t
   host_complete k u item own t own_t below is_number (as_itself free item_is) looks becomes less =
-      host_gained k u item own t own_t below is_number free (inl (sym item_is)) looks becomes less
+      itself_complete k u item own t own_t below is_number free item_is looks becomes less
   host_complete k u item own t own_t below is_number (as_hole a e m piece at on_a item_is own_is) looks becomes less =
       let (b, opens, hole) = hole_opens of_host tt a e m piece at on_a own own_is in
       let r = opened_hole of_host tt own b opens hole in
-      let within = production_within g r.p r.left r.right r.rule in
-      let free = host_free g ok.extensible ok.pieces ok.certified of_host r.p within in
-      let rule = host_rule g ok.extensible ok.pieces ok.certified of_host tt r.p r.left r.right r.rule in
-      host_gained k u item (initial_item r.p) t own_t below is_number free
-      (stand_together of_host tt (initial_item r.p) own item r.left (refl, r.right, rule) free r.opens
-      (as_hole a e m piece at on_a item_is own_is))
-      (looks_together (at_home of_host) (prefix_of s.kernels.now k) own (initial_item r.p) own_t
-      (inr (r.left, r.opens, (refl, r.right, rule))) looks) becomes less
+      opened_complete k u item own t own_t below is_number (as_hole a e m piece at on_a item_is own_is) looks becomes less r.p r.left r.right
+      r.rule r.opens
 
   -- the item of the union that takes the set of a slot, where something stands for an item with that set
   record Aim (e : ℕ) (slot item : Item) : Type 0 where

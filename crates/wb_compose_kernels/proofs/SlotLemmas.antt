@@ -23,7 +23,7 @@ use Rattle.wb_compose_kernels.specs.declared.filling.Filling.{Filling}
 use Rattle.wb_compose_kernels.specs.declared.splice.Part.{Part}
 use Rattle.wb_compose_kernels.specs.Inner.Counts.{new_count_at, new_count_in}
 use Rattle.wb_compose_kernels.specs.Inner.Blocks.{IsHoleBy, names_by}
-use Rattle.wb_compose_kernels.specs.Inner.Filling.{Gains, HasNoTarget, HasTarget, IsFilling, IsFirstOpened}
+use Rattle.wb_compose_kernels.specs.Inner.Filling.{Gains, HasNoTarget, HasTarget, IsFilling, IsFirst, IsFirstOpened}
 use Rattle.wb_compose_kernels.specs.Inner.Filling.{IsHostItemGain, IsImageAt, IsMaking}
 use Rattle.wb_compose_kernels.specs.Inner.Filling.{IsSlotGain, IsTarget, OpensNone, as_itself, as_opened, found_in, sets_in, slots_in}
 use Rattle.wb_compose_kernels.specs.Inner.Images.{IsImage}
@@ -152,11 +152,15 @@ module _ (f : Filling) (old : LookaheadsView) (making : IsMaking f.kernels.now o
     host_skipped hole = gains_nothing kernels (IsHostItemGain f k number place) old making (λ s one t gain has.
         gain.free (subst (λ (z : Item). IsHoleBy f.host.productions z.production) (sym (item_is gain.looks gain.at)) hole))
 
+    pub host_passed : ¬ IsFirst f.splice.now.host.now f.rules.now item → Gains kernels (IsHostItemGain f k number place) old old
+    host_passed later = gains_nothing kernels (IsHostItemGain f k number place) old making (λ s one t gain has.
+        later (subst (λ (z : Item). IsFirst f.splice.now.host.now f.rules.now z) (item_is gain.looks gain.at) gain.first))
+
     pub host_taken : (new : LookaheadsView) (set : List Bool) (target : Item) → ¬ IsHoleBy f.host.productions item.production →
-        target ≡ renamed_item (names_by f.host) item →
+        IsFirst f.splice.now.host.now f.rules.now item → target ≡ renamed_item (names_by f.host) item →
         (looks : ItemLookahead) × (slice_get (row_of f.sets.now.host.now k) place ≡ Some looks) × (set ≡ looks.set) →
         Gains kernels (IsImageAt f f.host.terminals number target set) old new → Gains kernels (IsHostItemGain f k number place) old new
-    host_taken new set target free target_is (looks, at, set_is) =
+    host_taken new set target free first target_is (looks, at, set_is) =
         gains_as kernels (IsImageAt f f.host.terminals number target set) (IsHostItemGain f k number place) old new there back
       where
         there : (s : ℕ) (one : Item) (t : ℕ) → IsImageAt f f.host.terminals number target set s one t →
@@ -165,6 +169,7 @@ module _ (f : Filling) (old : LookaheadsView) (making : IsMaking f.kernels.now o
           looks = looks;
           at = at;
           free = subst (λ (z : Item). ¬ IsHoleBy f.host.productions z.production) (sym (item_is looks at)) free;
+          first = subst (λ (z : Item). IsFirst f.splice.now.host.now f.rules.now z) (sym (item_is looks at)) first;
           is = (
             s_is,
             one_is ∙ (target_is ∙ ap (renamed_item (names_by f.host)) (sym (item_is looks at))),

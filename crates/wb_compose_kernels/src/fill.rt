@@ -1,7 +1,7 @@
 //! Which terminals has the set at each item of a kernel of the union? What becomes of those at the items of the certified grammars with
 //! the kernel.
 
-ghost use Rattle.std.specs.Prelude.{◌<◌, ℕ, IfOk, OnOk, length};
+ghost use Rattle.std.specs.Prelude.{◌≡◌, ◌<◌, ℕ, IfOk, OnOk, length};
 ghost use Rattle.wb_items.specs.Kernels.{count_of};
 ghost use Rattle.wb_items.specs.Lookaheads.{AreEmpty, row_of};
 ghost use Rattle.wb_items.specs.LookaheadSets.{AreLookaheads};
@@ -13,7 +13,7 @@ use crate::filling::Filling;
 use crate::images::image_of;
 use crate::lists::{blocks_at, new_count};
 use crate::states::{host_number, new_number};
-use crate::targets::{slot_at, slot_count, slot_set, target_of};
+use crate::targets::{is_first, slot_at, slot_count, slot_set, target_of};
 use std::alloc::{AllocError, Global};
 use wb_items::{Item, Lookaheads};
 use wb_termset::TermSet;
@@ -46,31 +46,33 @@ fn fill_host(alloc: Global, filling: &Filling, made: &mut Lookaheads) -> Result<
     requires making { IsMaking filling.now.kernels.now made.old }
     ensures { OnOk result (GainsBy filling.now (λ h s one t. (k : ℕ) × (k < count_of filling.now.splice.now.kernels.now) × IsHostGain filling.now h k s one t) made.old made.new) }
 {
+    let mut near = 0;
     'states: for state in 0..filling.splice.kernels.count() {
-        fill_host_state(alloc, filling, state, made)?;
+        near = fill_host_state(alloc, filling, state, near, made)?;
     }
     Ok(())
 }
 
-// Adds what is at one of them, where the union has it.
+// Adds what is at one of them, where the union has it, mostly with the number `near`. The answer is where the next one is, mostly.
 fn fill_host_state(
     alloc: Global,
     filling: &Filling,
     state: usize,
+    near: usize,
     made: &mut Lookaheads,
-) -> Result<(), AllocError>
+) -> Result<usize, AllocError>
     requires filling { IsFilling filling.now }
     requires state { state < count_of filling.now.splice.now.kernels.now }
     requires making { IsMaking filling.now.kernels.now made.old }
     ensures { OnOk result (GainsBy filling.now (λ h. IsHostGain filling.now h state) made.old made.new) }
 {
-    let found = host_number(alloc, filling, state)?;
+    let found = host_number(alloc, filling, state, near)?;
     match found {
         Some(number) => {
             fill_host_row(alloc, filling, state, number, made)?;
-            Ok(())
+            Ok(number.wrapping_add(1))
         }
-        None => Ok(()),
+        None => Ok(near),
     }
 }
 
@@ -94,7 +96,7 @@ fn fill_host_row(
     Ok(())
 }
 
-// Adds what is at the item at a place, unless it is of a hole's production.
+// Adds what is at the item at a place, unless it is of a hole's production, or another that one nonterminal opens with it stands for it.
 fn fill_host_item(
     alloc: Global,
     filling: &Filling,
@@ -112,6 +114,9 @@ fn fill_host_item(
 {
     let item = filling.sets.host.item_at(state, place);
     if is_hole(filling.host.productions, item.production) {
+        return Ok(());
+    }
+    if !is_first(filling, item) {
         return Ok(());
     }
     let target = item_in_union(filling.host, item)?;
@@ -152,33 +157,35 @@ fn fill_part(
     requires making { IsMaking filling.now.kernels.now made.old }
     ensures { OnOk result (GainsBy filling.now (λ h. IsPartGain filling.now h part) made.old made.new) }
 {
+    let mut near = filling.kernels.count();
     'places: for place in 0..new_count(filling.splice, part) {
-        fill_new(alloc, filling, part, place, made)?;
+        near = fill_new(alloc, filling, part, place, near, made)?;
     }
     Ok(())
 }
 
-// Adds what is at a new kernel, where the union has it.
+// Adds what is at a new kernel, where the union has it, as `fill_host_state` does.
 fn fill_new(
     alloc: Global,
     filling: &Filling,
     part: usize,
     place: usize,
+    near: usize,
     made: &mut Lookaheads,
-) -> Result<(), AllocError>
+) -> Result<usize, AllocError>
     requires filling { IsFilling filling.now }
     requires part { part < length filling.now.splice.now.parts.now }
     requires place { place < new_count_at filling.now.splice.now part }
     requires making { IsMaking filling.now.kernels.now made.old }
     ensures { OnOk result (GainsBy filling.now (λ h. IsNewGain filling.now h part place) made.old made.new) }
 {
-    let found = new_number(alloc, filling, part, place)?;
+    let found = new_number(alloc, filling, part, place, near)?;
     match found {
         Some(number) => {
             fill_slots(alloc, filling, part, place, number, made)?;
-            Ok(())
+            Ok(number.wrapping_add(1))
         }
-        None => Ok(()),
+        None => Ok(near),
     }
 }
 
@@ -248,6 +255,7 @@ fn fill_item(
     made: &mut Lookaheads,
 ) -> Result<(), AllocError>
     requires filling { IsFilling filling.now }
+    requires block { (block.own ≡ filling.now.splice.now.host.now.terminals) × (block.holes ≡ filling.now.splice.now.holes) }
     requires number { number < count_of filling.now.kernels.now }
     requires making { IsMaking filling.now.kernels.now made.old }
     ensures { OnOk result (Gains filling.now.kernels.now (IsImageAt filling.now block number item set.now) made.old made.new) }
@@ -255,7 +263,14 @@ fn fill_item(
     let Some(place) = made.find(number, item) else {
         return Ok(());
     };
-    let image = image_of(alloc, block, filling.markers, set, filling.count)?;
+    let image = image_of(
+        alloc,
+        block,
+        filling.markers,
+        filling.masks,
+        set,
+        filling.count,
+    )?;
     made.union_at(number, place, &image);
     drop(image);
     Ok(())

@@ -13,6 +13,7 @@ mod lists;
 mod lookaheads;
 mod markers;
 mod marks;
+mod masks;
 mod moves;
 mod numbers;
 mod part_blocks;

@@ -9,7 +9,7 @@ ghost use Rattle.wb_compose_kernels.specs.Inner.Blocks.{AreBlocksUpTo};
 use crate::blocks::Blocks;
 use crate::fill::filled;
 use crate::filling::Filling;
-use crate::markers::markers_of;
+use crate::masks::marked_of;
 use crate::part_blocks::{host_blocks, part_blocks};
 use crate::{Sets, Splice};
 use std::alloc::{AllocError, Global};
@@ -77,7 +77,7 @@ fn with_blocks(
     let host = host_blocks(splice);
     let _known = splice.kernels.count();
     let _union = kernels.count();
-    let markers = markers_of(alloc, splice, blocks)?;
+    let marked = marked_of(alloc, splice, blocks, count)?;
     let made = filled(
         alloc,
         &Filling {
@@ -86,11 +86,12 @@ fn with_blocks(
             kernels,
             host,
             blocks,
-            markers: &markers,
+            markers: &marked.markers,
+            masks: &marked.masks,
             rules,
             count,
         },
     );
-    drop(markers);
+    drop(marked);
     made
 }

@@ -38,7 +38,7 @@ fn is_list_at(kernels: &[Sequence<Item>], number: usize, items: &[Item]) -> bool
 }
 
 // Whether the lists are the same.
-fn are_same(one: &[Item], other: &[Item]) -> bool
+pub(crate) fn are_same(one: &[Item], other: &[Item]) -> bool
     ensures { IsTrue result ↔ (one.now ≡ other.now) }
 {
     if one.len() != other.len() {
@@ -55,7 +55,7 @@ fn are_same(one: &[Item], other: &[Item]) -> bool
 }
 
 // Whether the items are the same.
-fn is_same_item(one: Item, other: Item) -> bool
+pub(crate) fn is_same_item(one: Item, other: Item) -> bool
     ensures { IsTrue result ↔ (one ≡ other) }
 {
     one == other

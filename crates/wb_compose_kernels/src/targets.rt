@@ -1,14 +1,14 @@
 //! Which items of a new kernel have a set, and which item of the union takes the set of each?
 
-ghost use Rattle.std.specs.Prelude.{◌≡◌, ◌<◌, [], IfOk, IfSome, MatchOption, Some, length, slice_get, slice_index_or};
+ghost use Rattle.std.specs.Prelude.{◌≡◌, ◌<◌, ◌↔◌, [], IfOk, IfSome, IsTrue, MatchOption, Some, length, slice_get, slice_index_or};
 ghost use Rattle.wb_determinism_lookaheads.specs.NewLookaheads.{set_at};
 ghost use Rattle.wb_compose_kernels.specs.Inner.Counts.{new_count_at};
-ghost use Rattle.wb_compose_kernels.specs.Inner.Filling.{HasNoTarget, HasTarget, IsFilling, IsFirstOpened, OpensNone, sets_in, slots_in};
+ghost use Rattle.wb_compose_kernels.specs.Inner.Filling.{HasNoTarget, HasTarget, IsFilling, IsFirst, IsFirstOpened, OpensNone, sets_in, slots_in};
 
 use crate::blocks::{is_hole, item_in_union};
 use crate::filling::Filling;
 use crate::lists::blocks_at;
-use crate::numbers::part_at;
+use crate::numbers::{is_same_item, part_at};
 use std::alloc::{AllocError, Global};
 use wb_base::Grammar;
 use wb_determinism_lookaheads::NewLookaheads;
@@ -56,6 +56,16 @@ pub(crate) fn slot_set<'a>(
     ensures { MatchOption result (set_at (sets_in filling.now part) place at ≡ []) (λ set. set.now ≡ set_at (sets_in filling.now part) place at) }
 {
     new_sets(filling, part).set(place, at)
+}
+
+// Whether an item of the host stands for all that have its set.
+pub(crate) fn is_first(filling: &Filling, item: Item) -> bool
+    ensures { IsTrue result ↔ IsFirst filling.now.splice.now.host.now filling.now.rules.now item }
+{
+    match first_opened(filling.splice.host, filling.rules, item) {
+        Some(one) => is_same_item(one, item),
+        None => true,
+    }
 }
 
 // The item of the union whose set takes that of an item: the item itself, or for that of a hole's production the initial item of the first

@@ -22,7 +22,7 @@ use Rattle.wb_compose_kernels.specs.Lent.{AreSetsOf}
 use Rattle.wb_compose_kernels.specs.Inner.Counts.{new_count_at, prefix_at}
 use Rattle.wb_compose_kernels.specs.Inner.Blocks.{AreBlocksUpTo, IsBlocksOf, IsHoleBy, names_by}
 use Rattle.wb_compose_kernels.specs.Inner.Given.{IsGiven}
-use Rattle.wb_compose_kernels.specs.Inner.Images.{AreMarkersUpTo, IsImage}
+use Rattle.wb_compose_kernels.specs.Inner.Images.{AreMarkersUpTo, AreMasks, IsImage}
 
 -- what is lent is of certified grammars, and the kernels are the union's, with all that was made of these
 pub record IsFilling (f : Filling) : Type 0 where
@@ -33,6 +33,7 @@ pub record IsFilling (f : Filling) : Type 0 where
   pub host : IsBlocksOf f.splice.now of_host f.host
   pub blocks : AreBlocksUpTo f.splice.now (length f.splice.now.parts.now) f.blocks.now
   pub markers : AreMarkersUpTo f.splice.now f.blocks.now (length f.splice.now.parts.now) f.markers.now
+  pub masks : AreMasks f.splice.now.host.now.terminals f.markers.now f.count f.masks.now f.splice.now.holes
   pub rules : AreProductions f.splice.now.host.now f.rules.now
   pub count_is : f.count ≡ f.kernels.now.grammar.terminals + 1
 
@@ -79,11 +80,31 @@ GainsBy f P old new = (h : IsFilling f) → Gains f.kernels.now (P h) old new
 abbrev pub IsImageAt : Filling → Block → ℕ → Item → List Bool → ℕ → Item → ℕ → Type 0
 IsImageAt f b number item set s one t = (s ≡ number) × (one ≡ item) × IsImage b f.markers.now f.count set t
 
--- it comes from the item at a place of a kernel of the host, which is of no hole's production
+-- the one is the initial item of the first production that the rules have for the nonterminal that opens the other
+pub record IsFirstOpened (g : GrammarView) (rules : List (List ℕ)) (item one : Item) : Type 0 where
+  pub dot : item.dot ≡ 0
+  pub left : ℕ
+  pub right : List Symbol
+  pub rule : IsProduction g item.production left right
+  pub numbers : List ℕ
+  pub numbers_at : slice_get rules left ≡ Some numbers
+  pub first : ℕ
+  pub first_at : slice_get numbers 0 ≡ Some first
+  pub is : one ≡ initial_item first
+
+abbrev pub OpensNone : GrammarView → List (List ℕ) → Item → Type 0
+OpensNone g rules item = (one : Item) → ¬ IsFirstOpened g rules item one
+
+-- the item stands for all that have its set: no other production of its nonterminal comes first
+abbrev pub IsFirst : GrammarView → List (List ℕ) → Item → Type 0
+IsFirst g rules item = (one : Item) → IsFirstOpened g rules item one → one ≡ item
+
+-- it comes from the item at a place of a kernel of the host, which is of no hole's production and stands for all that have its set
 pub record IsHostItemGain (f : Filling) (k number place s : ℕ) (one : Item) (t : ℕ) : Type 0 where
   pub looks : ItemLookahead
   pub at : slice_get (row_of f.sets.now.host.now k) place ≡ Some looks
   pub free : ¬ IsHoleBy f.host.productions looks.item.production
+  pub first : IsFirst f.splice.now.host.now f.rules.now looks.item
   pub is : IsImageAt f f.host.terminals number (renamed_item (names_by f.host) looks.item) looks.set s one t
 
 -- from some item of it
@@ -105,21 +126,6 @@ sets_in f e = found_in (slice_get f.sets.now.new.now e)
 
 abbrev pub slots_in : Filling → ℕ → ℕ → List Item
 slots_in f e i = slots_of (sets_in f e) i
-
--- the one is the initial item of the first production that the rules have for the nonterminal that opens the other
-pub record IsFirstOpened (g : GrammarView) (rules : List (List ℕ)) (item one : Item) : Type 0 where
-  pub dot : item.dot ≡ 0
-  pub left : ℕ
-  pub right : List Symbol
-  pub rule : IsProduction g item.production left right
-  pub numbers : List ℕ
-  pub numbers_at : slice_get rules left ≡ Some numbers
-  pub first : ℕ
-  pub first_at : slice_get numbers 0 ≡ Some first
-  pub is : one ≡ initial_item first
-
-abbrev pub OpensNone : GrammarView → List (List ℕ) → Item → Type 0
-OpensNone g rules item = (one : Item) → ¬ IsFirstOpened g rules item one
 
 -- the item of the union that takes the set of an item of the grammar with these numbers: the same; or for an item of a hole's production
 -- that which its nonterminal opens first

@@ -1,5 +1,5 @@
 -- What becomes in the union of the terminals of a certified grammar's sets.
-use Rattle.std.specs.Prelude.{◌≡◌, ◌<◌, ◌+◌, ◌⊎◌, [], ℕ, Bool, List, Some, Contains, length, slice_get}
+use Rattle.std.specs.Prelude.{◌≡◌, ◌↔◌, ◌<◌, ◌+◌, ◌⊎◌, [], ℕ, Bool, List, Some, Contains, length, slice_get}
 use Rattle.wb_termset.specs.Sets.{IsMember}
 use Rattle.wb_determinism_kernels.specs.declared.starts.Start.{Start}
 use Rattle.wb_compose_kernels.specs.declared.blocks.Block.{Block}
@@ -33,6 +33,20 @@ pub data BecomesBy (b : Block) (markers : List Marker) (own t : ℕ) : Type 0 wh
   plain : ¬ IsHoleBy b own → t ≡ number_by b own → BecomesBy b markers own t
   marked : (marker : Marker) → IsHoleBy b own → Contains markers marker → own ≡ marker.hole + b.size → t ≡ marker.terminal →
       BecomesBy b markers own t
+
+-- it is a marker that stands for the hole
+abbrev pub IsMarkerFor : List Marker → ℕ → ℕ → Type 0
+IsMarkerFor markers hole t = (marker : Marker) × Contains markers marker × (marker.hole ≡ hole) × (t ≡ marker.terminal)
+
+-- the set has the markers that stand for the hole, below the count
+pub record IsMask (markers : List Marker) (count hole : ℕ) (mask : List Bool) : Type 0 where
+  pub len : length mask ≡ count
+  pub each : (t : ℕ) → IsMember mask t ↔ ((t < count) × IsMarkerFor markers hole t)
+
+-- there is such a set for each of so many holes from the first on
+pub record AreMasks (first : ℕ) (markers : List Marker) (count : ℕ) (masks : List (List Bool)) (holes : ℕ) : Type 0 where
+  pub len : length masks ≡ holes
+  pub each : (i : ℕ) (mask : List Bool) → slice_get masks i ≡ Some mask → IsMask markers count (first + i) mask
 
 -- it is below the count, and what a terminal of the set becomes
 pub record IsImage (b : Block) (markers : List Marker) (count : ℕ) (set : List Bool) (t : ℕ) : Type 0 where

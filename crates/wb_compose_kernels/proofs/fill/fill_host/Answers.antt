@@ -14,7 +14,7 @@ fill_host_state-requires-clause-making c = (c.states.invariant c.requires.fillin
 pub states-preserved : goal.states-preserved
 states-preserved c h =
     gains_next c.args.filling.now.kernels.now (λ k. IsHostGain c.args.filling.now h k) c.states.state c.args.made.now c.states.made
-    c.fill_host_state.new.made (c.states.invariant h) (c.in_ok-fill_host_state.ensures h)
+    c.fill_host_state.new.made (c.states.invariant h) (c.in_ok-near.ensures h)
 
 pub returns : goal.returns
 returns c h =

@@ -1,10 +1,10 @@
-use Rattle.std.proofs.Common.{◌∙◌, arith, sym}
+use Rattle.std.proofs.Common.{◌∙◌, arith, subst, sym}
 use Rattle.std.proofs.lemmas.List.{length-map}
 use Rattle.std.proofs.lemmas.Option.{slice_get_within}
 use Rattle.wb_items.proofs.CallerLemmas.{row_wide, rows_within, union_answer}
 use Rattle.wb_items.specs.declared.item_lookahead.ItemLookahead.{ItemLookahead}
 use Rattle.wb_items.specs.Lookaheads.{items_in, row_of}
-use Rattle.wb_compose_kernels.specs.Inner.Images.{IsImage}
+use Rattle.wb_compose_kernels.specs.Inner.Images.{AreMasks, IsImage}
 use Rattle.wb_compose_kernels.proofs.GainLemmas.{gains_absent, gains_unite}
 use Rattle.wb_compose_kernels.proofs.fill.fill_item.Goals as goal
 
@@ -18,6 +18,13 @@ pub returns-in_default : goal.returns-in_default
 returns-in_default c =
     gains_absent c.args.filling.now.kernels.now c.requires.filling.kernels c.args.made.now c.requires.making c.args.number c.args.item
     c.in_default.ensures (IsImage c.args.block c.args.filling.now.markers.now c.args.filling.now.count c.args.set.now)
+
+pub image_of-requires : goal.image_of-requires
+image_of-requires c =
+    let f = c.args.filling.now in
+    let (own, holes) = c.requires.block in
+    subst (λ n. AreMasks c.args.block.own f.markers.now f.count f.masks.now n) (sym holes)
+    (subst (λ n. AreMasks n f.markers.now f.count f.masks.now f.splice.now.holes) (sym own) c.requires.filling.masks)
 
 pub union_at-requires-clause-state : goal.union_at-requires-clause-state
 union_at-requires-clause-state c =

@@ -14,7 +14,7 @@ fill_new-requires-clause-making c = (c.places.invariant c.requires.filling).maki
 pub places-preserved : goal.places-preserved
 places-preserved c h =
     gains_next c.args.filling.now.kernels.now (IsNewGain c.args.filling.now h c.args.part) c.places.place c.args.made.now c.places.made
-    c.fill_new.new.made (c.places.invariant h) (c.in_ok-fill_new.ensures h)
+    c.fill_new.new.made (c.places.invariant h) (c.in_ok-near.ensures h)
 
 pub returns : goal.returns
 returns c h =

@@ -1,5 +1,7 @@
 use Rattle.std.proofs.Common.{arith}
+use Rattle.wb_compose_theory.specs.Homes.{of}
 use Rattle.wb_compose_kernels.specs.Inner.Filling.{HasNoTarget, HasTarget}
+use Rattle.wb_compose_kernels.proofs.MaskLemmas.{block_fits}
 use Rattle.wb_compose_kernels.proofs.SlotLemmas.{match_none, match_some, slot_no_set, slot_no_target, slot_taken}
 use Rattle.wb_compose_kernels.proofs.fill.fill_slot.Goals as goal
 
@@ -13,6 +15,13 @@ blocks_at-requires c =
     let len = (c.requires.filling.blocks c.requires.filling.given.spliceable).len in
     let lt = c.requires.part in
     omega (arith, len, lt)
+
+pub fill_item-requires-clause-block : goal.fill_item-requires-clause-block
+fill_item-requires-clause-block c =
+    let s = c.args.filling.now.splice.now in
+    let ok = c.requires.filling.given.spliceable in
+    block_fits s ok (of c.args.part) c.blocks_at.result
+    ((c.requires.filling.blocks ok).each c.args.part c.blocks_at.result c.blocks_at.ensures)
 
 pub returns-in-None : goal.returns-in-None
 returns-in-None c =

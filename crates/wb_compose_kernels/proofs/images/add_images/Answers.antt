@@ -1,11 +1,15 @@
-use Rattle.std.proofs.Common.{arith, refl}
+use Rattle.std.proofs.Common.{arith, length, refl, subst, sym}
 use Rattle.wb_termset.proofs.CallerLemmas.{has_below}
-use Rattle.wb_compose_kernels.specs.Inner.Images.{BecomesBy}
-use Rattle.wb_compose_kernels.proofs.MemberLemmas.{comes_all, comes_next, comes_start}
+use Rattle.wb_compose_kernels.specs.Inner.Images.{AreMasks, BecomesBy}
+use Rattle.wb_compose_kernels.proofs.MemberLemmas.{comes_all, comes_next}
 use Rattle.wb_compose_kernels.proofs.images.add_images.Goals as goal
 
 pub members-init : goal.members-init
-members-init c = comes_start c.args.set.now (BecomesBy c.args.block c.args.markers.now) c.args.made.now
+members-init c = c.add_own-from.ensures
+
+pub add_image-requires : goal.add_image-requires
+add_image-requires c =
+    subst (λ n. AreMasks c.args.block.own c.args.markers.now n c.args.masks.now c.args.block.holes) (sym c.members.invariant.len) c.requires
 
 pub members-preserved : goal.members-preserved
 members-preserved c =

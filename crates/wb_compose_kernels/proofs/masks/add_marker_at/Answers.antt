@@ -3,7 +3,7 @@ use Rattle.std.specs.Prelude.{slice_get}
 use Rattle.wb_lemmas.proofs.Places.{at_once}
 use Rattle.wb_compose_kernels.specs.declared.markers.Marker.{Marker}
 use Rattle.wb_compose_kernels.proofs.MemberLemmas.{members_as, members_nothing}
-use Rattle.wb_compose_kernels.proofs.images.add_marker_at.Goals as goal
+use Rattle.wb_compose_kernels.proofs.masks.add_marker_at.Goals as goal
 
 pub returns-then-marker-hole : goal.returns-then-marker-hole
 returns-then-marker-hole c =

@@ -4,7 +4,7 @@ use Rattle.wb_compose_kernels.specs.declared.markers.Marker.{Marker}
 use Rattle.wb_compose_kernels.specs.Inner.Images.{AddsMembers}
 use Rattle.wb_compose_kernels.proofs.ListedLemmas.{marker_places}
 use Rattle.wb_compose_kernels.proofs.MemberLemmas.{members_next, members_start}
-use Rattle.wb_compose_kernels.proofs.images.add_markers.Goals as goal
+use Rattle.wb_compose_kernels.proofs.masks.add_markers.Goals as goal
 
 pub markers-init : goal.markers-init
 markers-init c = members_start (λ j t. (marker : Marker) × (slice_get c.args.markers.now j ≡ Some marker) × (marker.hole ≡ c.args.hole) ×
