@@ -1,5 +1,5 @@
 -- Numbers of texts, found by their texts.
-use Rattle.std.proofs.Common.{◌≡◌, ◌++◌, ◌∷◌, ◌⊎◌, [], ℕ, List, Vec, Global, Bool, true, false, Some, None, Option, map, length, Contains, All, inl, inr, sym, ◌∙◌, subst, ap, refl, slice_get}
+use Rattle.std.proofs.Common.{◌≡◌, ◌++◌, ◌∷◌, ◌⊎◌, [], ℕ, List, Vec, Global, Bool, true, false, Some, None, Option, map, length, Contains, All, inl, inr, sym, subst, refl, slice_get}
 use Rattle.std.specs.Map.{lookup}
 use Rattle.std.specs.Option.{IfSome, IfNone, MatchOption}
 use Rattle.std.specs.List.Sorted.{IsPermutation}
