@@ -164,7 +164,7 @@ view_more k g left right view is =
     (plain_more k.symbols.items right 0 left k.productions.items is.1)
     ∙ ap (λ (h : GrammarView). record h { productions = h.productions ++ (left, right) ∷ [] }) view
 
--- which is kept as before
+-- and the fields are kept as they should be
 pub kept_more : (k : Inside) (g : GrammarView) (left : ℕ) (right : List Symbol) → grammar_view k ≡ g → IsKept k → left < g.nonterminals
     → All (IsSymbolBelow g.terminals g.nonterminals) right → IsGrammar (shown_more k left right)
     × AreEnds (length (k.symbols.items ++ right)) 0 (one_more k left right)
